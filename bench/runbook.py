@@ -288,13 +288,13 @@ class Runbook:
         card that comes before them would enter them once more."""
         wait_for("the fourth attempt, at the score table", lambda: "<td>10.42</td>" in (
             self.page(self.of_table, "/card/333-1")[1]))
-        _, text = self.page(self.of_table, "/card/333-1")
-        fields = dict(re.findall(r'name="(token|id)" value="([^"]+)"', text))
-        fields |= {"round": "333-1", "number": "2", "sure": "1"}
+        _, text = self.page(self.of_table, "/card/333-1?number=2")
+        fields = dict(re.findall(r'name="(token|id|was)" value="([^"]+)"', text))
+        fields |= {"round": "333-1", "number": "2"}
         fields |= {f"a{count}": str(1000 + 10 * count + 2) for count in (1, 2, 3, 4)}
         status, text = self.page(self.of_table, "/card", fields | {"a5": "1052"})
         expect("a card", status, 303)
-        wait_for("a card that is saved", lambda: "saved at" in self.page(
+        wait_for("a card that is saved", lambda: 'class="saved"' in self.page(
             self.of_table, "/card/333-1")[1])
 
     def many(self, block):

@@ -240,7 +240,7 @@ class AtTable(Station):
         filled.update({f"a{at}": attempt for at, attempt in enumerate(attempts, 1)})
         status, text = self.ask("POST", "/card", filled)
         if status == 200:  # something is asked about, and is as it should be
-            filled = {**filled, **hidden(text), "sure": "1"}
+            filled = {**filled, **hidden(text)}
             status, text = self.ask("POST", "/card", filled)
         # the table was started again meanwhile, has no room, or has not read the whole log yet
         if status in (403, 503) or (status == 422 and time.monotonic() < ends - LONGEST + READS):
@@ -249,7 +249,7 @@ class AtTable(Station):
             raise desks.Fault(f"card {what} {number} {attempts}: {status} {told_of(text)}")
         pause = 0.02
         while (state := self.state(what, number)) != "saved":
-            if state == "refused" or time.monotonic() > ends:
+            if state in ("changed", "refused") or time.monotonic() > ends:
                 raise desks.Fault(f"card {what} {number} {attempts}: {state}")
             if state == "none":  # it was taken, and is not in the list of a new run
                 raise Away(state)
@@ -262,18 +262,19 @@ class AtTable(Station):
         recent = re.search(r'<section id="recent".*?</section>', text, re.S)
         for line in re.findall(r"<li.*?</li>", recent[0] if recent else "", re.S):
             if f"<b>{number}</b>" in line and f"/card/{what}?" in line:
-                found = re.search(r'class="(waits|saved|refused)"', line)
+                found = re.search(r'class="(waits|saved|changed|refused)"', line)
                 return found[1] if found else "none"
         return "none"
 
 
 def hidden(text):
-    """Token and id of the first form of a page."""
+    """Token and id of the first form of a page, what it shows that stands, and what it asks."""
     token = re.search(r'name="token" value="([^"]+)"', text)
     number = re.search(r'name="id" value="(\d+)"', text)
     if not token or not number:
         raise desks.Fault(f"a page has no form: {text[:200]}")
-    return {"token": token[1], "id": number[1]}
+    more = dict(re.findall(r'name="(was|sure)" value="([^"]*)"', text))
+    return {"token": token[1], "id": number[1], **more}
 
 
 def told_of(text):

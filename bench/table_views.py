@@ -26,14 +26,31 @@ FORMS = {"ao5": "average of 5", "mo3": "mean of 3", "bo1": "best of 1", "bo2": "
 ROUND = re.compile("(%s)-([1-4])" % "|".join(WORDS))
 NUMBER = re.compile("[1-9][0-9]{0,3}")
 NOTES = {
-    "n": (0, "whose card is it?", True),
-    "f": (2, "a time is like 1043, 10.43 or 1:02.33", True),
-    "c": (6, "the round is closed", True),
-    "k": (3, "the cutoff is not met: attempt 3 stays empty", True),
-    "u": (1, "more than twice or less than half of the others: is it right?", False),
-    "s": (2, "empty, and a later attempt is not: is it right?", False),
+    "n": (0, "whose card is it?", "-"),
+    "f": (2, "a time is like 1043, 10.43 or 1:02.33", "-"),
+    "g": (3, "attempt 3 is empty", "-"),
+    "c": (6, "the round is closed: send it all the same?", "refused-14"),
+    "k": (6, "other attempts stand now than the page showed: is it still right?", "refused-25"),
+    "u": (1, "more than twice or less than half of the others: is it right?", "unlike-1"),
+    "m": (1, "nobody has ever been that fast: is it right?", "fast-1"),
+    "h": (2, "less than half of the best of this round, or of this competitor's in another: is it "
+          "right?", "half-2"),
+    "s": (3, "does not solve scramble 3: DNF?", "unsolved-3"),
+    "r": (3, "the times of attempts 1 and 2 again: is it right?", "repeats"),
+    "q": (1, "write its moves, as R U' F2 Rw x: a number of moves alone is no solution", "-"),
 }
-CHANGES = (1, "another result stands: change it?", False)
+# Seconds that nobody has ever been below.
+FLOORS = {"222": 0.30, "333": 2.50, "444": 13.00, "555": 27.00, "666": 50.00, "777": 80.00,
+          "333bf": 10.00, "333oh": 5.00, "clock": 1.30, "minx": 20.00, "pyram": 0.60,
+          "skewb": 0.60, "sq1": 3.00, "444bf": 45.00, "555bf": 105.00}
+CHANGES = (1, "another result stands: change it?", "changes-1")
+CARD = re.compile("CARD ([0-9a-z]+) ([1-4]) ([0-9]+) ([^ ]+) ([^#]*?)( # .*)?")
+NUMBERS = ["no", "one", "two", "three", "four", "five"]
+KEYS = {
+    "none": "it has no key. Name its file in hall.toml, and start again.",
+    "other": "the desks have another key. Copy it again, and start again.",
+    "needless": "it has a key, and the desks have none. Start them with the key.",
+}
 MEANINGS = {"1": "no command of the edition that holds",
             "4": "another number has this name", "15": "it is there already"}
 
@@ -46,6 +63,11 @@ def hidden(name, value):
     return f'<input type="hidden" name="{name}" value="{escaped(str(value))}">'
 
 
+def spelled_was(values):
+    """What attempts count, as `CARD` spells it."""
+    return ",".join(str(value) for value in values) or "-"
+
+
 def unit(what):
     return {"333fm": "moves", "333mbf": "multi"}.get(what, "time")
 
@@ -56,6 +78,7 @@ class Pages:
     def __init__(self):
         self.meet, self.length, self.hall, self.now = rules.Meet(), 0, "", 0
         self.followed, self.silent, self.undecided, self.lengths = 1, None, None, []
+        self.away, self.key, self.declined = [], None, (None, "")
         self.sent, self.tried = [], []
 
     def name(self, who):
@@ -63,15 +86,46 @@ class Pages:
 
     # ---- the frame
 
+    def wrong_key(self):
+        """What is wrong with the table's key, if anything is."""
+        return self.key or ("none" if self.declined[1] == "barred" else None)
+
+    def gone(self):
+        """How many machines do not answer, in words."""
+        count = len(self.away)
+        return NUMBERS[count] + (" machine is away" if count == 1 else " machines are away")
+
+    def everywhere(self, entries):
+        """Whether every desk is known to have so many entries."""
+        known = [length for length in self.lengths if length is not None and length >= entries]
+        return 0 < len(self.lengths) == len(known)
+
+    def slow(self):
+        """What has taken too long: an answer, or a decision; and the seconds."""
+        for what, lasted in (("silent", self.silent), ("undecided", self.undecided)):
+            if lasted is not None and lasted >= 2000:
+                return what, lasted // 1000
+        return None, 0
+
     def bar(self):
-        waits = "s. Go on: cards are kept here, and sent"
-        if self.silent is not None and self.silent >= 2000:
-            return ("lost", f"Desk {self.followed} has not answered for {self.silent // 1000} "
-                    f"{waits} once a desk answers.")
-        if self.undecided is not None and self.undecided >= 2000:
-            seconds = self.undecided // 1000
-            return "lost", f"The desks have not decided for {seconds} {waits} again."
-        return "well", f"desk {self.followed}, position {self.length}"
+        kept, (slow, seconds) = "Go on: cards are kept here, and sent", self.slow()
+        look = " Look after " + " and ".join(f"machine {desk}" for desk in self.away) + "."
+        if self.wrong_key():
+            return "lost", f"This table cannot enter: {KEYS[self.wrong_key()]}"
+        if 2 * len(self.away) > len(self.lengths):
+            return "lost", (f"{self.gone().capitalize()}. {kept} once more than half of the "
+                            f"machines answer.{look}")
+        if slow == "silent":
+            return "lost", ("The machine that this table asks has not answered for "
+                            f"{seconds} s. {kept} once one answers. Look after machine "
+                            f"{self.followed}.")
+        if slow == "undecided":
+            return "lost", f"The machines have decided nothing for {seconds} s. {kept} again."
+        if self.away:
+            return "away", f"{self.gone().capitalize()}.{look}"
+        if self.everywhere(0):
+            return "well", f"All {NUMBERS[len(self.lengths)]} machines answer."
+        return "away", "The machines are asked."
 
     def page(self, kind, title, inside):
         state, told = self.bar()
@@ -81,36 +135,92 @@ class Pages:
                 f'<script src="/table.js" defer></script></head>\n<body class="{kind}">\n'
                 '<nav><a href="/">all rounds</a>\n<a href="/rounds">open and close</a>\n'
                 '<a href="/people">competitors</a></nav>\n'
-                f'<p id="bar" class="{state}" role="status">{told}</p>\n<main>\n'
+                f'<p id="bar" class="{state}"><span role="status">{told}</span> '
+                f"<small>position {self.length}</small></p>\n<main>\n"
                 f"{inside}</main></body></html>\n")
 
     def recent(self):
-        out = '<section id="recent"><h2>Last entered</h2>\n<ol>\n'
-        for what, state in self.sent:
-            kind, told = self.state(state)
-            out += f'<li class="{kind}">{what()} <em>{told}</em></li>\n'
+        out = '<section id="recent"><h2>Last entered</h2>\n<ol aria-live="polite">\n'
+        newest = next((one for one, state, text in self.sent
+                       if state[0] == "s" and CARD.fullmatch(text)), None)
+        for one, state, text in self.sent:
+            card = CARD.fullmatch(text)
+            shown = self.card_sent(card) if card else f"<code>{escaped(text)}</code>"
+            kind, told = self.state(one, state, card)
+            out += (f'<li class="{kind}">{shown} <em>{told}</em>'
+                    f"{self.answers(one, state, card, newest)}</li>\n")
         return out + "</ol></section>\n"
 
-    def state(self, text):
+    def standing(self, card):
+        """What stands of the competitor of a card: the values."""
+        table = self.meet.rounds.get((card[1], int(card[2])))
+        return table.entrants.get(int(card[3]), []) if table else []
+
+    def why(self, one):
+        if self.declined == (one, "refused"):
+            return ": the desk is full, it is sent again"
+        if self.declined == (one, "barred"):
+            return ": the desk does not take it, since this table has no key, or another one"
+        if self.wrong_key():
+            return ": this table has no key, or another one than the desks"
+        if 2 * len(self.away) > len(self.lengths):
+            return ": less than a majority of the machines answers"
+        return {"silent": ": the machine that this table asks does not answer",
+                "undecided": ": the machines have not decided it yet", None: ""}[self.slow()[0]]
+
+    def state(self, one, text, card):
         count = int(text[1:] or 0)
         if text[0] == "w":
-            return "waits", f"waiting, {max(0, self.now - count) // 1000} s"
+            return "waits", f"waiting, {max(0, self.now - count) // 1000} s" + self.why(one)
         if text[0] == "s":
-            holding = sum(length is not None and length >= count for length in self.lengths)
-            return "saved", f"saved at {holding} of {len(self.lengths)} desks"
+            if self.everywhere(count + 1):
+                return "saved", f"saved on all {NUMBERS[len(self.lengths)]} machines"
+            return "saved", "saved" + (f"; {self.gone()}" if self.away else "")
+        if text[0] == "c":
+            told = "not entered, it was changed meanwhile"
+            if card:
+                values = "".join(rules.printed(value, card[1]) + " "
+                                 for value in self.standing(card))
+                told += f": {values or 'nothing '}stands now"
+            return "changed", f"{told}, by entry {count + 1}"
         if text[0] == "r":
             return "refused", "not entered: the round is closed"
-        return "saved", "entered before the last start"
+        return "refused", "not entered: its id was used for something else"
 
-    def card_sent(self, where, typed):
-        if NUMBER.fullmatch(typed[0].strip()):
-            who = int(typed[0])
-            link = f"?number={who}\"><b>{who}</b> <bdi>{self.name(who)}</bdi></a>"
-        else:
-            link = f"\"><b>{escaped(typed[0])}</b></a>"
-        spans = "".join(f"<span>{escaped(field)}</span>" for field in typed[1:])
-        return (f'<a href="/card/{where}{link} <small>{where}</small> '
-                f'<span class="typed">{spans}</span>')
+    def answers(self, one, state, card, newest):
+        carried = hidden("token", TOKEN) + hidden("id", one) + "\n"
+        if state[0] in "ws":
+            return "" if one != newest else (
+                f'<form method="post" action="/undo">{carried}{hidden("of", one)}'
+                "<button>Take back</button></form>\n")
+        again, stands = "", self.standing(card) if card and state[0] == "c" else []
+        if card and state[0] == "c" and "=" not in card[5].split("/")[len(stands):]:
+            again = (f'<form method="post" action="/again">{carried}'
+                     f'{hidden("was", spelled_was(stands))}'
+                     "<button>Enter it over what stands now</button></form>\n")
+        return (again + f'<form method="post" action="/answered">{carried}'
+                "<button>Leave it</button></form>\n")
+
+    def card_sent(self, card):
+        where, who = f"{card[1]}-{card[2]}", int(card[3])
+        was = [] if card[4] == "-" else card[4].split(",")
+        spans = ""
+        for place, outcome in enumerate([] if card[5] == "-" else card[5].split("/")):
+            kind, *parts = outcome.split(":")
+            if outcome == "=":
+                said = rules.printed(int(was[place]) if was[place].isdigit() else was[place],
+                                     card[1])
+            elif kind == "T":
+                said = rules.printed(int(parts[0]), "333")
+                said += f"+{2 * int(parts[1])}" if parts[1] != "0" else ""
+            elif kind == "M":
+                said = f"{parts[0]}/{parts[1]} {int(parts[2]) // 60}:{int(parts[2]) % 60:02}"
+            else:
+                said = parts[0] if kind == "S" else kind
+            kept = ' class="kept"' if outcome == "=" else ""
+            spans += f"<span{kept}>{escaped(said)}</span>"
+        return (f'<a href="/card/{where}?number={who}"><b>{who}</b> <bdi>{self.name(who)}</bdi>'
+                f'</a> <small>{where}</small> <span class="typed">{spans}</span>')
 
     # ---- rounds in words
 
@@ -161,25 +271,53 @@ class Pages:
 
     # ---- the card
 
-    def card(self, what, which, number, typed, notes, origin=None):
+    def filled(self, what, was, values, typed):
+        """What the fields have: what was typed, but what stands where the page showed it."""
+        shown = [rules.printed(value, what) for value in was] + [""] * 5
+        return [values[place] if text.strip() == shown[place] else text
+                for place, text in enumerate(typed)]
+
+    @staticmethod
+    def best(table):
+        """The best single that stands in a round; 0 for none."""
+        return min((value for values in table.entrants.values() for value in values
+                    if isinstance(value, int)), default=0)
+
+    def card(self, what, which, number, typed, notes, origin=None, was=()):
         table, where = self.meet.rounds[what, which], f"{what}-{which}"
         who = int(number) if NUMBER.fullmatch(number.strip()) else None
-        values = [rules.printed(value, what) for value in table.entrants.get(who, [])]
-        standing = values + [""] * 5
-        filled = typed or ([""] * 5 if unit(what) == "moves" else standing)
+        stands = table.entrants.get(who, [])
+        standing = [rules.printed(value, what) for value in stands] + [""] * 5
+        filled = self.filled(what, was, standing, typed) if typed else standing
         said = [NOTES.get(letter, CHANGES) for letter in notes]
 
         def at(place):
             return "".join(f'<strong role="alert">{words}</strong>'
                            for there, words, _ in said if there == place)
 
+        def end(place):
+            wrong = any(there == place and word == "-" for there, _, word in said)
+            return (f'" aria-describedby="said{place}"'
+                    + (' aria-invalid="true"' if wrong else "") + ">")
+
+        def said_at(place):
+            return f'<span class="said" id="said{place}">{at(place)}</span>'
+
         out = (f'<section id="card"><h1>{self.words(what, which)}</h1>\n'
-               f'<p class="rules">{self.settings(what, table)}</p>\n'
-               '<form method="post" action="/card" autocomplete="off" '
+               f'<p class="rules">{self.settings(what, table)}</p>\n')
+        if table.closed:
+            out += ('<p class="told">This round is closed: a card of it is refused. Until the next '
+                    f'round is opened, it <a href="/rounds?round={where}">can be opened again</a>.'
+                    "</p>\n")
+        if self.meet.edition < 4:
+            return out + self.edition_form(f"/card/{where}") + "</section>\n"
+        out += ('<form method="post" action="/card" autocomplete="off" '
                f'data-unit="{unit(what)}" data-format="{table.form}" '
                f'data-cutoff="{rules.spelled(table.cutoff)}" data-limit="{table.limit}" '
+               f'data-floor="{round(100 * FLOORS.get(what, 0))}" data-best="{self.best(table)}" '
                f'data-spare="{"".join(f" {spare}" for spare in IDS[1:])}">\n'
-               f'{hidden("token", TOKEN)}{hidden("id", IDS[0])}\n{hidden("round", where)}\n')
+               f'{hidden("token", TOKEN)}{hidden("id", IDS[0])}\n{hidden("round", where)}\n'
+               f'{hidden("was", spelled_was(stands))}\n')
         if origin:
             place = ("entered at this table" if origin[0] == "here"
                      else "from no card of this table")
@@ -187,24 +325,28 @@ class Pages:
         if self.may_leave(table, who):
             out += (f'<p class="origin"><a href="/person/{who}">Withdraw competitor {who}</a>'
                     "</p>\n")
-        if any(fault for _, _, fault in said):
+        if any(word == "-" for _, _, word in said):
             out += '<p class="told">Not entered yet: what is wrong is said below.</p>\n'
         elif said:
-            out += (hidden("sure", 1)
+            out += (hidden("sure", "".join(f" {word}" for _, _, word in said))
                     + '<p class="told">Not entered yet: Enter once more, if it is right.</p>\n')
         out += (f'{at(6)}<div class="field"><label for="number">Competitor</label>'
-                f'<input id="number" name="number" autofocus value="{escaped(number)}">'
+                f'<input id="number" name="number" autofocus value="{escaped(number)}{end(0)}'
                 f'<output id="who"><bdi>{self.name(who)}</bdi></output>'
-                f'<ul id="found"></ul>{at(0)}</div>\n')
+                f'<ul id="found"></ul>{said_at(0)}</div>\n')
         for place in range(rules.ATTEMPTS[table.form]):
             name = f"a{place + 1}"
             out += (f'<p class="field"><label for="{name}">{place + 1}</label>'
-                    f'<input id="{name}" name="{name}" value="{escaped(filled[place])}">'
+                    f'<input id="{name}" name="{name}" value="{escaped(filled[place])}'
+                    f'{end(place + 1)}'
                     f'<output></output><span class="stands">{standing[place]}</span>'
-                    f"{at(place + 1)}</p>\n")
+                    f"{said_at(place + 1)}</p>\n")
         return out + (
             '<p class="results"><output id="average"></output><output id="best"></output></p>\n'
-            '<button>Enter the card</button>\n</form>\n<p class="options" hidden><label>'
+            '<button>Enter the card</button>\n</form>\n<p class="keys"><kbd>d</kbd> or '
+            '<kbd>/</kbd> DNF, <kbd>s</kbd> or <kbd>*</kbd> DNS (in fewest moves <kbd>/</kbd> and '
+            '<kbd>*</kbd>), <kbd>+</kbd> after a time 2 seconds more, <kbd>Esc</kbd> puts the card '
+            'away</p>\n<p class="options" hidden><label>'
             '<input id="sound" type="checkbox"> sound</label> <label>'
             '<input id="blind" type="checkbox"> second reading: what differs is listed</label>'
             '</p>\n'
@@ -219,22 +361,26 @@ class Pages:
                f'</label></p>\n<section id="round"><h2>{self.words(what, which)}</h2>\n'
                f'<p class="count">{counts["done"]} of {len(table.entrants)} done, '
                f'{counts["begun"]} in the middle, {counts["absent"]} without an attempt</p>\n'
-               f"<table><thead><tr>{self.headings(names)}</tr></thead><tbody>\n")
+               "<table><caption>Who is in this round, by place, and what stands</caption>"
+               f"<thead><tr>{self.headings(names)}</tr></thead><tbody>\n")
         for fields in lines:
             who = fields[1]
-            out += (f'<tr class="{self.progress(table, int(who))}">{self.cells(fields[:1])}'
+            was = spelled_was(table.entrants.get(int(who), []))
+            out += (f'<tr class="{self.progress(table, int(who))}" data-was="{was}">'
+                    f'{self.cells(fields[:1])}'
                     f'<td><a href="/card/{where}?number={who}">{who}</a></td>'
                     f"{self.cells(fields[2:])}</tr>\n")
         return out + "</tbody></table>\n</section></div>\n"
 
-    def card_page(self, what, which, number="", typed=None, notes="", origin=None):
-        inside = self.card(what, which, number, typed, notes, origin) + self.recent()
+    def card_page(self, what, which, number="", typed=None, notes="", origin=None, was=()):
+        inside = self.card(what, which, number, typed, notes, origin, was) + self.recent()
         return self.page("entry", self.words(what, which), inside + self.beside(what, which))
 
     # ---- the hall
 
     def overview(self):
-        out = '<section id="rounds"><h1>Rounds</h1>\n<table><tbody>\n'
+        out = ('<section id="rounds"><h1>Rounds</h1>\n<table><caption>How far each is</caption>'
+               "<tbody>\n")
         order = list(WORDS)
         for what, which in sorted(self.meet.rounds, key=lambda it: (order.index(it[0]), it[1])):
             table, where = self.meet.rounds[what, which], f"{what}-{which}"
@@ -261,6 +407,11 @@ class Pages:
         return f'<label>{label} <input name="{name}" value="{escaped(str(value))}"></label>\n'
 
     @staticmethod
+    def in_unit(name, label, unit_, value):
+        return (f'<label>{label} <input name="{name}" data-unit="{unit_}" '
+                f'value="{escaped(str(value))}"></label>\n')
+
+    @staticmethod
     def button(words):
         return f"<button>{words}</button></form>\n"
 
@@ -273,15 +424,17 @@ class Pages:
         first = [(what, self.meet.rounds[what, 1]) for what in WORDS
                  if (what, 1) in self.meet.rounds]
         out = ("<section><h1>Competitors</h1>\n<p><a href=\"/import\">From a competition's file or "
-               "from lines</a></p>\n<h2>Register a competitor</h2>\n"
+               "from lines</a></p>\n<h2>Register a competitor</h2>\n<p>The button gives the "
+               "number, which nobody may have yet, to this name.</p>\n"
                + self.form(0, "REG", "/people") + self.field("number", "Number", free)
                + self.field("name", "Name") + self.button("Register")
-               + "<h2>Enter a competitor in an event</h2>\n" + self.form(1, "ENT", "/people")
+               + "<h2>Enter a competitor in an event</h2>\n<p>The button enters the competitor in "
+               + "the first round of the event.</p>\n" + self.form(1, "ENT", "/people")
                + '<label>Event <select name="event">\n'
                + self.choices((what, WORDS[what]) for what, table in first if not table.closed)
                + "</select></label>\n" + self.field("number", "Number") + self.button("Enter")
-               + "<table><thead><tr><th>number</th><th>name</th><th>events</th></tr></thead>"
-               + "<tbody>\n")
+               + "<table><caption>Who is registered</caption>\n<thead><tr>"
+               + self.headings(("number", "name", "events")) + "</tr></thead><tbody>\n")
         for who in sorted(self.meet.names):
             events = "".join(f" {what}" for what, table in first if who in table.entrants)
             out += (f'<tr><td>{who}</td><td dir="auto"><a href="/person/{who}">{self.name(who)}'
@@ -290,11 +443,16 @@ class Pages:
         return self.page("hall", "Competitors", out + self.recent())
 
     def edition_form(self, back):
-        return ("<h2>Edition 3</h2>\n<p>With it the commands can change a name, the settings of a "
-                "round and a scramble, withdraw a competitor, and open a closed round again, and "
-                "they have 3x3x3 Multi-Blind. It can't be taken back. This is sent: "
-                "<code>EDITION 3</code></p>\n" + self.form(0, "EDITION", back)
-                + hidden("text", "EDITION 3") + "\n" + self.button("Go on to edition 3"))
+        return ("<h2>Edition 4</h2>\n<p>An earlier edition of the commands holds in this hall, and "
+                "this table takes no card under it. With edition 4 a scorecard is one command, "
+                "which counts over what its scoretaker saw, or not at all. The commands can also "
+                "change a name, the settings of a round and a scramble, withdraw a competitor, and "
+                "open a closed round again. First each desk has to run a program that knows "
+                "edition 4. It can't be taken back. This is sent: <code>EDITION 4</code></p>\n"
+                '<form method="post" action="/command" autocomplete="off">\n'
+                f'{hidden("token", TOKEN)}{hidden("id", IDS[0])}\n{hidden("command", "EDITION")}\n'
+                f'{hidden("back", back)}\n{hidden("text", "EDITION 4")}\n'
+                "<button>Go on to edition 4</button></form>\n")
 
     def person(self, who):
         back, number = f"/person/{who}", hidden("number", who) + "\n"
@@ -303,10 +461,11 @@ class Pages:
                          and who in self.meet.rounds[what, 1].entrants)
         out = (f'<section><h1 dir="auto">{self.name(who)}</h1>\n'
                f"<p>Number {who}, events:{events}</p>\n")
-        if self.meet.edition < 3:
+        if self.meet.edition < 4:
             out += self.edition_form(back)
         else:
-            out += ("<h2>Change the name</h2>\n" + self.form(0, "REN", back) + number
+            out += ("<h2>Change the name</h2>\n<p>The button gives this number the name in the "
+                    "field, everywhere.</p>\n" + self.form(0, "REN", back) + number
                     + self.field("name", "Name", self.meet.names[who].decode())
                     + self.button("Change the name"))
             rounds = [(what, which) for what in WORDS for which in range(1, 5)
@@ -335,9 +494,9 @@ class Pages:
     # ---- several commands
 
     @staticmethod
-    def lines_form(form, back, lines, words):
+    def lines_form(path, form, back, lines, words):
         text = "".join(f"\n{escaped(line)}" for line in lines)
-        return ('<form method="post" action="/commands" autocomplete="off">\n'
+        return (f'<form method="post" action="{path}" autocomplete="off">\n'
                 f'{hidden("token", TOKEN)}{hidden("id", IDS[form])}\n{hidden("back", back)}\n'
                 "<details><summary>What is sent</summary>\n"
                 f'<textarea name="lines" rows="12" cols="60" readonly>{text}</textarea></details>\n'
@@ -367,7 +526,8 @@ class Pages:
     def preview(self):
         entered = [text for code, text in self.tried if code == "-"]
         refused = [(text, MEANINGS[code]) for code, text in self.tried if code != "-"]
-        out = (f'<section><h1>What would be entered</h1>\n<p class="told">{len(entered)} commands '
+        several = "command" if len(entered) == 1 else "commands"
+        out = (f'<section><h1>What would be entered</h1>\n<p class="told">{len(entered)} {several} '
                f"would be entered, and {len(refused)} would not.</p>\n")
         if refused:
             out += "<h2>Not entered</h2>\n<ol>\n" + "".join(
@@ -376,22 +536,32 @@ class Pages:
         if entered:
             out += "<h2>To enter</h2>\n<ol>\n" + "".join(
                 f"<li><code>{escaped(text)}</code></li>\n" for text in entered) + "</ol>\n"
-            out += self.lines_form(0, "/import", entered,
-                                   f"Enter these {len(entered)} commands")
+            out += self.lines_form("/commands", 0, "/import", entered,
+                                   f"Enter {len(entered)} {several}")
         return self.page("hall", "What would be entered", (
             out + '<p><a href="/import">Another file, or other lines</a></p></section>\n'))
 
     def never_came(self, where, table):
-        numbers = self.with_progress(table, "absent")
-        lines = [f"ATT {where.replace('-', ' ')} {count + 1} {who} DNS"
-                 for who in numbers for count in range(table.allotted([]))]
+        lines = [f"WDR {where.replace('-', ' ')} {who}"
+                 for who in self.with_progress(table, "absent")]
         if not lines:
             return ""
-        return (f"<p>If none of them comes any more: this sends {len(lines)} commands, DNS for "
-                "each attempt of each of them. Whoever still comes must not be in the list: enter "
-                "DNS on the cards of the others then.</p>\n"
-                + self.lines_form(16, f"/rounds?round={where}", lines,
-                                  "Enter DNS for all who never came"))
+        if self.meet.edition < 4:
+            return '<p>With <a href="/rounds">edition 4</a> they could be withdrawn.</p>\n'
+        if where.endswith("-1"):
+            undone = ("While the round is open it is taken back by entering the competitor once "
+                      'more, under <a href="/people">competitors</a>.')
+        else:
+            undone = ("It can't be taken back: the best of the round before who has a result, did "
+                      "not go on and has not taken a place yet takes the place, and stands here "
+                      "until the first attempt. With DNS for each attempt, on the card, the place "
+                      "stays empty instead.")
+        return ("<p>Who never came is withdrawn, and has no result in this round then. " + undone
+                + " If one of these still comes, withdraw each of the others on the page of that "
+                "competitor. The button enters nothing yet: it shows one command for each of "
+                "these.</p>\n"
+                + self.lines_form("/lines", 16, f"/rounds?round={where}", lines,
+                                  "Withdraw who never came"))
 
     # ---- rounds
 
@@ -400,7 +570,8 @@ class Pages:
         return which == 1 or bool(before and before.closed and before.advance != ("final",))
 
     def all_rounds(self):
-        out = "<section><h1>Open and close rounds</h1>\n<table><tbody>\n"
+        out = ("<section><h1>Open and close rounds</h1>\n<table><caption>By event</caption>"
+               "<tbody>\n")
         for what in WORDS:
             if what == "333mbf" and self.meet.edition < 2:
                 continue
@@ -414,8 +585,8 @@ class Pages:
                         f"{words}</td>")
             out += "</tr>\n"
         out += "</tbody></table>\n"
-        if self.meet.edition >= 3:
-            return out + "<p>Edition 3 of the commands holds.</p>\n</section>\n"
+        if self.meet.edition >= 4:
+            return out + "<p>Edition 4 of the commands holds.</p>\n</section>\n"
         return out + self.edition_form("/rounds") + "</section>\n"
 
     def advance_fields(self, advance):
@@ -436,8 +607,8 @@ class Pages:
         last = any(rules.later_rounds(len(it.started())) < which + 1 - j
                    for j, it in enumerate(earlier, 1))
         advance = ("final",) if last or come <= 16 else ("top", rules.quota(("top", 16), come))
-        told = (f"{come} come into this round. What is chosen here is proposed, after the round "
-                "before: ")
+        told = (f"{come} {'comes' if come == 1 else 'come'} into this round. What is chosen here "
+                "is proposed, after the round before: ")
         limit = "" if before.limit == "-" else rules.printed(before.limit, "333")
         return told, before.form, limit, advance
 
@@ -449,28 +620,32 @@ class Pages:
         out = f'<label>Format <select name="format">\n{options}</select></label>\n'
         if what != "333mbf":
             after, below = ("", "") if cutoff == "-" else cutoff
+            wanted = ("a number of moves" if unit(what) == "moves"
+                      else "minutes and seconds as on a card: 15 is 0.15")
             out += ('<label>Cutoff after <select name="after">\n<option value="">none</option>\n'
                     + "".join(f"<option{' selected' if count == after else ''}>{count}</option>\n"
                               for count in range(1, 5 if "ao5" in forms else 3))
                     + "</select> attempts</label>\n"
-                    + self.field("cutoff", "one of them below (as 15.00)",
-                                 below and rules.printed(below, what)))
+                    + self.in_unit("cutoff", f"one of them below ({wanted})", unit(what),
+                                   below and rules.printed(below, what)))
         if unit(what) == "time":
-            out += self.field("limit", "Time limit", limit)
+            out += self.in_unit("limit", "Time limit (minutes and seconds as on a card: 10 is "
+                                "0.10)", "time", limit)
         return out
 
     def opening(self, what, which):
         where = f"{what}-{which}"
         told, proposed, limit, advance = self.proposed(what, which)
-        return (f"<h2>Open the round</h2>\n<p>{told}change what you like.</p>\n"
+        return (f"<h2>Open the round</h2>\n<p>{told}change what you like. The button opens the "
+                "round as the fields say.</p>\n"
                 + self.form(0, "OPEN", f"/rounds?round={where}") + hidden("round", where) + "\n"
                 + self.rule_fields(what, proposed, "-", limit)
                 + self.advance_fields(advance) + self.button("Open the round"))
 
     def changing(self, what, where, table):
         attempted = any(table.entrants.values())
-        link = '<p>With <a href="/rounds">edition 3</a>'
-        if self.meet.edition < 3:
+        link = '<p>With <a href="/rounds">edition 4</a>'
+        if self.meet.edition < 4:
             if what == "333fm":
                 return (f"{link} a scramble could be changed, and before the first attempt format "
                         "and cutoff.</p>\n")
@@ -478,7 +653,8 @@ class Pages:
                                          "the first attempt.</p>\n")
         limit = "" if table.limit == "-" else rules.printed(table.limit, "333")
         return "" if attempted else (
-            "<h2>Change format, cutoff and limit</h2>\n"
+            "<h2>Change format, cutoff and limit</h2>\n<p>The button sets these to what the fields "
+            "say, until the first attempt.</p>\n"
             + self.form(5, "SET", f"/rounds?round={where}") + hidden("round", where) + "\n"
             + self.rule_fields(what, table.form, table.cutoff, limit)
             + self.button("Change format, cutoff and limit"))
@@ -493,20 +669,32 @@ class Pages:
         numbers, most = table.advancing(), rules.quota(table.advance, len(table.started()))
         out = (f"<h2>Who goes on, as it stands: {len(numbers)}</h2>\n<ol>\n"
                + self.entrants(where, numbers) + "</ol>\n")
-        if len(numbers) < most:
-            out += (f'<p class="told">{most} could go on: the others are tied at the border, or '
-                    "have no result.</p>\n")
-        return out
+        if len(numbers) >= most:
+            return out
+        tied = self.tied(table, numbers)
+        if not tied:
+            return out + f'<p class="told">{most} could go on: the others have no result.</p>\n'
+        return (out + f'<p class="told">{most} could go on, but these are tied at the border, so '
+                "none of them goes on:</p>\n<ul>\n" + self.entrants(where, tied) + "</ul>\n")
+
+    @staticmethod
+    def tied(table, through):
+        """The best of those with a result who don't go on: all who share their place."""
+        places = table.places()
+        left = [who for who in table.standings()
+                if who not in through and rules.numbers(table.entrants[who])]
+        return [who for who in left if places[who] == places[left[0]]]
 
     def scrambles(self, what, where, table):
-        out = "<h2>Scrambles</h2>\n"
+        out = ("<h2>Scrambles</h2>\n<p>Each button sets the scramble of its attempt to the moves "
+               "in its field.</p>\n")
         for count in range(1, rules.ATTEMPTS[table.form] + 1):
             word, words, moves = "SCR", "Set the scramble", ""
             if count in table.scrambles:
                 word, words = "RSC", "Change the scramble"
                 moves = " ".join(table.scrambles[count])
                 out += f"<p>Scramble {count}: <code>{escaped(moves)}</code></p>\n"
-            if word == "SCR" or self.meet.edition >= 3:
+            if word == "SCR" or self.meet.edition >= 4:
                 out += (self.form(count + 1, word, f"/rounds?round={where}")
                         + hidden("round", where) + "\n"
                         + self.field("attempt", "Scramble of attempt", count)
@@ -522,9 +710,10 @@ class Pages:
         out += self.never_came(where, table)
         text, back = f"CLOSE {where.replace('-', ' ')}", f"/rounds?round={where}"
         after = ("It can be opened again until the next round is opened."
-                 if self.meet.edition >= 3 else "Nothing in it changes afterwards.")
+                 if self.meet.edition >= 4 else "Nothing in it changes afterwards.")
         return (out + self.through(where, table) + self.changing(what, where, table)
-                + "<h2>Change who goes on</h2>\n"
+                + "<h2>Change who goes on</h2>\n<p>The button sets who goes on to what is chosen "
+                "here, and changes nothing else.</p>\n"
                 + self.form(1, "ADV", back) + hidden("round", where) + "\n"
                 + self.advance_fields(table.advance)
                 + self.button("Change who goes on") + "<h2>Close the round</h2>\n"
@@ -556,8 +745,8 @@ class Pages:
             out += f'<p><a href="{link}">Open the next round</a></p>\n'
         if (what, which + 1) in self.meet.rounds:
             return out
-        if self.meet.edition < 3:
-            return out + ('<p>With <a href="/rounds">edition 3</a> it could be opened again.'
+        if self.meet.edition < 4:
+            return out + ('<p>With <a href="/rounds">edition 4</a> it could be opened again.'
                           "</p>\n")
         return out + ("<p>It can be opened again until the next round is opened.</p>\n"
                       + self.form(0, "REOPEN", f"/rounds?round={where}") + hidden("round", where)
@@ -624,16 +813,12 @@ class Pages:
 
     def typed(self, text):
         where, _, rest = text.partition(" ")
-        notes, _, fields = rest.partition(" ")
+        notes, was, fields = rest.split(" ", 2)
         found = ROUND.fullmatch(where)
         number, *typed = (fields.split("|") + [""] * 6)[:6]
-        return self.card_page(found[1], int(found[2]), number, typed, notes)
-
-    def put_card(self, text):
-        where, _, rest = text.partition(" ")
-        state, _, fields = rest.partition(" ")
-        typed = (fields.split("|") + [""] * 6)[:6]
-        self.sent.append((lambda: self.card_sent(where, typed), state))
+        values = [int(value) if value.isdigit() else value
+                  for value in ([] if was == "-" else was.split(","))]
+        return self.card_page(found[1], int(found[2]), number, typed, notes, None, values)
 
     def line(self, line, out):
         word, _, text = line.partition(" ")
@@ -647,13 +832,16 @@ class Pages:
         elif word == "desks":
             read = [None if it == "-" else int(it) for it in text.split(" ")]
             self.followed, self.silent, self.undecided, *self.lengths = read
-        elif word == "card":
-            self.put_card(text)
+        elif word in ("refused", "barred"):
+            self.declined = text, word
+        elif word == "key":
+            self.key = None if text == "-" else text
+        elif word == "away":
+            self.away = [int(desk) for desk in text.split(" ") if desk != "-"]
         elif word == "try":
             self.tried.append(text.split(" ", 1))
         elif word == "command":
-            state, _, command = text.partition(" ")
-            self.sent.append((lambda: f"<code>{escaped(command)}</code>", state))
+            self.sent.append(text.split(" ", 2))
         elif word in ("get", "typed"):
             out.append(f"== {text}\n" + (self.at(text) if word == "get" else self.typed(text)))
 

@@ -134,7 +134,7 @@ abbrev pub has_form : Tag → Bool
 has_form tag = list_any (λ t. same_tag t tag) FORMS
 
 -- a field of a command has this value: its kind says which fields of the form it is read from. The
--- edition is always 3. What is entered at the score table is read from no such form
+-- edition is always 4. What is entered at the score table is read from no such form
 abbrev pub HasValue : Bool → List Pair → FieldKind → FieldValue → Type 0
 HasValue _ pairs kind.Number (value.Number number) = HasCompetitor pairs number
 HasValue _ pairs kind.Name (value.Name name) = HasName pairs name
@@ -147,7 +147,7 @@ HasValue _ pairs kind.Limit (value.Limit limit) = HasLimit pairs limit
 HasValue _ pairs kind.Advance (value.Advance advance) = HasAdvance pairs advance
 HasValue _ pairs kind.Attempt (value.Attempt attempt) = HasAttempt pairs attempt
 HasValue _ pairs kind.Moves (value.Moves moves) = HasMoves pairs moves
-HasValue _ pairs kind.Edition (value.Edition edition) = edition ≡ 3
+HasValue _ pairs kind.Edition (value.Edition edition) = edition ≡ 4
 HasValue _ _ _ _ = ⊥
 
 -- fields of these kinds have these values, one each in order

@@ -2,10 +2,11 @@
 use Rattle.std.specs.Prelude.{ℕ, ◌-◌, ◌^◌, List, [], ◌∷◌, codes, Option, None, Some}
 use Rattle.std.specs.Prelude.{Result, Ok, Err}
 use Rattle.std.specs.Option.{option_map, option_and_then}
+use Rattle.attempts.specs.declared.Value.{Value}
 use Rattle.formats.specs.declared.events.Event.{Event}
 use Rattle.formats.specs.Events.{event_of_name, last_round}
 use Rattle.texts.specs.declared.command.RoundId.{RoundId}
-use Rattle.texts.specs.Fields.{cut, number_between, round_id}
+use Rattle.texts.specs.Fields.{cut, number_between, round_id, was_of}
 use Rattle.card_forms.specs.declared.pairs.Pair.{Pair}
 use Rattle.card_forms.specs.declared.cards.CardForm.{CardForm}
 use Rattle.card_forms.specs.declared.faults.CardFormFault.{CardFormFault}
@@ -32,22 +33,25 @@ fields_of pairs =
     value_of (codes "a1") pairs ∷ value_of (codes "a2") pairs ∷ value_of (codes "a3") pairs
     ∷ value_of (codes "a4") pairs ∷ value_of (codes "a5") pairs ∷ []
 
--- the card of this id and round
-abbrev pub form_with : ℕ → RoundId → List Pair → CardForm
-form_with id round pairs = record {
+-- the card of this id and round, over what its page showed
+abbrev pub form_with : ℕ → RoundId → List Value → List Pair → CardForm
+form_with id round was pairs = record {
   id = id;
   round = round;
   number = value_of (codes "number") pairs;
+  was = was;
   attempts = fields_of pairs;
 }
 
-abbrev pub form_of : Option ℕ → Option RoundId → List Pair → Result CardForm CardFormFault
-form_of None round pairs = Err fault.BadId
-form_of (Some id) None pairs = Err fault.BadRound
-form_of (Some id) (Some round) pairs = Ok (form_with id round pairs)
+abbrev pub form_of : Option ℕ → Option RoundId → Option (List Value) → List Pair
+    → Result CardForm CardFormFault
+form_of None round was pairs = Err fault.BadId
+form_of (Some id) None was pairs = Err fault.BadRound
+form_of (Some id) (Some round) None pairs = Err fault.BadWas
+form_of (Some id) (Some round) (Some was) pairs = Ok (form_with id round was pairs)
 
 -- the card of a form, or what is wrong with what a scoretaker cannot mend
 abbrev pub card_form_of : List Pair → Result CardForm CardFormFault
 card_form_of pairs =
     form_of (form_id_of (value_of (codes "id") pairs)) (round_of (value_of (codes "round") pairs))
-    pairs
+    (was_of (value_of (codes "was") pairs)) pairs

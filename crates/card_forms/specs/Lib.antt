@@ -2,5 +2,5 @@ pub mod Ids
 pub mod Pairs
 pub mod Cards
 pub mod Readings
-pub mod Items
 pub mod Asking
+pub mod Entries

@@ -1,20 +1,32 @@
 -- The fields of a card, read.
-use Rattle.std.specs.Prelude.{◌≡◌, ℕ, ◌==◌, if◌then◌else◌, List, [], ◌∷◌, length}
+use Rattle.std.specs.Prelude.{◌≡◌, ℕ, suc, ◌+◌, ◌==◌, ◌&&◌, if◌then◌else◌, List, [], ◌∷◌}
+use Rattle.std.specs.Prelude.{length, Bool, true, false, not, bytes_eq, drop, flat_map, map, nat_lt, position}
+use Rattle.std.specs.Prelude.{slice_get, unwrap_or}
 use Rattle.std.specs.Prelude.{Option, None, Some, Result, Ok, Err}
-use Rattle.std.specs.Option.{ok_or}
+use Rattle.std.specs.List.{list_all, list_any}
+use Rattle.std.specs.Option.{ok_or, option_and_then, option_map}
+use Rattle.attempts.specs.Texts.{value_text}
 use Rattle.attempts.specs.declared.Unit.{Unit as Measure}
+use Rattle.attempts.specs.declared.Value.{Value}
 use Rattle.formats.specs.Events.{unit_of}
+use Rattle.texts.specs.declared.command.CardEntry.{CardEntry}
 use Rattle.texts.specs.declared.command.Entered.{Entered}
 use Rattle.texts.specs.Fields.{number_between}
 use Rattle.scorecard.specs.Spelling.{trimmed, Spells}
 use Rattle.scorecard.specs.Reading.{Reads}
-use Rattle.scorecard.specs.declared.fault.CardFault.{CardFault}
-use Rattle.derivation.specs.declared.card.Card.{Card}
+use Rattle.scorecard.specs.declared.fault.CardFault.{CardFault as FieldFault}
+use Rattle.scorecard.specs.declared.fault.CardFault.TheVariants as field
 use Rattle.card_forms.specs.declared.cards.CardForm.{CardForm}
+use Rattle.card_forms.specs.declared.faults.CardFault.{CardFault}
+use Rattle.card_forms.specs.declared.faults.CardFault.TheVariants as card
 use Rattle.card_forms.specs.declared.faults.CardReading.{CardReading}
 use Rattle.card_forms.specs.declared.faults.CardReading.TheVariants as reading
 use Rattle.card_forms.specs.declared.faults.NumberFault.{NumberFault}
 use Rattle.card_forms.specs.declared.faults.NumberFault.TheVariants as number
+use Rattle.card_forms.specs.declared.reading.Said.{Said}
+use Rattle.card_forms.specs.declared.reading.Said.TheVariants as said
+
+-- ---- the number
 
 -- a competitor's number, with white space around it
 abbrev pub number_in : List ℕ → Result ℕ NumberFault
@@ -25,41 +37,125 @@ number_in text =
 abbrev pub number_of : List ℕ → Result ℕ NumberFault
 number_of text = number_in (trimmed text)
 
--- a field says this: nothing, where it is empty, else what it spells
-abbrev pub Says : Measure → List ℕ → Option Entered → Type 0
-Says unit text None = length (trimmed text) ≡ 0
-Says unit text (Some x) = Spells unit text x
+-- ---- a field
 
--- each field says what stands at its place
-abbrev pub AllSay : Measure → List (List ℕ) → List (Option Entered) → Type 0
-AllSay unit [] [] = Unit {0}
-AllSay unit (text ∷ texts) (x ∷ xs) = Says unit text x × AllSay unit texts xs
-AllSay unit _ _ = ⊥
+-- what the page of a card shows of the attempt at a place, counted from 0, where these stand
+abbrev pub shown_at : Measure → List Value → ℕ → List ℕ
+shown_at unit was place = unwrap_or (option_map (value_text unit) (slice_get was place)) []
 
--- the form is read as this card
-pub record IsReadAs (form : CardForm) (card : Card) : Type 0 where
-  pub round : card.round ≡ form.round
-  pub number : number_of form.number ≡ Ok card.competitor
-  pub attempts : AllSay (unit_of form.round.event) form.attempts card.attempts.items
+-- a field is as the page showed it, but for the white space around it
+abbrev pub is_untouched : Measure → List Value → ℕ → List ℕ → Bool
+is_untouched unit was place text = bytes_eq (trimmed text) (shown_at unit was place)
+
+-- a field that was not touched leaves what stands
+abbrev pub left_at : List Value → ℕ → Said
+left_at was place = if nat_lt place (length was) then said.Stays else said.Nothing
+
+-- what was typed says nothing, where it is empty, else what it spells
+abbrev pub SaysTyped : Measure → List ℕ → Said → Type 0
+SaysTyped unit text said.Nothing = length (trimmed text) ≡ 0
+SaysTyped unit text said.Stays = ⊥
+SaysTyped unit text (said.Enters x) = Spells unit text x
+
+abbrev pub SaysBy : Bool → Measure → List Value → ℕ → List ℕ → Said → Type 0
+SaysBy true unit was place text it = it ≡ left_at was place
+SaysBy false unit was place text it = SaysTyped unit text it
+
+-- what the field at a place says, where the page showed that these stand
+abbrev pub Says : Measure → List Value → ℕ → List ℕ → Said → Type 0
+Says unit was place text it = SaysBy (is_untouched unit was place text) unit was place text it
+
+-- each field, from this place on, says what stands at its place
+abbrev pub AllSay : Measure → List Value → ℕ → List (List ℕ) → List Said → Type 0
+AllSay unit was place [] [] = Unit {0}
+AllSay unit was place (text ∷ texts) (it ∷ them) =
+    Says unit was place text it × AllSay unit was (suc place) texts them
+AllSay unit was place _ _ = ⊥
+
+-- ---- a card
+
+abbrev pub says_something : Said → Bool
+says_something said.Nothing = false
+says_something said.Stays = true
+says_something (said.Enters x) = true
+
+-- the attempt, from 1 on, of the first field that says nothing, where one after it says something
+abbrev pub gap_at : List Bool → ℕ → Option ℕ
+gap_at filled place =
+    if list_any (λ is. is) (drop place filled) then Some (place + 1) else None
+
+abbrev pub gap_in : List Bool → Option ℕ
+gap_in filled = option_and_then (gap_at filled) (position not filled)
+
+-- what is to stand by a field: nothing, what stands, or what is entered
+abbrev pub stands_by : Said → List (Option Entered)
+stands_by said.Nothing = []
+stands_by said.Stays = None ∷ []
+stands_by (said.Enters x) = Some x ∷ []
+
+abbrev pub stays : Option Entered → Bool
+stays None = true
+stays (Some x) = false
+
+-- all that stands stays, and nothing is entered
+abbrev pub changes_nothing : List Value → List (Option Entered) → Bool
+changes_nothing was now = length now == length was && list_all stays now
+
+abbrev pub unfit_by : Option ℕ → Bool → Option CardFault
+unfit_by (Some field) idle = Some (card.Gap field)
+unfit_by None true = Some card.Nothing
+unfit_by None false = None
+
+-- the first cause why fields that say this are no card
+abbrev pub unfit : List Value → List Said → Option CardFault
+unfit was says =
+    unfit_by (gap_in (map says_something says)) (changes_nothing was (flat_map stands_by says))
+
+-- the form is read as this card: over what the page showed, and with what its fields say
+pub record IsReadAs (form : CardForm) (entry : CardEntry) : Type 0 where
+  pub id : entry.id ≡ form.round
+  pub number : number_of form.number ≡ Ok entry.number
+  pub was : entry.was ≡ form.was
+  pub says : List Said
+  pub all : AllSay (unit_of form.round.event) form.was 0 form.attempts says
+  pub fit : unfit form.was says ≡ None
+  pub now : entry.now ≡ flat_map stands_by says
+
+-- ---- what is wrong
+
+-- what is wrong with what was typed; or memory ran out
+abbrev pub FaultsAs : Measure → List ℕ → FieldFault → Type 0
+FaultsAs unit text field.NoMemory = Unit {0}
+FaultsAs unit text why = Reads unit text (Err why)
 
 -- what is wrong with a field: nothing, where it says something or is empty
-abbrev pub Faults : Measure → List ℕ → Option CardFault → Type 0
-Faults unit text None = (x : Option Entered) × Says unit text x
-Faults unit text (Some why) = Reads unit text (Err why)
+abbrev pub Faults : Measure → List Value → ℕ → List ℕ → Option FieldFault → Type 0
+Faults unit was place text None = (it : Said) × Says unit was place text it
+Faults unit was place text (Some why) = FaultsAs unit text why
 
-abbrev pub fault_in : Result (Option Entered) CardFault → Option CardFault
-fault_in (Ok x) = None
+abbrev pub fault_in : Result Said FieldFault → Option FieldFault
+fault_in (Ok it) = None
 fault_in (Err why) = Some why
 
 abbrev pub number_fault : Result ℕ NumberFault → Option NumberFault
 number_fault (Ok n) = None
 number_fault (Err why) = Some why
 
--- this is wrong with the number, or memory ran out
-abbrev pub RefusedAs : Option NumberFault → CardReading → Type 0
-RefusedAs why (reading.Unread u) = u.number ≡ why
-RefusedAs why reading.NoMemory = Unit {0}
+-- fields that say this are no card, for this reason; or memory ran out
+abbrev pub IsUnfitAs : List Value → List Said → CardReading → Type 0
+IsUnfitAs was says (reading.Unread u) = ⊥
+IsUnfitAs was says (reading.Unfit why) = unfit was says ≡ Some why
+IsUnfitAs was says reading.NoMemory = Unit {0}
 
--- the form is not read: what is said of its number is what is wrong with it
+-- the fields say this, and are no card
+pub record IsUnfit (form : CardForm) (why : CardFault) : Type 0 where
+  pub says : List Said
+  pub all : AllSay (unit_of form.round.event) form.was 0 form.attempts says
+  pub is : unfit form.was says ≡ Some why
+
+-- the form is not read: what is said of its number is what is wrong with it; or its fields are no
+-- card; or memory ran out
 abbrev pub IsNotRead : CardForm → CardReading → Type 0
-IsNotRead form why = RefusedAs (number_fault (number_of form.number)) why
+IsNotRead form (reading.Unread u) = u.number ≡ number_fault (number_of form.number)
+IsNotRead form (reading.Unfit why) = IsUnfit form why
+IsNotRead form reading.NoMemory = Unit {0}

@@ -147,7 +147,7 @@ fn checked(alloc: Global, asked: Asked) -> Result<CommandText, FieldFault>
 /// - a cutoff: `cutoff` and `after`; a limit: `limit`; who advances: `advance` (`top`, `pct` or
 ///   `final`) and `amount`. Times are written as on a scorecard; an empty field or `-` is no cutoff
 ///   and no limit;
-/// - an edition: none, it is edition 3.
+/// - an edition: none, it is edition 4.
 ///
 /// A command that came with a later edition than the list's is refused, as `Unread`.
 ///

@@ -10,7 +10,7 @@ use crate::pairs::Pairs;
 use crate::typed::{Fields, Typed};
 use formats::{Event, LAST_ROUND};
 use std::alloc::{AllocError, Global};
-use texts::{RoundId, cut, number_between};
+use texts::{RoundId, Was, cut, number_between, was_of};
 
 /// What a scoretaker sends for a card, as it was typed.
 #[derive(Drop)]
@@ -19,6 +19,8 @@ pub struct CardForm {
     pub round: RoundId,
     /// The competitor's number.
     pub number: Typed,
+    /// What the page showed that the attempts count.
+    pub was: Was,
     pub attempts: Fields,
 }
 
@@ -60,25 +62,30 @@ fn fields_of(alloc: Global, pairs: &Pairs) -> Result<Fields, AllocError>
     )
 }
 
-/// The card of a form: its `id`, `round` (as `333-1`), `number`, and `a1` to `a5`. A name that is
-/// not there has an empty value; of several pairs of a name the first counts.
+/// The card of a form: its `id`, `round` (as `333-1`), `number`, `was` (what the page showed, as
+/// `CARD` spells it), and `a1` to `a5`. A name that is not there has an empty value; of several
+/// pairs of a name the first counts.
 ///
-/// The fault is `BadId`, else `BadRound`; `NoMemory` comes in place of a card.
+/// The fault is `BadId`, else `BadRound`, else `BadWas`; `NoMemory` comes in place of a card.
 pub fn card_form(alloc: Global, pairs: &Pairs) -> Result<CardForm, CardFormFault>
     ensures card { IfOk result (λ form. card_form_of pairs.now ≡ Ok form) }
     ensures bad_id { (result ≡ Err CardFormFault.BadId)
         ↔ (card_form_of pairs.now ≡ Err CardFormFault.BadId) }
     ensures bad_round { (result ≡ Err CardFormFault.BadRound)
         ↔ (card_form_of pairs.now ≡ Err CardFormFault.BadRound) }
+    ensures bad_was { result ≡ Err CardFormFault.BadWas
+        → card_form_of pairs.now ≡ Err CardFormFault.BadWas }
 {
     let id = form_id_of(pairs.value("id")).ok_or(CardFormFault::BadId)?;
     let round = round_of(pairs.value("round")).ok_or(CardFormFault::BadRound)?;
+    let was = was_of(alloc, pairs.value("was"))?.ok_or(CardFormFault::BadWas)?;
     let number = typed(alloc, pairs, "number")?;
     let attempts = fields_of(alloc, pairs)?;
     Ok(CardForm {
         id,
         round,
         number,
+        was,
         attempts,
     })
 }

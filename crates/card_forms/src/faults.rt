@@ -13,6 +13,9 @@ pub enum CardFormFault {
     /// The id is good, and `round` is no event and round, as `333-1`.
     #[error("the form names no round")]
     BadRound,
+    /// The id and the round are good, and `was` is not what attempts count.
+    #[error("the form does not say what stood")]
+    BadWas,
     /// Memory ran out.
     #[error("no memory")]
     NoMemory,
@@ -49,11 +52,27 @@ pub struct Unread {
     pub attempts: [Option<scorecard::CardFault>; 5],
 }
 
+/// Why fields that are read, each by itself, are no card.
+#[derive(Clone, Copy, Debug, PartialEq, Eq, Error)]
+pub enum CardFault {
+    /// The field of this attempt, from 1 on, is empty, and a later one is not.
+    #[error("attempt {field} is empty")]
+    Gap { field: u8 },
+    /// Nothing was typed: all stays as it stands.
+    #[error("nothing is typed")]
+    Nothing,
+    /// The command would have more than 600 bytes, as that of three long solutions.
+    #[error("it is too long for one command: enter one attempt after the other")]
+    TooLong,
+}
+
 /// Why the fields of a card are not read.
 #[derive(Clone, Copy, Debug, PartialEq, Eq)]
 pub enum CardReading {
     /// These are wrong.
     Unread(Unread),
+    /// Each is read, and together they are no card.
+    Unfit(CardFault),
     /// Memory ran out.
     NoMemory,
 }

@@ -2,8 +2,8 @@
 //!
 //! [`Pairs`] are the names and values of a body of `application/x-www-form-urlencoded`. From them
 //! [`card_form`] takes a card as it was typed, and [`command_form`] a command as it will be sent.
-//! [`card_of`] reads the fields of a card. An [`Item`] is a card or some commands, and [`State`]
-//! says what has become of it.
+//! [`card_of`] reads the fields of a card, over what its page showed. [`card_entry`] and
+//! [`command_entries`] are the entries of what a form asks for: a card is one.
 #![tactic(auto)]
 
 mod asking;
@@ -12,9 +12,9 @@ mod command_faults;
 mod command_fields;
 mod command_text;
 mod command_texts;
+mod entries;
 mod faults;
 mod form_id;
-mod items;
 mod pairs;
 mod reading;
 mod typed;
@@ -25,9 +25,9 @@ pub use cards::{CardForm, card_form, form_id_of, round_of};
 pub use command_faults::{CommandFormFault, Field, Wrong};
 pub use command_text::CommandText;
 pub use command_texts::CommandTexts;
-pub use faults::{CardFormFault, CardReading, NumberFault, Unread};
+pub use entries::{card_entry, card_in, command_entries};
+pub use faults::{CardFault, CardFormFault, CardReading, NumberFault, Unread};
 pub use form_id::FormId;
-pub use items::{Item, Outcome, Reason, Recent, State};
 pub use pairs::{Pair, Pairs};
-pub use reading::{card_of, number_of};
+pub use reading::{card_of, is_untouched, number_of};
 pub use typed::{Fields, Typed};

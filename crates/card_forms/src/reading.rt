@@ -1,18 +1,34 @@
 //! The fields of a card, read.
 
-ghost use Rattle.std.specs.Prelude.{◌≡◌, ◌∷◌, [], IfOk, IfErr};
+ghost use Rattle.std.specs.Prelude.{◌≡◌, ◌++◌, ◌∷◌, [], IfOk, IfErr, IfSome, OnOk, flat_map};
+ghost use Rattle.std.specs.Prelude.{◌≤◌, ◌<◌, ◌⊎◌, None, Some, length, not, position};
+ghost use Rattle.std.specs.List.{list_all, list_any};
 ghost use Rattle.formats.specs.Events.{unit_of};
 ghost use Rattle.scorecard.specs.Spelling.{trimmed};
-ghost use Rattle.card_forms.specs.Readings.{fault_in, number_fault, number_in, number_of, Faults};
-ghost use Rattle.card_forms.specs.Readings.{Says, IsReadAs, IsNotRead, RefusedAs};
+ghost use Rattle.card_forms.specs.Readings.{changes_nothing, fault_in, gap_in, left_at, unfit};
+ghost use Rattle.card_forms.specs.Readings.{number_fault, number_in, number_of, says_something};
+ghost use Rattle.card_forms.specs.Readings.{shown_at, is_untouched, stands_by, stays, unfit_by};
+ghost use Rattle.card_forms.specs.Readings.{Faults, Says, SaysTyped, IsReadAs, IsNotRead};
+ghost use Rattle.card_forms.specs.Readings.{IsUnfitAs};
 
 use crate::cards::CardForm;
-use crate::faults::{CardReading, NumberFault, Unread};
-use derivation::Card;
-use formats::Event;
-use scorecard::{CardFault, read};
+use crate::faults::{CardFault, CardReading, NumberFault, Unread};
+use attempts::{Unit, Value, print_value};
+use formats::{Event, unit_of};
+use scorecard::read;
 use std::alloc::{AllocError, Global};
-use texts::{Entered, number_between};
+use texts::{CardEntry, Entered, Now, Was, number_between};
+
+/// What a field of a card says.
+#[derive(Drop)]
+pub(crate) enum Said {
+    /// Nothing: it is empty.
+    Nothing,
+    /// What stands: it is as the page showed it.
+    Stays,
+    /// This is entered.
+    Enters(Entered),
+}
 
 /// The number that a text without white space around it is.
 fn number_in(text: &[u8]) -> Result<u16, NumberFault>
@@ -42,22 +58,77 @@ pub fn number_of(text: &[u8]) -> Result<u16, NumberFault>
     number_in(trimmed(text))
 }
 
-/// What a field says: nothing, where it is empty.
-fn field_of(alloc: Global, event: Event, text: &[u8]) -> Result<Option<Entered>, CardFault>
-    ensures says { IfOk result (Says (unit_of event) text.now) }
-    ensures faults { Faults (unit_of event) text.now (fault_in result) }
+/// What the page of a card shows of the attempt at a place, counted from 0, where these stand.
+fn shown_at(alloc: Global, unit: Unit, was: &[Value], place: usize) -> Result<Vec<u8>, AllocError>
+    ensures { IfOk result (λ text. text.items ≡ shown_at unit was.now place) }
+{
+    match was.get(place) {
+        Some(value) => print_value(alloc, *value, unit),
+        None => Ok(Vec::new(alloc)),
+    }
+}
+
+/// Whether the field at a place, counted from 0, is as the page showed it, where these stood, but
+/// for the white space around it.
+pub fn is_untouched(
+    alloc: Global,
+    unit: Unit,
+    was: &[Value],
+    place: usize,
+    text: &[u8],
+) -> Result<bool, AllocError>
+    ensures { IfOk result (λ is. is ≡ is_untouched unit was.now place text.now) }
+{
+    let shown = shown_at(alloc, unit, was, place)?;
+    Ok(trimmed(text) == shown.as_slice())
+}
+
+/// What a field leaves that was not touched.
+fn left_at(was: &[Value], place: usize) -> Said
+    ensures { result ≡ left_at was.now place }
+{
+    if place < was.len() {
+        Said::Stays
+    } else {
+        Said::Nothing
+    }
+}
+
+/// What was typed into a field.
+fn typed_of(alloc: Global, event: Event, text: &[u8]) -> Result<Said, scorecard::CardFault>
+    ensures says { IfOk result (SaysTyped (unit_of event) text.now) }
+    ensures faults { IfErr result (λ why. Faults (unit_of event) [] 0 text.now (Some why)) }
 {
     if trimmed(text).is_empty() {
-        return Ok(None);
+        return Ok(Said::Nothing);
     }
     match read(alloc, event, text) {
-        Ok(entered) => Ok(Some(entered)),
+        Ok(entered) => Ok(Said::Enters(entered)),
         Err(fault) => Err(fault),
     }
 }
 
+/// What the field at a place says, counted from 0, where the page showed that these stand.
+fn said_at(
+    alloc: Global,
+    event: Event,
+    was: &[Value],
+    place: usize,
+    text: &[u8],
+) -> Result<Said, scorecard::CardFault>
+    ensures says { IfOk result (Says (unit_of event) was.now place text.now) }
+    ensures faults { IfErr result
+        (λ why. Faults (unit_of event) was.now place text.now (Some why)) }
+{
+    match is_untouched(alloc, unit_of(event), was, place, text) {
+        Ok(true) => Ok(left_at(was, place)),
+        Ok(false) => typed_of(alloc, event, text),
+        Err(_) => Err(scorecard::CardFault::NoMemory),
+    }
+}
+
 /// What is wrong with a field.
-fn fault_of(field: &Result<Option<Entered>, CardFault>) -> Option<CardFault>
+fn fault_of(field: &Result<Said, scorecard::CardFault>) -> Option<scorecard::CardFault>
     ensures { result ≡ fault_in field.now }
 {
     match field {
@@ -76,30 +147,102 @@ fn number_fault(number: Result<u16, NumberFault>) -> Option<NumberFault>
     }
 }
 
-/// Five fields.
-fn five(
-    alloc: Global,
-    first: Option<Entered>,
-    second: Option<Entered>,
-    third: Option<Entered>,
-    fourth: Option<Entered>,
-    fifth: Option<Entered>,
-) -> Result<Vec<Option<Entered>>, AllocError>
-    ensures { IfOk result
-        (λ fields. fields.items ≡ first ∷ second ∷ third ∷ fourth ∷ fifth ∷ []) }
+/// Whether a field says something.
+fn says_something(said: &Said) -> bool
+    ensures { result ≡ says_something said.now }
 {
-    let fields = vec![in alloc; first, second, third, fourth, fifth]?;
-    Ok(fields)
+    match said {
+        Said::Nothing => false,
+        Said::Stays | Said::Enters(_) => true,
+    }
+}
+
+/// Where the first field stands that says nothing.
+fn first_empty(filled: &[bool]) -> Option<usize>
+    ensures value { result ≡ position not filled.now }
+    ensures within { IfSome result (λ place. place < length filled.now) }
+{
+    filled.iter().position(|is| !*is)
+}
+
+/// Whether one of these fields says something.
+fn any_filled(filled: &[bool]) -> bool
+    ensures { result ≡ list_any (λ is. is) filled.now }
+{
+    filled.iter().any(|is| *is)
+}
+
+/// The attempt, from 1 on, of the first field that says nothing, where one after it says something.
+fn gap_in(filled: &[bool]) -> Option<u8>
+    requires { length filled.now ≤ 5 }
+    ensures { result ≡ gap_in filled.now }
+{
+    let place = first_empty(filled)?;
+    if any_filled(&filled[place..]) {
+        Some(place as u8 + 1)
+    } else {
+        None
+    }
+}
+
+/// Adds what is to stand by a field.
+fn push_said(now: &mut Vec<Option<Entered>>, said: Said) -> Result<(), AllocError>
+    ensures { OnOk result (now.new.items ≡ now.old.items ++ stands_by said) }
+{
+    match said {
+        Said::Nothing => Ok(()),
+        Said::Stays => {
+            now.push(None)?;
+            Ok(())
+        }
+        Said::Enters(entered) => {
+            now.push(Some(entered))?;
+            Ok(())
+        }
+    }
+}
+
+/// Whether what stands stays for an attempt.
+fn stays(outcome: &Option<Entered>) -> bool
+    ensures { result ≡ stays outcome.now }
+{
+    outcome.is_none()
+}
+
+/// Whether what stands stays for each of these attempts.
+fn all_stay(now: &[Option<Entered>]) -> bool
+    ensures { result ≡ list_all stays now.now }
+{
+    now.iter().all(|outcome| stays(outcome))
+}
+
+/// Whether all that stands stays, and nothing is entered.
+fn changes_nothing(was: &[Value], now: &[Option<Entered>]) -> bool
+    ensures { result ≡ changes_nothing was.now now.now }
+{
+    now.len() == was.len() && all_stay(now)
+}
+
+/// The first cause why fields are no card, by the field that is empty in front of another, and by
+/// whether nothing changes.
+fn unfit_by(gap: Option<u8>, idle: bool) -> Option<CardFault>
+    ensures { result ≡ unfit_by gap idle }
+{
+    match gap {
+        Some(field) => Some(CardFault::Gap { field }),
+        None if idle => Some(CardFault::Nothing),
+        None => None,
+    }
 }
 
 /// Whether memory ran out for one of the fields.
-fn lacks_memory(faults: &[Option<CardFault>; 5]) -> bool {
-    faults.contains(&Some(CardFault::NoMemory))
+fn lacks_memory(faults: &[Option<scorecard::CardFault>; 5]) -> bool {
+    faults.contains(&Some(scorecard::CardFault::NoMemory))
 }
 
-/// The fault of a card that is not read.
+/// The fault of a card some of whose fields are not read.
 fn refused(faults: Unread) -> CardReading
-    ensures { RefusedAs faults.number result }
+    ensures { (result ≡ CardReading.Unread faults) ⊎ (result ≡ CardReading.NoMemory) }
 {
     if lacks_memory(&faults.attempts) {
         CardReading::NoMemory
@@ -108,22 +251,67 @@ fn refused(faults: Unread) -> CardReading
     }
 }
 
-/// The card that a form says, or what is wrong with each of its fields. A field of white space
-/// alone says nothing; what the others may say, `scorecard::read` says. `NoMemory` comes in place
-/// of any answer.
-#[tactic(auto, using(crate::proofs::Five::five_items))]
-pub fn card_of(alloc: Global, form: &CardForm) -> Result<Card, CardReading>
+/// What is to stand by five fields, where they are a card over these attempts.
+fn now_of(
+    alloc: Global,
+    was: &[Value],
+    first: Said,
+    second: Said,
+    third: Said,
+    fourth: Said,
+    fifth: Said,
+) -> Result<Now, CardReading>
+    ensures now { IfOk result (λ now. now
+        ≡ flat_map stands_by (first ∷ second ∷ third ∷ fourth ∷ fifth ∷ [])) }
+    ensures fit { IfOk result (λ now.
+        unfit was.now (first ∷ second ∷ third ∷ fourth ∷ fifth ∷ []) ≡ None) }
+    ensures unfit { IfErr result (IsUnfitAs was.now
+        (first ∷ second ∷ third ∷ fourth ∷ fifth ∷ [])) }
+{
+    let filled = [
+        says_something(&first),
+        says_something(&second),
+        says_something(&third),
+        says_something(&fourth),
+        says_something(&fifth),
+    ];
+    let mut now = Vec::new(alloc);
+    push_said(&mut now, first)?;
+    push_said(&mut now, second)?;
+    push_said(&mut now, third)?;
+    push_said(&mut now, fourth)?;
+    push_said(&mut now, fifth)?;
+    match unfit_by(gap_in(&filled), changes_nothing(was, &now)) {
+        Some(fault) => Err(CardReading::Unfit(fault)),
+        None => Ok(Now::new(now)),
+    }
+}
+
+/// A copy of what the page showed.
+fn was_again(alloc: Global, was: &Was) -> Result<Was, AllocError>
+    ensures { IfOk result (λ again. again ≡ was.now) }
+{
+    let values = Vec::from_slice(alloc, was.as_slice())?;
+    Ok(Was::new(values))
+}
+
+/// The card that a form says, over what its page showed; or what is wrong with each of its fields,
+/// or with all of them together. A field that is as the page showed it stays as it stands. One of
+/// white space alone says nothing; what the others may say, `scorecard::read` says. `NoMemory`
+/// comes in place of any answer.
+pub fn card_of(alloc: Global, form: &CardForm) -> Result<CardEntry, CardReading>
     ensures read { IfOk result (IsReadAs form.now) }
     ensures unread { IfErr result (IsNotRead form.now) }
 {
     let texts = form.attempts.as_slice();
     let event = form.round.event;
+    let was = form.was.as_slice();
     let number = number_of(form.number.as_bytes());
-    let first = field_of(alloc, event, texts[0].as_bytes());
-    let second = field_of(alloc, event, texts[1].as_bytes());
-    let third = field_of(alloc, event, texts[2].as_bytes());
-    let fourth = field_of(alloc, event, texts[3].as_bytes());
-    let fifth = field_of(alloc, event, texts[4].as_bytes());
+    let first = said_at(alloc, event, was, 0, texts[0].as_bytes());
+    let second = said_at(alloc, event, was, 1, texts[1].as_bytes());
+    let third = said_at(alloc, event, was, 2, texts[2].as_bytes());
+    let fourth = said_at(alloc, event, was, 3, texts[3].as_bytes());
+    let fifth = said_at(alloc, event, was, 4, texts[4].as_bytes());
     let faults = Unread {
         number: number_fault(number),
         attempts: [
@@ -134,7 +322,7 @@ pub fn card_of(alloc: Global, form: &CardForm) -> Result<Card, CardReading>
             fault_of(&fifth),
         ],
     };
-    let Ok(competitor) = number else {
+    let Ok(number) = number else {
         return Err(refused(faults));
     };
     let Ok(first) = first else {
@@ -152,10 +340,12 @@ pub fn card_of(alloc: Global, form: &CardForm) -> Result<Card, CardReading>
     let Ok(fifth) = fifth else {
         return Err(refused(faults));
     };
-    let attempts = five(alloc, first, second, third, fourth, fifth)?;
-    Ok(Card {
-        round: form.round,
-        competitor,
-        attempts,
+    let now = now_of(alloc, was, first, second, third, fourth, fifth)?;
+    let was = was_again(alloc, &form.was)?;
+    Ok(CardEntry {
+        id: form.round,
+        number,
+        was,
+        now,
     })
 }

@@ -13,7 +13,7 @@ use std::alloc::Global;
 use texts::{FieldKind, FieldValue, Values};
 
 /// The edition that a form asks for.
-const ASKED_EDITION: u8 = 3;
+const ASKED_EDITION: u8 = 4;
 
 /// The value of a field, from the pairs that its kind is read from.
 fn value(

@@ -2,13 +2,12 @@
 
 ghost use Rattle.std.specs.Prelude.{◌≡◌, IfOk, string_bytes};
 ghost use Rattle.std.specs.List.{list_all};
-ghost use Rattle.card_queue.specs.Sending.{command_entries};
+ghost use Rattle.card_forms.specs.Entries.{command_entries};
 ghost use Rattle.command_lists.specs.Answered.{first_refusal, is_done, refusal};
 ghost use Rattle.command_lists.specs.Answered.{refused_from, shown};
 ghost use Rattle.mirror.specs.Answered.{answers_after};
 
-use card_forms::{CommandText, CommandTexts, FormId};
-use card_queue::command_entries;
+use card_forms::{CommandText, CommandTexts, FormId, command_entries};
 use foretelling::foretell;
 use itoa::Buffer;
 use learner::log::Log;

@@ -3,6 +3,7 @@ use Rattle.std.specs.Prelude.{◌≡◌, ℕ, List, [], ◌∷◌, ◌++◌, cod
 use Rattle.std.specs.Prelude.{Option, None, Some}
 use Rattle.markup.specs.board_page.Escaped.{escaped}
 use Rattle.markup.specs.board_page.Table.{cell, heading, AreRecordsOf}
+use Rattle.attempts.specs.declared.Value.{Value}
 use Rattle.formats.specs.declared.events.Format.{Format}
 use Rattle.rounds.specs.Tables.{Table}
 use Rattle.round_counts.specs.Counts.{counts, progress_in}
@@ -11,9 +12,11 @@ use Rattle.round_counts.specs.declared.progress.Progress.{Progress}
 use Rattle.round_counts.specs.declared.progress.Progress.TheVariants.{Absent, Begun, Done}
 use Rattle.round_words.specs.Words.{round_name, round_words}
 use Rattle.texts.specs.declared.command.RoundId.{RoundId}
+use Rattle.texts.specs.Spelling.{was_text}
 use Rattle.texts.specs.declared.command.Settings.{Settings}
 use Rattle.markup.specs.Pieces.{joined}
 use Rattle.table_views.specs.People.{number_in}
+use Rattle.table_views.specs.Standing.{values_of}
 
 abbrev pub class_of : Progress → List ℕ
 class_of Absent = codes "absent"
@@ -37,13 +40,22 @@ abbrev pub progress_at : Format → Table → Option ℕ → Progress
 progress_at format t None = Absent
 progress_at format t (Some number) = progress_in format t number
 
-abbrev pub line_start : Progress → List ℕ
-line_start progress = joined (codes "<tr class=\"" ∷ class_of progress ∷ codes "\">" ∷ [])
+-- what stands of the entrant of a number
+abbrev pub values_at : Table → Option ℕ → List Value
+values_at t None = []
+values_at t (Some number) = values_of t number
+
+-- the line says what stands, as `CARD` spells it
+abbrev pub line_start : Progress → List Value → List ℕ
+line_start progress values =
+    codes "<tr class=\"" ++ class_of progress ++ codes "\" data-was=\"" ++ was_text values
+    ++ codes "\">"
 
 -- the line of an entrant: a cell for each field, under a class for how far the entrant has come
 unfoldable pub line : RoundId → Format → Table → List (List ℕ) → List ℕ
 line id format t fields =
     line_start (progress_at format t (number_in (field_in fields 1)))
+    (values_at t (number_in (field_in fields 1)))
     ++ cell (field_in fields 0) ++ number_cell id (field_in fields 1)
     ++ flat_map cell (drop 2 fields) ++ codes "</tr>\n"
 
@@ -54,9 +66,12 @@ count_line counted = joined (
     ∷ codes " without an attempt</p>\n" ∷ []
     )
 
+unfoldable pub caption_start : List ℕ
+caption_start =
+    codes "<table><caption>Who is in this round, by place, and what stands</caption><thead><tr>"
+
 abbrev pub table_start : List (List ℕ) → List ℕ
-table_start names =
-    codes "<table><thead><tr>" ++ flat_map heading names ++ codes "</tr></thead><tbody>\n"
+table_start names = caption_start ++ flat_map heading names ++ codes "</tr></thead><tbody>\n"
 
 -- the first record names the columns, each further one is a line
 unfoldable pub table_text : RoundId → Format → Table → List (List (List ℕ)) → List ℕ

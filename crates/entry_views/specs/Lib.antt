@@ -1,3 +1,4 @@
+pub mod Bounds
 pub mod Notes
 pub mod Fields
 pub mod Leaving

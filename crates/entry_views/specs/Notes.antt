@@ -1,40 +1,45 @@
 -- What is said of the fields of a card.
 use Rattle.std.specs.Prelude.{ℕ, ◌==◌, Bool, true, false, if◌then◌else◌, List, [], ◌∷◌, ◌++◌, codes}
-use Rattle.std.specs.Prelude.{decimal}
+use Rattle.std.specs.Prelude.{◌&&◌, decimal, flat_map}
+use Rattle.std.specs.List.{list_any}
 use Rattle.card_forms.specs.declared.faults.NumberFault.{NumberFault}
 use Rattle.card_forms.specs.declared.faults.NumberFault.TheVariants as number
-use Rattle.derivation.specs.declared.fault.CardFault.{CardFault}
-use Rattle.derivation.specs.declared.fault.CardFault.TheVariants as card
+use Rattle.card_forms.specs.declared.faults.CardFault.{CardFault}
+use Rattle.card_forms.specs.declared.faults.CardFault.TheVariants as card
 use Rattle.scorecard.specs.declared.fault.CardFault.{CardFault as FieldFault}
 use Rattle.scorecard.specs.declared.fault.CardFault.TheVariants as field
 use Rattle.markup.specs.Pieces.{joined}
-use Rattle.table_views.specs.Reasons.{card_words}
 use Rattle.entry_views.specs.declared.notes.Note.{Note}
-use Rattle.entry_views.specs.declared.notes.Note.TheVariants.{Number, Field, Card, Unlike, Skipped}
-use Rattle.entry_views.specs.declared.notes.Note.TheVariants.{Changes}
+use Rattle.entry_views.specs.declared.notes.Note.TheVariants.{Number, Field, Card, Unlike, Changes}
+use Rattle.entry_views.specs.declared.notes.Note.TheVariants.{Refused, Fast, Half, Unsolved}
+use Rattle.entry_views.specs.declared.notes.Note.TheVariants.{Repeats}
+use Rattle.texts.specs.declared.answer.Code.{Code}
+use Rattle.texts.specs.declared.answer.Code.TheVariants as code
+use Rattle.texts.specs.Codes.{code_number}
+use Rattle.texts.specs.meanings.Meanings.{meaning_of}
 
 -- ---- where it stands: 0 is the competitor's number, 1 to 5 are the attempts, 6 is the card
 
 abbrev pub place_of_fault : CardFault → ℕ
-place_of_fault card.UnknownCompetitor = 0
-place_of_fault card.NotEntered = 0
-place_of_fault (card.TooMany field) = field
 place_of_fault (card.Gap field) = field
-place_of_fault (card.OutOfRange field) = field
-place_of_fault (card.WrongOutcome field) = field
-place_of_fault (card.NoScramble field) = field
-place_of_fault (card.TooLong field) = field
-place_of_fault (card.CutoffNotMet field) = field
-place_of_fault card.RoundUnknown = 6
-place_of_fault card.Closed = 6
-place_of_fault card.NoMemory = 6
+place_of_fault card.Nothing = 6
+place_of_fault card.TooLong = 6
+
+abbrev pub place_of_code : Code → ℕ
+place_of_code code.UnknownCompetitor = 0
+place_of_code code.NotEntered = 0
+place_of_code _ = 6
 
 abbrev pub place_of : Note → ℕ
 place_of (Number fault) = 0
 place_of (Field attempt fault) = attempt
 place_of (Card fault) = place_of_fault fault
+place_of (Refused why) = place_of_code why
+place_of (Fast attempt) = attempt
+place_of (Half attempt) = attempt
 place_of (Unlike attempt) = attempt
-place_of (Skipped attempt) = attempt
+place_of (Unsolved attempt) = attempt
+place_of Repeats = 3
 place_of (Changes attempt) = attempt
 
 -- a fault can't be confirmed
@@ -42,9 +47,31 @@ abbrev pub is_fault : Note → Bool
 is_fault (Number fault) = true
 is_fault (Field attempt fault) = true
 is_fault (Card fault) = true
+is_fault (Refused why) = false
+is_fault (Fast attempt) = false
+is_fault (Half attempt) = false
 is_fault (Unlike attempt) = false
-is_fault (Skipped attempt) = false
+is_fault (Unsolved attempt) = false
+is_fault Repeats = false
 is_fault (Changes attempt) = false
+
+-- ---- how it is confirmed
+
+abbrev pub numbered : List ℕ → ℕ → List ℕ
+numbered word number = joined (word ∷ decimal number ∷ [])
+
+-- the word by which a form says that a scoretaker has confirmed a note
+abbrev pub note_word : Note → List ℕ
+note_word (Number fault) = codes "-"
+note_word (Field attempt fault) = codes "-"
+note_word (Card fault) = codes "-"
+note_word (Refused why) = numbered (codes "refused-") (code_number why)
+note_word (Fast attempt) = numbered (codes "fast-") attempt
+note_word (Half attempt) = numbered (codes "half-") attempt
+note_word (Unlike attempt) = numbered (codes "unlike-") attempt
+note_word (Unsolved attempt) = numbered (codes "unsolved-") attempt
+note_word Repeats = codes "repeats"
+note_word (Changes attempt) = numbered (codes "changes-") attempt
 
 -- ---- in words
 
@@ -63,16 +90,46 @@ field_words field.BadAttempted = codes "2 to 99 cubes are attempted"
 field_words (field.MoreSolved attempted) =
     joined (codes "more solved than the " ∷ decimal attempted ∷ codes " attempted" ∷ [])
 field_words field.NoSeconds = codes "a time is 0:01 to 99:59"
-field_words field.NotMoves = codes "moves are like R U' F2 Rw x"
+field_words field.NotMoves =
+    codes "write its moves, as R U' F2 Rw x: a number of moves alone is no solution"
 field_words field.NoMemory = codes "memory ran out"
+
+abbrev pub card_words : CardFault → List ℕ
+card_words (card.Gap field) =
+    joined (codes "attempt " ∷ decimal field ∷ codes " is empty" ∷ [])
+card_words card.Nothing = codes "nothing is typed"
+card_words card.TooLong = codes "too long for one command: enter one attempt after the other"
+
+abbrev pub is_changed : Code → Bool
+is_changed code.Changed = true
+is_changed _ = false
+
+abbrev pub other_words : Code → List ℕ
+other_words why = meaning_of why ++ codes ": send it all the same?"
+
+abbrev pub refused_words : Code → List ℕ
+refused_words why =
+    if is_changed why
+    then codes "other attempts stand now than the page showed: is it still right?"
+    else other_words why
+
+abbrev pub unsolved_words : ℕ → List ℕ
+unsolved_words attempt =
+    joined (codes "does not solve scramble " ∷ decimal attempt ∷ codes ": DNF?" ∷ [])
 
 abbrev pub note_words : Note → List ℕ
 note_words (Number fault) = number_words fault
 note_words (Field attempt fault) = field_words fault
 note_words (Card fault) = card_words fault
+note_words (Refused why) = refused_words why
+note_words (Fast attempt) = codes "nobody has ever been that fast: is it right?"
+note_words (Half attempt) =
+    codes "less than half of the best of this round, or of this competitor's in another: "
+    ++ codes "is it right?"
 note_words (Unlike attempt) =
     codes "more than twice or less than half of the others: is it right?"
-note_words (Skipped attempt) = codes "empty, and a later attempt is not: is it right?"
+note_words (Unsolved attempt) = unsolved_words attempt
+note_words Repeats = codes "the times of attempts 1 and 2 again: is it right?"
 note_words (Changes attempt) = codes "another result stands: change it?"
 
 unfoldable pub note_line : Note → List ℕ
@@ -81,3 +138,23 @@ note_line note = codes "<strong role=\"alert\">" ++ note_words note ++ codes "</
 -- a note, if it stands at this place
 abbrev pub note_at : ℕ → Note → List ℕ
 note_at place note = if place_of note == place then note_line note else []
+
+-- the notes of a field, at a place, under the id by which the field names what describes it
+unfoldable pub said_at : ℕ → List Note → List ℕ
+said_at place notes =
+    joined (codes "<span class=\"said\" id=\"said" ∷ decimal place ∷ codes "\">" ∷ [])
+    ++ flat_map (note_at place) notes ++ codes "</span>"
+
+-- a note is a fault of this place
+abbrev pub is_wrong_at : ℕ → Note → Bool
+is_wrong_at place note = place_of note == place && is_fault note
+
+abbrev pub invalid_if : Bool → List ℕ
+invalid_if true = codes " aria-invalid=\"true\""
+invalid_if false = []
+
+-- the end of a field: what describes it, and whether it has a fault
+unfoldable pub field_end : ℕ → List Note → List ℕ
+field_end place notes =
+    joined (codes "\" aria-describedby=\"said" ∷ decimal place ∷ codes "\"" ∷ [])
+    ++ invalid_if (list_any (is_wrong_at place) notes) ++ codes ">"

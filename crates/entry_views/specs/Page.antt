@@ -1,39 +1,63 @@
 -- The page of a card.
 use Rattle.std.specs.Prelude.{◌≡◌, ℕ, List, ◌++◌, codes, flat_map, length, drop, get_or}
-use Rattle.std.specs.Prelude.{Option, None, Some}
+use Rattle.std.specs.Prelude.{Bool, true, false, Option, None, Some}
 use Rattle.rounds.specs.Tables.{Table}
-use Rattle.round_words.specs.Words.{round_words}
+use Rattle.round_words.specs.Words.{round_name, round_words}
 use Rattle.sheets.specs.Sheet.{table_sheet}
 use Rattle.texts.specs.declared.command.RoundId.{RoundId}
 use Rattle.texts.specs.declared.command.Settings.{Settings}
 use Rattle.table_views.specs.declared.around.Around.{Around}
+use Rattle.table_views.specs.Editions.{edition_form, is_latest}
 use Rattle.table_views.specs.Frame.{top, bottom}
 use Rattle.table_views.specs.Logs.{accepted_in}
 use Rattle.table_views.specs.Recent.{recent_section}
 use Rattle.entry_views.specs.declared.draft.Draft.{Draft}
 use Rattle.entry_views.specs.declared.origin.Origin.{Origin}
 use Rattle.entry_views.specs.Beside.{IsBeside}
-use Rattle.entry_views.specs.Card.{card_head, card_fields, form_start, form_end, spare}
+use Rattle.entry_views.specs.Bounds.{best_in}
+use Rattle.entry_views.specs.Card.{card_head, card_fields, closed_line, form_start, form_end, spare}
+use Rattle.entry_views.specs.Fields.{standing_of}
 use Rattle.entry_views.specs.Leaving.{leaving_line}
 use Rattle.entry_views.specs.Origin.{origin_line}
 
--- the section of the card: the round and its rules, and the form, which carries the token, the
--- first id and the others as spare ones, says where what stands comes from, and links to where
--- somebody without an attempt is withdrawn
+-- the form of the card carries the token, the first id and the others as spare ones, and what the
+-- page shows that stands; it says where that comes from, and links to where somebody without an
+-- attempt is withdrawn
+unfoldable pub card_form : Around → RoundId → Settings × Table → Draft → Option Origin → List ℕ
+card_form around id round draft origin =
+    form_start around.token.now (get_or around.ids.now 0 0)
+    (flat_map spare (drop 1 around.ids.now)) id round.0 (best_in round.1)
+    (standing_of round.1 draft)
+    ++ origin_line origin ++ leaving_line round.1 draft
+    ++ card_fields (accepted_in around.mirror.now) id round.0.format (standing_of round.1 draft)
+    draft ++ form_end
+
+abbrev pub card_path : RoundId → List ℕ
+card_path id = codes "/card/" ++ round_name id
+
+-- in place of the form: the one that moves to edition 4
+abbrev pub no_form : Around → RoundId → List ℕ
+no_form around id =
+    edition_form around.token.now (get_or around.ids.now 0 0) (card_path id)
+    ++ codes "</section>\n"
+
+abbrev pub form_if : Bool → Around → RoundId → Settings × Table → Draft → Option Origin → List ℕ
+form_if true around id round draft origin = card_form around id round draft origin
+form_if false around id round draft origin = no_form around id
+
+-- the section of the card: the round and its rules, whether it is closed, and the form. In a hall
+-- of an earlier edition no card is taken.
 unfoldable pub card_section : Around → RoundId → Settings × Table → Draft → Option Origin → List ℕ
 card_section around id round draft origin =
-    card_head id round.0
-    ++ form_start around.token.now (get_or around.ids.now 0 0)
-    (flat_map spare (drop 1 around.ids.now)) id round.0 ++ origin_line origin
-    ++ leaving_line round.1 draft
-    ++ card_fields (accepted_in around.mirror.now) id round.0 round.1 draft ++ form_end
+    card_head id round.0 ++ closed_line id round.1.is_closed
+    ++ form_if (is_latest (accepted_in around.mirror.now)) around id round draft origin
 
 -- what stands before the round
 unfoldable pub front : Around → RoundId → Settings × Table → Draft → Option Origin → List ℕ
 front around id round draft origin =
     top (codes "entry") (round_words id round.0.advance) around.desks.now (length around.mirror.now)
     ++ card_section around id round draft origin
-    ++ recent_section (accepted_in around.mirror.now) around.desks.now around.now around.recent.now
+    ++ recent_section around
 
 -- this text is the page of a card of a round
 abbrev pub IsPageOf : Around → RoundId → Settings × Table → Draft → Option Origin → List ℕ → Type 0

@@ -6,9 +6,11 @@ ghost use Rattle.markup.specs.board_page.Table.{cell};
 ghost use Rattle.csv.specs.Records.{fields_of};
 ghost use Rattle.entry_views.specs.Beside.{class_of, count_line, line};
 ghost use Rattle.entry_views.specs.Beside.{line_start, number_cell, number_link, progress_at};
-ghost use Rattle.entry_views.specs.Beside.{section_head, table_start, table_text, IsBeside};
+ghost use Rattle.entry_views.specs.Beside.{section_head, table_start, table_text, values_at};
+ghost use Rattle.entry_views.specs.Beside.{IsBeside};
 
 use acceptor::NoMemory;
+use attempts::Value;
 use csv::ByteRecord;
 use formats::Format;
 use markup::board_page::{field_at, push_cell, push_each_heading, records_of};
@@ -16,8 +18,8 @@ use markup::{Piece, push_pieces};
 use round_counts::{Counts, Opened, Progress, counts_of, progress_of};
 use round_words::{push_round_name, push_round_words};
 use rounds::RoundTable;
-use table_views::number_of;
-use texts::RoundId;
+use table_views::{number_of, values_of};
+use texts::{RoundId, push_was};
 
 const SECTION_START: &[u8] = b"\
 <div id=\"beside\"><p hidden><label>Filter by name \
@@ -81,17 +83,26 @@ fn push_cells(out: &mut Vec<u8>, row: &ByteRecord) -> Result<(), NoMemory>
     Ok(())
 }
 
-fn push_line_start(out: &mut Vec<u8>, progress: Progress) -> Result<(), NoMemory>
-    ensures { OnOk result (out.new.items ≡ out.old.items ++ line_start progress) }
+/// The values that stand of the entrant of a number.
+fn values_at(table: &RoundTable, number: Option<u16>) -> &[Value]
+    ensures { result.now ≡ values_at table.now number }
 {
-    push_pieces(
-        out,
-        &[
-            Piece::Html(b"<tr class=\""),
-            Piece::Html(class_of(progress)),
-            Piece::Html(b"\">"),
-        ],
-    )
+    match number {
+        Some(number) => values_of(table, number),
+        None => &[],
+    }
+}
+
+/// Adds the beginning of a line, which says what stands as `CARD` spells it.
+fn push_line_start(out: &mut Vec<u8>, progress: Progress, values: &[Value]) -> Result<(), NoMemory>
+    ensures { OnOk result (out.new.items ≡ out.old.items ++ line_start progress values.now) }
+{
+    out.extend_from_slice(b"<tr class=\"")?;
+    out.extend_from_slice(class_of(progress))?;
+    out.extend_from_slice(b"\" data-was=\"")?;
+    push_was(out, values)?;
+    out.extend_from_slice(b"\">")?;
+    Ok(())
 }
 
 /// Adds the line of an entrant.
@@ -106,7 +117,8 @@ fn push_line(
         ≡ out.old.items ++ line id format table.now (fields_of row.now)) }
 {
     let number = field_at(row, 1);
-    push_line_start(out, progress_at(table, format, number_of(number)))?;
+    let who = number_of(number);
+    push_line_start(out, progress_at(table, format, who), values_at(table, who))?;
     push_cell(out, field_at(row, 0))?;
     push_number_cell(out, id, number)?;
     push_cells(out, row)?;
@@ -154,9 +166,12 @@ fn push_table_start(out: &mut Vec<u8>, names: &ByteRecord) -> Result<(), NoMemor
     ensures { OnOk result (out.new.items
         ≡ out.old.items ++ table_start (fields_of names.now)) }
 {
-    out.extend_from_slice(b"<table><thead><tr>")?;
+    out.extend_from_slice(
+        b"<table><caption>Who is in this round, by place, and what stands</caption><thead><tr>",
+    )?;
     push_each_heading(out, names)?;
-    out.extend_from_slice(b"</tr></thead><tbody>\n")
+    out.extend_from_slice(b"</tr></thead><tbody>\n")?;
+    Ok(())
 }
 
 fn push_table(

@@ -1,23 +1,22 @@
 //! The fields of a card's form.
 
-ghost use Rattle.std.specs.Prelude.{◌≡◌, ◌++◌, [], OnOk, flat_map, option_map, unwrap_or};
-ghost use Rattle.std.specs.Prelude.{slice_get};
-ghost use Rattle.markup.specs.board_page.Escaped.{escaped};
-ghost use Rattle.entry_views.specs.Fields.{competitor_of, field, field_start, filled, name_if};
-ghost use Rattle.entry_views.specs.Fields.{notes_of, number_field, number_text};
-ghost use Rattle.entry_views.specs.Fields.{standing_filled, standing_of, standing_text};
+ghost use Rattle.std.specs.Prelude.{◌≡◌, ◌++◌, OnOk, flat_map};
+ghost use Rattle.card_forms.specs.Readings.{shown_at};
+ghost use Rattle.entry_views.specs.Fields.{beside_field, competitor_of, field, field_start};
+ghost use Rattle.entry_views.specs.Fields.{filled, name_if, notes_of, number_field, number_text};
+ghost use Rattle.entry_views.specs.Fields.{standing_of, typed_filled, who};
 
 use crate::draft::Draft;
-use crate::notes::{Note, push_notes};
+use crate::notes::{Note, push_field_end, push_said};
 use acceptor::NoMemory;
 use attempts::{Unit, Value};
-use card_forms::Typed;
+use card_forms::{CardForm, is_untouched};
 use commands::Meet;
 use markup::board_page::push_escaped;
 use markup::{Piece, push_pieces};
 use round_words::push_value;
 use rounds::RoundTable;
-use table_views::{number_of, push_name};
+use table_views::{number_of, push_name, values_of};
 
 const NUMBER_START: &[u8] = b"\
 <div class=\"field\"><label for=\"number\">Competitor</label>\
@@ -48,11 +47,8 @@ pub(crate) fn competitor_of(draft: Draft<'_>) -> Option<u16>
 pub(crate) fn standing_of<'a>(table: &'a RoundTable, draft: Draft<'_>) -> &'a [Value]
     ensures { result.now ≡ standing_of table.now draft.entry }
 {
-    let Some(number) = competitor_of(draft) else {
-        return &[];
-    };
-    match table.row(number) {
-        Some(row) => row.values,
+    match competitor_of(draft) {
+        Some(number) => values_of(table, number),
         None => &[],
     }
 }
@@ -75,7 +71,7 @@ fn push_standing(
     unit: Unit,
 ) -> Result<(), NoMemory>
     ensures { OnOk result (out.new.items
-        ≡ out.old.items ++ standing_text unit values.now place) }
+        ≡ out.old.items ++ shown_at unit values.now place) }
 {
     match values.get(place) {
         Some(value) => push_value(out, *value, unit),
@@ -83,31 +79,26 @@ fn push_standing(
     }
 }
 
-/// Adds what stands to a field. A number of moves is no solution, so that what stands of fewest
-/// moves is not filled in.
-fn push_standing_filled(
+/// Adds what was typed into the field at a place, counted from 0; what stands now, where the field
+/// is as its page showed it.
+fn push_typed(
     out: &mut Vec<u8>,
+    form: &CardForm,
     values: &[Value],
     place: usize,
     unit: Unit,
 ) -> Result<(), NoMemory>
     ensures { OnOk result (out.new.items
-        ≡ out.old.items ++ standing_filled unit values.now place) }
+        ≡ out.old.items ++ typed_filled form.now unit values.now place) }
 {
-    match unit {
-        Unit::Time | Unit::Multi => push_standing(out, values, place, unit),
-        Unit::Moves => Ok(()),
-    }
-}
-
-/// Adds what was typed into the field at this place, counted from 0.
-fn push_typed(out: &mut Vec<u8>, attempts: &[Typed], place: usize) -> Result<(), NoMemory>
-    ensures { OnOk result (out.new.items ≡ out.old.items
-        ++ unwrap_or (option_map escaped (slice_get attempts.now place)) []) }
-{
-    match attempts.get(place) {
-        Some(text) => push_escaped(out, text.as_bytes()),
-        None => Ok(()),
+    let Some(text) = form.attempts.as_slice().get(place) else {
+        return Ok(());
+    };
+    let alloc = *out.allocator();
+    if is_untouched(alloc, unit, form.was.as_slice(), place, text.as_bytes())? {
+        push_standing(out, values, place, unit)
+    } else {
+        push_escaped(out, text.as_bytes())
     }
 }
 
@@ -124,8 +115,8 @@ fn push_filled(
 {
     match draft {
         Draft::Empty => Ok(()),
-        Draft::Number(_) => push_standing_filled(out, values, place, unit),
-        Draft::Typed { form, .. } => push_typed(out, form.attempts.as_slice(), place),
+        Draft::Number(_) => push_standing(out, values, place, unit),
+        Draft::Typed { form, .. } => push_typed(out, form, values, place, unit),
     }
 }
 
@@ -148,6 +139,26 @@ fn push_field_start(out: &mut Vec<u8>, attempt: u8) -> Result<(), NoMemory>
     )
 }
 
+/// Adds what stands beside the field of an attempt, 1 to 5, and what is said of it.
+fn push_beside(
+    out: &mut Vec<u8>,
+    draft: Draft<'_>,
+    values: &[Value],
+    attempt: u8,
+    unit: Unit,
+) -> Result<(), NoMemory>
+    ensures { OnOk result (out.new.items
+        ≡ out.old.items ++ beside_field draft.entry unit values.now attempt) }
+{
+    let place = usize::from(attempt).saturating_sub(1);
+    out.extend_from_slice(b"<output></output><span class=\"stands\">")?;
+    push_standing(out, values, place, unit)?;
+    out.extend_from_slice(b"</span>")?;
+    push_said(out, attempt, notes_of(draft))?;
+    out.extend_from_slice(b"</p>\n")?;
+    Ok(())
+}
+
 /// Adds the field of an attempt, 1 to 5: what is filled in, what stands beside it, and what is said
 /// of it.
 fn push_field(
@@ -163,11 +174,9 @@ fn push_field(
     let place = usize::from(attempt).saturating_sub(1);
     push_field_start(out, attempt)?;
     push_filled(out, draft, values, place, unit)?;
-    out.extend_from_slice(b"\"><output></output><span class=\"stands\">")?;
-    push_standing(out, values, place, unit)?;
-    out.extend_from_slice(b"</span>")?;
-    push_notes(out, attempt, notes_of(draft))?;
-    out.extend_from_slice(b"</p>\n")
+    push_field_end(out, attempt, notes_of(draft))?;
+    push_beside(out, draft, values, attempt, unit)?;
+    Ok(())
 }
 
 /// Adds a field for each of these attempts.
@@ -198,6 +207,16 @@ fn push_name_if(out: &mut Vec<u8>, meet: &Meet, number: Option<u16>) -> Result<(
     }
 }
 
+/// Adds the competitor's name, and where names that are found are listed.
+fn push_who(out: &mut Vec<u8>, meet: &Meet, number: Option<u16>) -> Result<(), NoMemory>
+    ensures { OnOk result (out.new.items ≡ out.old.items ++ who meet.now.accepted number) }
+{
+    out.extend_from_slice(b"<output id=\"who\"><bdi>")?;
+    push_name_if(out, meet, number)?;
+    out.extend_from_slice(b"</bdi></output><ul id=\"found\"></ul>")?;
+    Ok(())
+}
+
 /// Adds the competitor's field.
 pub(crate) fn push_number_field(
     out: &mut Vec<u8>,
@@ -209,9 +228,9 @@ pub(crate) fn push_number_field(
 {
     out.extend_from_slice(NUMBER_START)?;
     push_number_text(out, draft)?;
-    out.extend_from_slice(b"\"><output id=\"who\"><bdi>")?;
-    push_name_if(out, meet, competitor_of(draft))?;
-    out.extend_from_slice(b"</bdi></output><ul id=\"found\"></ul>")?;
-    push_notes(out, 0, notes_of(draft))?;
-    out.extend_from_slice(b"</div>\n")
+    push_field_end(out, 0, notes_of(draft))?;
+    push_who(out, meet, competitor_of(draft))?;
+    push_said(out, 0, notes_of(draft))?;
+    out.extend_from_slice(b"</div>\n")?;
+    Ok(())
 }

@@ -2,6 +2,7 @@
 #![tactic(auto)]
 
 mod beside;
+mod bounds;
 mod card;
 mod draft;
 mod fields;
@@ -11,7 +12,8 @@ mod origin;
 mod page;
 pub mod paper;
 
+pub use bounds::{best_in, floor_of, single_of};
 pub use draft::Draft;
-pub use notes::Note;
+pub use notes::{Note, note_word};
 pub use origin::Origin;
 pub use page::card_page;

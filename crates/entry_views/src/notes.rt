@@ -1,15 +1,19 @@
 //! What is said of the fields of a card.
 
-ghost use Rattle.std.specs.Prelude.{◌≡◌, ◌++◌, OnOk, flat_map};
+ghost use Rattle.std.specs.Prelude.{◌≡◌, ◌++◌, IfOk, OnOk, flat_map};
 ghost use Rattle.std.specs.List.{list_any};
-ghost use Rattle.entry_views.specs.Notes.{note_words, place_of, place_of_fault};
-ghost use Rattle.entry_views.specs.Notes.{field_words, is_fault, note_at, note_line, number_words};
+ghost use Rattle.entry_views.specs.Notes.{card_words, field_end, field_words, invalid_if};
+ghost use Rattle.entry_views.specs.Notes.{is_changed, is_fault, is_wrong_at, note_at, note_line};
+ghost use Rattle.entry_views.specs.Notes.{note_word, note_words, number_words, numbered};
+ghost use Rattle.entry_views.specs.Notes.{other_words, place_of, place_of_code, place_of_fault};
+ghost use Rattle.entry_views.specs.Notes.{refused_words, said_at, unsolved_words};
 
 use acceptor::NoMemory;
-use card_forms::NumberFault;
-use derivation::CardFault;
+use card_forms::{CardFault, NumberFault};
 use markup::{Piece, push_pieces};
-use table_views::push_card_fault;
+use std::alloc::Global;
+use texts::Code;
+use texts::meanings::meaning_of;
 
 /// What is said of a card. Attempts are 1 to 5.
 #[derive(Clone, Copy, Debug, PartialEq, Eq)]
@@ -21,39 +25,58 @@ pub enum Note {
         attempt: u8,
         fault: scorecard::CardFault,
     },
-    /// No commands come of the card.
+    /// The fields, each of which is read, are no card.
     Card(CardFault),
+    /// By the log that is followed, the card would be refused with this code.
+    Refused(Code),
+    /// A time is below what anybody has ever done.
+    Fast {
+        attempt: u8,
+    },
+    /// A time is less than half of the best single of the round, or of the competitor's in another.
+    Half {
+        attempt: u8,
+    },
     /// A time is more than twice or less than half of the others.
     Unlike {
         attempt: u8,
     },
-    /// An attempt is empty, and a later one is not.
-    Skipped {
+    /// A solution does not solve its scramble.
+    Unsolved {
         attempt: u8,
     },
+    /// The times of attempts 3 and 4 are those of 1 and 2 again.
+    Repeats,
     /// An attempt that stands would change.
     Changes {
         attempt: u8,
     },
 }
 
+const HALF: &[u8] = b"\
+less than half of the best of this round, or of this competitor's in another: \
+is it right?";
+
 /// The place of what is said of no field.
 pub(crate) const WHOLE: u8 = 6;
 
-/// The place of what is said of a whole card, or of its number or an attempt.
+/// The place of what is said of a whole card, or of one of its attempts.
 fn place_of_fault(fault: CardFault) -> u8
     ensures { result ≡ place_of_fault fault }
 {
     match fault {
-        CardFault::UnknownCompetitor | CardFault::NotEntered => 0,
-        CardFault::TooMany { field }
-        | CardFault::Gap { field }
-        | CardFault::OutOfRange { field }
-        | CardFault::WrongOutcome { field }
-        | CardFault::NoScramble { field }
-        | CardFault::TooLong { field }
-        | CardFault::CutoffNotMet { field } => field,
-        CardFault::RoundUnknown | CardFault::Closed | CardFault::NoMemory => WHOLE,
+        CardFault::Gap { field } => field,
+        CardFault::Nothing | CardFault::TooLong => WHOLE,
+    }
+}
+
+/// The place of the code with which a card would be refused.
+fn place_of_code(code: Code) -> u8
+    ensures { result ≡ place_of_code code }
+{
+    match code {
+        Code::UnknownCompetitor | Code::NotEntered => 0,
+        _ => WHOLE,
     }
 }
 
@@ -64,10 +87,14 @@ fn place_of(note: Note) -> u8
     match note {
         Note::Number(_) => 0,
         Note::Card(fault) => place_of_fault(fault),
+        Note::Refused(code) => place_of_code(code),
         Note::Field { attempt, .. }
+        | Note::Fast { attempt }
+        | Note::Half { attempt }
         | Note::Unlike { attempt }
-        | Note::Skipped { attempt }
+        | Note::Unsolved { attempt }
         | Note::Changes { attempt } => attempt,
+        Note::Repeats => 3,
     }
 }
 
@@ -77,7 +104,13 @@ fn is_fault(note: Note) -> bool
 {
     match note {
         Note::Number(_) | Note::Field { .. } | Note::Card(_) => true,
-        Note::Unlike { .. } | Note::Skipped { .. } | Note::Changes { .. } => false,
+        Note::Refused(_)
+        | Note::Fast { .. }
+        | Note::Half { .. }
+        | Note::Unlike { .. }
+        | Note::Unsolved { .. }
+        | Note::Repeats
+        | Note::Changes { .. } => false,
     }
 }
 
@@ -120,9 +153,72 @@ fn push_field_words(out: &mut Vec<u8>, fault: scorecard::CardFault) -> Result<()
             ],
         ),
         CardFault::NoSeconds => out.extend_from_slice(b"a time is 0:01 to 99:59"),
-        CardFault::NotMoves => out.extend_from_slice(b"moves are like R U' F2 Rw x"),
+        CardFault::NotMoves => out.extend_from_slice(
+            b"write its moves, as R U' F2 Rw x: a number of moves alone is no solution",
+        ),
         CardFault::NoMemory => out.extend_from_slice(b"memory ran out"),
     }
+}
+
+/// Adds why fields are no card.
+fn push_card_words(out: &mut Vec<u8>, fault: CardFault) -> Result<(), NoMemory>
+    ensures { OnOk result (out.new.items ≡ out.old.items ++ card_words fault) }
+{
+    match fault {
+        CardFault::Gap { field } => push_pieces(
+            out,
+            &[
+                Piece::Html(b"attempt "),
+                Piece::Number(field as u64),
+                Piece::Html(b" is empty"),
+            ],
+        ),
+        CardFault::Nothing => out.extend_from_slice(b"nothing is typed"),
+        CardFault::TooLong => out.extend_from_slice(
+            b"too long for one command: enter one attempt after the other",
+        ),
+    }
+}
+
+/// Whether a code says that what stands was changed.
+fn is_changed(code: Code) -> bool
+    ensures { result ≡ is_changed code }
+{
+    matches!(code, Code::Changed)
+}
+
+/// Adds what another code means.
+fn push_other(out: &mut Vec<u8>, code: Code) -> Result<(), NoMemory>
+    ensures { OnOk result (out.new.items ≡ out.old.items ++ other_words code) }
+{
+    out.extend_from_slice(meaning_of(code).as_bytes())?;
+    out.extend_from_slice(b": send it all the same?")?;
+    Ok(())
+}
+
+/// Adds with which code a card would be refused.
+fn push_refused(out: &mut Vec<u8>, code: Code) -> Result<(), NoMemory>
+    ensures { OnOk result (out.new.items ≡ out.old.items ++ refused_words code) }
+{
+    if is_changed(code) {
+        out.extend_from_slice(b"other attempts stand now than the page showed: is it still right?")
+    } else {
+        push_other(out, code)
+    }
+}
+
+/// Adds that a solution does not solve the scramble of its attempt.
+fn push_unsolved(out: &mut Vec<u8>, attempt: u8) -> Result<(), NoMemory>
+    ensures { OnOk result (out.new.items ≡ out.old.items ++ unsolved_words attempt) }
+{
+    push_pieces(
+        out,
+        &[
+            Piece::Html(b"does not solve scramble "),
+            Piece::Number(attempt as u64),
+            Piece::Html(b": DNF?"),
+        ],
+    )
 }
 
 /// Adds a note in words.
@@ -132,15 +228,54 @@ fn push_words(out: &mut Vec<u8>, note: Note) -> Result<(), NoMemory>
     match note {
         Note::Number(fault) => out.extend_from_slice(number_words(fault)),
         Note::Field { fault, .. } => push_field_words(out, fault),
-        Note::Card(fault) => push_card_fault(out, fault),
+        Note::Card(fault) => push_card_words(out, fault),
+        Note::Refused(code) => push_refused(out, code),
+        Note::Fast { .. } => {
+            out.extend_from_slice(b"nobody has ever been that fast: is it right?")
+        }
+        Note::Half { .. } => out.extend_from_slice(HALF),
         Note::Unlike { .. } => {
             out.extend_from_slice(b"more than twice or less than half of the others: is it right?")
         }
-        Note::Skipped { .. } => {
-            out.extend_from_slice(b"empty, and a later attempt is not: is it right?")
+        Note::Unsolved { attempt } => push_unsolved(out, attempt),
+        Note::Repeats => {
+            out.extend_from_slice(b"the times of attempts 1 and 2 again: is it right?")
         }
         Note::Changes { .. } => out.extend_from_slice(b"another result stands: change it?"),
     }
+}
+
+fn push_numbered<'a>(out: &mut Vec<u8>, word: &'a [u8], number: u8) -> Result<(), NoMemory>
+    ensures { OnOk result (out.new.items ≡ out.old.items ++ numbered word.now number) }
+{
+    push_pieces(out, &[Piece::Html(word), Piece::Number(number as u64)])
+}
+
+/// Adds the word by which a form says that a scoretaker has confirmed a note; for a fault, which
+/// can't be confirmed, `-`.
+pub(crate) fn push_note_word(out: &mut Vec<u8>, note: Note) -> Result<(), NoMemory>
+    ensures { OnOk result (out.new.items ≡ out.old.items ++ note_word note) }
+{
+    match note {
+        Note::Number(_) | Note::Field { .. } | Note::Card(_) => out.extend_from_slice(b"-"),
+        Note::Refused(code) => push_numbered(out, b"refused-", code.number()),
+        Note::Fast { attempt } => push_numbered(out, b"fast-", attempt),
+        Note::Half { attempt } => push_numbered(out, b"half-", attempt),
+        Note::Unlike { attempt } => push_numbered(out, b"unlike-", attempt),
+        Note::Unsolved { attempt } => push_numbered(out, b"unsolved-", attempt),
+        Note::Repeats => out.extend_from_slice(b"repeats"),
+        Note::Changes { attempt } => push_numbered(out, b"changes-", attempt),
+    }
+}
+
+/// The word by which a form says that a scoretaker has confirmed a note; for a fault, which can't
+/// be confirmed, `-`.
+pub fn note_word(alloc: Global, note: Note) -> Result<Vec<u8>, NoMemory>
+    ensures { IfOk result (λ word. word.items ≡ note_word note) }
+{
+    let mut word = Vec::new(alloc);
+    push_note_word(&mut word, note)?;
+    Ok(word)
 }
 
 fn push_note(out: &mut Vec<u8>, note: Note) -> Result<(), NoMemory>
@@ -169,5 +304,64 @@ pub(crate) fn push_notes(out: &mut Vec<u8>, place: u8, notes: &[Note]) -> Result
     for note in notes {
         push_note_at(out, place, *note)?;
     }
+    Ok(())
+}
+
+/// Adds the notes of a field, at a place, under the id by which the field names what describes it.
+pub(crate) fn push_said(out: &mut Vec<u8>, place: u8, notes: &[Note]) -> Result<(), NoMemory>
+    ensures { OnOk result (out.new.items ≡ out.old.items ++ said_at place notes.now) }
+{
+    push_pieces(
+        out,
+        &[
+            Piece::Html(b"<span class=\"said\" id=\"said"),
+            Piece::Number(place as u64),
+            Piece::Html(b"\">"),
+        ],
+    )?;
+    push_notes(out, place, notes)?;
+    out.extend_from_slice(b"</span>")?;
+    Ok(())
+}
+
+/// Whether a note is a fault of this place.
+fn is_wrong_at(place: u8, note: Note) -> bool
+    ensures { result ≡ is_wrong_at place note }
+{
+    place_of(note) == place && is_fault(note)
+}
+
+/// Whether one of the notes is a fault of this place.
+fn is_wrong(place: u8, notes: &[Note]) -> bool
+    ensures { result ≡ list_any (is_wrong_at place) notes.now }
+{
+    notes.iter().any(|note| is_wrong_at(place, *note))
+}
+
+/// What says in a field that it has a fault.
+fn invalid_if(wrong: bool) -> &'static [u8]
+    ensures { result.now ≡ invalid_if wrong }
+{
+    if wrong {
+        b" aria-invalid=\"true\""
+    } else {
+        b""
+    }
+}
+
+/// Adds the end of a field, at a place: what describes it, and whether it has a fault.
+pub(crate) fn push_field_end(out: &mut Vec<u8>, place: u8, notes: &[Note]) -> Result<(), NoMemory>
+    ensures { OnOk result (out.new.items ≡ out.old.items ++ field_end place notes.now) }
+{
+    push_pieces(
+        out,
+        &[
+            Piece::Html(b"\" aria-describedby=\"said"),
+            Piece::Number(place as u64),
+            Piece::Html(b"\""),
+        ],
+    )?;
+    out.extend_from_slice(invalid_if(is_wrong(place, notes)))?;
+    out.extend_from_slice(b">")?;
     Ok(())
 }

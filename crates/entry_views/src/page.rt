@@ -4,21 +4,27 @@ ghost use Rattle.std.specs.Prelude.{◌≡◌, ◌++◌, IfOk, OnOk, Some, optio
 ghost use Rattle.commands.specs.Accepted.{round_by};
 ghost use Rattle.round_words.specs.Words.{round_words};
 ghost use Rattle.sheets.specs.Sheet.{table_sheet};
-ghost use Rattle.entry_views.specs.Page.{card_section, front, IsCardPage, IsPageOf};
+ghost use Rattle.entry_views.specs.Page.{card_form, card_path, card_section, form_if, front};
+ghost use Rattle.entry_views.specs.Page.{no_form, IsCardPage, IsPageOf};
+ghost use Rattle.table_views.specs.Editions.{is_latest};
 ghost use Rattle.table_views.specs.Logs.{accepted_in};
 
 use crate::beside::push_round;
-use crate::card::{push_card_fields, push_form_end, push_form_start, push_head};
+use crate::bounds::best_in;
+use crate::card::{
+    first_of, push_card_fields, push_closed, push_form_end, push_form_start, push_head,
+};
 use crate::draft::Draft;
+use crate::fields::standing_of;
 use crate::leaving::push_leaving;
 use crate::origin::{Origin, push_origin};
 use acceptor::NoMemory;
 use commands::Meet;
 use round_counts::{Opened, round_opened};
-use round_words::push_round_words;
+use round_words::{push_round_name, push_round_words};
 use sheets::table;
 use std::alloc::{AllocError, Global};
-use table_views::{Around, push_bottom, push_recent, push_top};
+use table_views::{Around, is_latest, push_bottom, push_edition_form, push_recent, push_top};
 use texts::{Advance, RoundId};
 
 /// What a browser's window is called.
@@ -41,7 +47,84 @@ fn sheet_of(alloc: Global, meet: &Meet, id: RoundId) -> Result<Vec<u8>, NoMemory
     }
 }
 
-/// Adds the section of the card.
+/// Adds the form of the card, and what is said of what stands.
+fn push_form(
+    out: &mut Vec<u8>,
+    around: &Around<'_>,
+    id: RoundId,
+    round: Opened<'_>,
+    draft: Draft<'_>,
+    origin: Option<Origin>,
+) -> Result<(), NoMemory>
+    ensures { OnOk result (out.new.items ≡ out.old.items ++ card_form around.entry.now id
+        (round.entry.settings, round.entry.table.now) draft.entry origin) }
+{
+    let values = standing_of(round.table, draft);
+    let best = best_in(round.table)?;
+    push_form_start(
+        out,
+        around.token,
+        around.ids,
+        id,
+        round.settings,
+        best,
+        values,
+    )?;
+    push_origin(out, origin)?;
+    push_leaving(out, round.table, draft)?;
+    push_card_fields(
+        out,
+        around.mirror.meet(),
+        id,
+        round.settings.format,
+        values,
+        draft,
+    )?;
+    push_form_end(out)?;
+    Ok(())
+}
+
+/// The path of the page of a round's cards.
+fn path_of(alloc: Global, id: RoundId) -> Result<Vec<u8>, NoMemory>
+    ensures { IfOk result (λ path. path.items ≡ card_path id) }
+{
+    let mut path = Vec::from_slice(alloc, b"/card/")?;
+    push_round_name(&mut path, id)?;
+    Ok(path)
+}
+
+/// Adds the form that moves to edition 4, in place of the card's.
+fn push_no_form(out: &mut Vec<u8>, around: &Around<'_>, id: RoundId) -> Result<(), NoMemory>
+    ensures { OnOk result (out.new.items ≡ out.old.items ++ no_form around.entry.now id) }
+{
+    let back = path_of(*out.allocator(), id)?;
+    push_edition_form(out, around.token, first_of(around.ids), &back)?;
+    out.extend_from_slice(b"</section>\n")?;
+    Ok(())
+}
+
+/// Adds the form of the card; in a hall of an earlier edition the one that moves to edition 4.
+fn push_form_if(
+    out: &mut Vec<u8>,
+    around: &Around<'_>,
+    id: RoundId,
+    round: Opened<'_>,
+    draft: Draft<'_>,
+    origin: Option<Origin>,
+) -> Result<(), NoMemory>
+    ensures { OnOk result (out.new.items ≡ out.old.items
+        ++ form_if (is_latest (accepted_in around.entry.now.mirror.now)) around.entry.now id
+        (round.entry.settings, round.entry.table.now) draft.entry origin) }
+{
+    if is_latest(around.mirror.meet()) {
+        push_form(out, around, id, round, draft, origin)
+    } else {
+        push_no_form(out, around, id)
+    }
+}
+
+/// Adds the section of the card, which says first whether the round is closed. In a hall of an
+/// earlier edition it has no form of a card.
 fn push_card(
     out: &mut Vec<u8>,
     around: &Around<'_>,
@@ -54,11 +137,8 @@ fn push_card(
         (round.entry.settings, round.entry.table.now) draft.entry origin) }
 {
     push_head(out, id, round.settings)?;
-    push_form_start(out, around.token, around.ids, id, round.settings)?;
-    push_origin(out, origin)?;
-    push_leaving(out, round.table, draft)?;
-    push_card_fields(out, around.mirror.meet(), id, round, draft)?;
-    push_form_end(out)?;
+    push_closed(out, id, round.table.is_closed())?;
+    push_form_if(out, around, id, round, draft, origin)?;
     Ok(())
 }
 
@@ -77,13 +157,7 @@ fn push_front(
     let title = title_of(*out.allocator(), id, round.settings.advance)?;
     push_top(out, around.desks, around.mirror.len(), b"entry", &title)?;
     push_card(out, around, id, round, draft, origin)?;
-    push_recent(
-        out,
-        around.mirror.meet(),
-        around.desks,
-        around.now,
-        around.recent,
-    )?;
+    push_recent(out, around)?;
     Ok(())
 }
 
@@ -109,10 +183,12 @@ fn page_of(
 
 /// The page of a card of a round; none where the round was not opened.
 ///
-/// It has the form of the card, filled in with the draft, which carries the token and the first of
-/// the ids, and says which entry of the log was the last on these attempts, where `origin` says so,
-/// with a link for a competitor who can withdraw; the cards and commands of late; and the round,
-/// whose cells are the fields of its sheet.
+/// It says whether the round is closed. It has the form of the card, filled in with the draft, that
+/// carries the token, the first of the ids, what the page shows that stands and below which a time
+/// is asked about; it says which entry of the log was the last on these attempts, where `origin`
+/// says so, with a link for a competitor who can withdraw; and it has the cards and commands of
+/// late, and the round, whose cells are the fields of its sheet. In a hall of an earlier edition it
+/// has the form that enters edition 4 in place of the card's.
 pub fn card_page(
     alloc: Global,
     around: &Around<'_>,

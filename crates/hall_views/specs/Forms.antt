@@ -1,5 +1,5 @@
 -- Forms that send commands.
-use Rattle.std.specs.Prelude.{ℕ, List, [], ◌∷◌, ◌++◌, codes, decimal}
+use Rattle.std.specs.Prelude.{ℕ, ◌==◌, if◌then◌else◌, List, [], ◌∷◌, ◌++◌, codes, decimal}
 use Rattle.markup.specs.board_page.Escaped.{escaped}
 use Rattle.round_words.specs.Words.{round_name}
 use Rattle.texts.specs.declared.command.RoundId.{RoundId}
@@ -32,6 +32,17 @@ text_field name label value = joined (
     codes "<label>" ∷ label ∷ codes " <input name=\"" ∷ name ∷ codes "\" value=\"" ∷ escaped value
     ∷ codes "\"></label>\n" ∷ []
     )
+
+-- a field with a label, and with the unit in which a script reads what is in it
+abbrev pub unit_field : List ℕ → List ℕ → List ℕ → List ℕ → List ℕ
+unit_field name label unit value = joined (
+    codes "<label>" ∷ label ∷ codes " <input name=\"" ∷ name ∷ codes "\" data-unit=\"" ∷ unit
+    ∷ codes "\" value=\"" ∷ escaped value ∷ codes "\"></label>\n" ∷ []
+    )
+
+-- after a number of commands
+abbrev pub commands_word : ℕ → List ℕ
+commands_word count = if count == 1 then codes " command" else codes " commands"
 
 -- one of the values that can be chosen
 abbrev pub choice : List ℕ → List ℕ → List ℕ

@@ -3,7 +3,6 @@ use Rattle.std.specs.Prelude.{ℕ, List, ◌++◌, codes, get_or, length}
 use Rattle.table_views.specs.declared.around.Around.{Around}
 use Rattle.table_views.specs.Frame.{top, bottom}
 use Rattle.table_views.specs.Hidden.{hidden}
-use Rattle.table_views.specs.Logs.{accepted_in}
 use Rattle.table_views.specs.Recent.{recent_section}
 
 unfoldable pub file_start : List ℕ
@@ -42,5 +41,5 @@ import_page around =
     top (codes "hall") (codes "From a file or from lines") around.desks.now
     (length around.mirror.now)
     ++ import_section around
-    ++ recent_section (accepted_in around.mirror.now) around.desks.now around.now around.recent.now
+    ++ recent_section around
     ++ bottom

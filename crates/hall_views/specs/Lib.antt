@@ -1,5 +1,4 @@
 pub mod Forms
-pub mod Editions
 pub mod Overview
 pub mod Refused
 pub mod Entrants

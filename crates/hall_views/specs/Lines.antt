@@ -1,4 +1,4 @@
--- The form that sends several commands, one a line.
+-- The form that sends several commands, one a line, or shows what would become of them.
 use Rattle.std.specs.Prelude.{ℕ, List, [], ◌∷◌, ◌++◌, codes}
 use Rattle.markup.specs.board_page.Escaped.{escaped}
 use Rattle.markup.specs.Pieces.{joined}
@@ -9,6 +9,14 @@ use Rattle.table_views.specs.Hidden.{hidden}
 abbrev pub line : List ℕ → List ℕ
 line text = codes "\n" ++ text
 
+-- the beginning of a form that enters its lines
+abbrev pub enters : List ℕ
+enters = codes "<form method=\"post\" action=\"/commands\" autocomplete=\"off\">\n"
+
+-- the beginning of a form that only shows what its lines would enter
+abbrev pub looks : List ℕ
+looks = codes "<form method=\"post\" action=\"/lines\" autocomplete=\"off\">\n"
+
 -- where to go after the form, the lines, folded, and the button
 abbrev pub lines_rest : List ℕ → List ℕ → List ℕ → List ℕ
 lines_rest back lines words = joined (
@@ -18,8 +26,6 @@ lines_rest back lines words = joined (
     ∷ codes "</textarea></details>\n<button>" ∷ words ∷ codes "</button></form>\n" ∷ []
     )
 
--- a form that sends these lines carries its token and its id
-unfoldable pub lines_form : List ℕ → ℕ → List ℕ → List ℕ → List ℕ → List ℕ
-lines_form token id back lines words =
-    codes "<form method=\"post\" action=\"/commands\" autocomplete=\"off\">\n" ++ hidden token id
-    ++ lines_rest back lines words
+-- a form with these lines carries its token and its id
+unfoldable pub lines_form : List ℕ → List ℕ → ℕ → List ℕ → List ℕ → List ℕ → List ℕ
+lines_form start token id back lines words = start ++ hidden token id ++ lines_rest back lines words

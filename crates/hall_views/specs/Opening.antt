@@ -15,6 +15,7 @@ use Rattle.texts.specs.declared.command.RoundId.{RoundId}
 use Rattle.markup.specs.Pieces.{joined}
 use Rattle.hall_views.specs.declared.proposal.Proposal.{Proposal}
 use Rattle.hall_views.specs.Forms.{button, form_start, path_of, round_value, text_field}
+use Rattle.hall_views.specs.Forms.{unit_field}
 
 abbrev pub plain : List ℕ
 plain = codes "\">"
@@ -69,12 +70,24 @@ formats = Ao5 ∷ Mo3 ∷ Bo1 ∷ Bo2 ∷ Bo3 ∷ []
 abbrev pub most_attempts : Event → ℕ
 most_attempts event = if is_allowed event Ao5 then 4 else 2
 
+-- what a cutoff has to be below is written in the event's unit
+abbrev pub border_field : Measure → List ℕ → List ℕ
+border_field Time border =
+    unit_field (codes "cutoff")
+    (codes "one of them below (minutes and seconds as on a card: 15 is 0.15)")
+    (codes "time")
+    border
+border_field Moves border =
+    unit_field (codes "cutoff") (codes "one of them below (a number of moves)") (codes "moves")
+    border
+border_field Multi border = []
+
 unfoldable pub cutoff_select : ℕ → Measure → Option (ℕ × ℕ) → List ℕ
 cutoff_select most unit cutoff =
     codes "<label>Cutoff after <select name=\"after\">\n<option value=\"\">none</option>\n"
     ++ flat_map (cutoff_choice cutoff) (take most (1 ∷ 2 ∷ 3 ∷ 4 ∷ []))
     ++ codes "</select> attempts</label>\n"
-    ++ text_field (codes "cutoff") (codes "one of them below (as 15.00)") (border_text unit cutoff)
+    ++ border_field unit (border_text unit cutoff)
 
 abbrev pub cutoff_for : Measure → ℕ → Option (ℕ × ℕ) → List ℕ
 cutoff_for Multi most cutoff = []
@@ -93,7 +106,9 @@ proposed_limit (Some limit) = time_text limit
 -- timed events have a limit
 abbrev pub limit_field : Measure → Option ℕ → List ℕ
 limit_field Time proposed =
-    text_field (codes "limit") (codes "Time limit") (proposed_limit proposed)
+    unit_field (codes "limit") (codes "Time limit (minutes and seconds as on a card: 10 is 0.10)")
+    (codes "time")
+    (proposed_limit proposed)
 limit_field Moves proposed = []
 limit_field Multi proposed = []
 
@@ -136,15 +151,22 @@ unfoldable pub opening_fields : Event → Proposal → List ℕ
 opening_fields event proposal =
     rule_fields event proposal.format None proposal.limit ++ advance_fields proposal.advance
 
--- that it is proposed, and how many come
+abbrev pub come_word : ℕ → List ℕ
+come_word count = if count == 1 then codes " comes" else codes " come"
+
+abbrev pub come_head : ℕ → List ℕ
+come_head come = joined (
+    codes "<h2>Open the round</h2>\n<p>" ∷ decimal come ∷ come_word come
+    ∷ codes " into this round. What is chosen here is proposed, after the round before: change "
+    ∷ codes "what you like. The button opens the round as the fields say.</p>\n" ∷ []
+    )
+
+-- that it is proposed, how many come, and what the button does
 abbrev pub opening_head : Option ℕ → List ℕ
 opening_head None =
-    codes "<h2>Open the round</h2>\n<p>What is chosen here is proposed: change what you like.</p>\n"
-opening_head (Some come) = joined (
-    codes "<h2>Open the round</h2>\n<p>" ∷ decimal come
-    ∷ codes " come into this round. What is chosen here is proposed, after the round before: "
-    ∷ codes "change what you like.</p>\n" ∷ []
-    )
+    codes "<h2>Open the round</h2>\n<p>What is chosen here is proposed: change what you like. "
+    ++ codes "The button opens the round as the fields say.</p>\n"
+opening_head (Some come) = come_head come
 
 -- the form that opens a round
 unfoldable pub opening : List ℕ → ℕ → RoundId → Proposal → List ℕ

@@ -63,9 +63,14 @@ round_in accepted event round =
 abbrev pub event_lines : List Command → Event → List ℕ
 event_lines accepted event = flat_map (round_in accepted event) (1 ∷ 2 ∷ 3 ∷ 4 ∷ [])
 
+abbrev pub section_head : List ℕ
+section_head =
+    codes "<section id=\"rounds\"><h1>Rounds</h1>\n<table><caption>How far each is</caption>"
+    ++ codes "<tbody>\n"
+
 unfoldable pub section : List Command → List ℕ
 section accepted =
-    codes "<section id=\"rounds\"><h1>Rounds</h1>\n<table><tbody>\n"
+    section_head
     ++ flat_map (event_lines accepted) all_events
     ++ codes "</tbody></table>\n<p><a href=\"/rounds\">Open a round</a></p></section>\n"
 
@@ -74,5 +79,5 @@ unfoldable pub overview : Around → List ℕ
 overview around =
     top (codes "hall") (codes "Score table") around.desks.now (length around.mirror.now)
     ++ section (accepted_in around.mirror.now)
-    ++ recent_section (accepted_in around.mirror.now) around.desks.now around.now around.recent.now
+    ++ recent_section around
     ++ bottom

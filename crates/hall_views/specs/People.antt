@@ -67,17 +67,25 @@ open_if event (Some t) = if t.is_closed then [] else choice (event_name event) (
 abbrev pub open_choice : List Command → Event → List ℕ
 open_choice accepted event = open_if event (table_of accepted event 1)
 
+abbrev pub registering_head : List ℕ
+registering_head =
+    codes "<h2>Register a competitor</h2>\n<p>The button gives the number, which nobody may have "
+    ++ codes "yet, to this name.</p>\n"
+
 unfoldable pub registering : List ℕ → ℕ → ℕ → List ℕ
 registering token form number =
-    codes "<h2>Register a competitor</h2>\n"
-    ++ form_start token form (codes "REG") (codes "/people")
+    registering_head ++ form_start token form (codes "REG") (codes "/people")
     ++ text_field (codes "number") (codes "Number") (decimal number)
     ++ text_field (codes "name") (codes "Name") (codes "") ++ button (codes "Register")
 
+abbrev pub entering_head : List ℕ
+entering_head =
+    codes "<h2>Enter a competitor in an event</h2>\n<p>The button enters the competitor in the "
+    ++ codes "first round of the event.</p>\n"
+
 unfoldable pub entering : List Command → List ℕ → ℕ → List ℕ
 entering accepted token form =
-    codes "<h2>Enter a competitor in an event</h2>\n"
-    ++ form_start token form (codes "ENT") (codes "/people")
+    entering_head ++ form_start token form (codes "ENT") (codes "/people")
     ++ codes "<label>Event <select name=\"event\">\n"
     ++ flat_map (open_choice accepted) all_events ++ codes "</select></label>\n"
     ++ text_field (codes "number") (codes "Number") (codes "") ++ button (codes "Enter")
@@ -95,12 +103,17 @@ section_start =
     codes "<section><h1>Competitors</h1>\n<p><a href=\"/import\">"
     ++ codes "From a competition's file or from lines</a></p>\n"
 
+abbrev pub people_head : List ℕ
+people_head =
+    codes "<table><caption>Who is registered</caption>\n<thead><tr><th scope=\"col\">number</th>"
+    ++ codes "<th scope=\"col\">name</th><th scope=\"col\">events</th></tr></thead><tbody>\n"
+
 -- the forms, the first with a number proposed, and all competitors
 unfoldable pub section : Around → ℕ → List ℕ
 section around proposed =
     section_start ++ registering around.token.now (get_or around.ids.now 0 0) proposed
     ++ entering (accepted_in around.mirror.now) around.token.now (get_or around.ids.now 1 0)
-    ++ codes "<table><thead><tr><th>number</th><th>name</th><th>events</th></tr></thead><tbody>\n"
+    ++ people_head
     ++ competitors (accepted_in around.mirror.now) 9999
     ++ codes "</tbody></table></section>\n"
 
@@ -114,5 +127,5 @@ IsPeoplePage around page =
     (inside : List ℕ) × IsSection around inside
     × (page
     ≡ top (codes "hall") (codes "Competitors") around.desks.now (length around.mirror.now) ++ inside
-    ++ recent_section (accepted_in around.mirror.now) around.desks.now around.now around.recent.now
+    ++ recent_section around
     ++ bottom)

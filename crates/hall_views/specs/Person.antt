@@ -17,7 +17,7 @@ use Rattle.table_views.specs.Frame.{top, bottom}
 use Rattle.table_views.specs.Leaving.{may_leave}
 use Rattle.table_views.specs.Logs.{accepted_in}
 use Rattle.table_views.specs.Recent.{recent_section}
-use Rattle.hall_views.specs.Editions.{edition_form, mends}
+use Rattle.table_views.specs.Editions.{edition_form, is_latest}
 use Rattle.hall_views.specs.Forms.{button, form_start, person_path, text_field, unseen}
 use Rattle.hall_views.specs.People.{entered_in}
 use Rattle.hall_views.specs.Reopening.{round_numbered}
@@ -28,10 +28,15 @@ person_form token form command number =
     form_start token form command (person_path number)
     ++ unseen (codes "number") (decimal number)
 
+abbrev pub renaming_head : List ℕ
+renaming_head =
+    codes "<h2>Change the name</h2>\n<p>The button gives this number the name in the field, "
+    ++ codes "everywhere.</p>\n"
+
 -- the present name is filled in
 unfoldable pub renaming : List ℕ → ℕ → ℕ → List ℕ → List ℕ
 renaming token form number name =
-    codes "<h2>Change the name</h2>\n" ++ person_form token form (codes "REN") number
+    renaming_head ++ person_form token form (codes "REN") number
     ++ text_field (codes "name") (codes "Name") name ++ button (codes "Change the name")
 
 -- ---- withdrawing
@@ -78,7 +83,7 @@ withdrawing_if token form number (byte ∷ bytes) = withdrawing token form numbe
 
 -- ---- the page
 
--- the forms of edition 3
+-- the forms of edition 4
 unfoldable pub mending : Around → ℕ → List ℕ → List ℕ
 mending around number name =
     renaming around.token.now (get_or around.ids.now 0 0) number name
@@ -88,7 +93,7 @@ mending around number name =
 -- or the form that moves to it
 abbrev pub mending_or_edition : Around → ℕ → List ℕ → List ℕ
 mending_or_edition around number name =
-    if mends (accepted_in around.mirror.now) then mending around number name
+    if is_latest (accepted_in around.mirror.now) then mending around number name
     else edition_form around.token.now (get_or around.ids.now 0 0) (person_path number)
 
 abbrev pub person_head : ℕ → List ℕ → List ℕ
@@ -108,7 +113,7 @@ unfoldable pub page_of : Around → ℕ → List ℕ → List ℕ
 page_of around number name =
     top (codes "hall") (codes "Competitor") around.desks.now (length around.mirror.now)
     ++ person_section around number name
-    ++ recent_section (accepted_in around.mirror.now) around.desks.now around.now around.recent.now
+    ++ recent_section around
     ++ bottom
 
 -- where somebody has the number

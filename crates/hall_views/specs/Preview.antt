@@ -10,7 +10,8 @@ use Rattle.markup.specs.Pieces.{joined}
 use Rattle.table_views.specs.declared.around.Around.{Around}
 use Rattle.table_views.specs.Frame.{top, bottom}
 use Rattle.hall_views.specs.declared.preview.Tried.{Tried}
-use Rattle.hall_views.specs.Lines.{line, lines_form}
+use Rattle.hall_views.specs.Forms.{commands_word}
+use Rattle.hall_views.specs.Lines.{enters, line, lines_form}
 
 abbrev pub is_entered : Answer → Bool
 is_entered Done = true
@@ -49,7 +50,8 @@ sent_line tried = if would_enter tried then line tried.text.now else []
 abbrev pub told : ℕ → ℕ → List ℕ
 told entered refused = joined (
     codes "<section><h1>What would be entered</h1>\n<p class=\"told\">" ∷ decimal entered
-    ∷ codes " commands would be entered, and " ∷ decimal refused ∷ codes " would not.</p>\n" ∷ []
+    ∷ commands_word entered ∷ codes " would be entered, and " ∷ decimal refused
+    ∷ codes " would not.</p>\n" ∷ []
     )
 
 -- those that would be refused, where there are any
@@ -60,12 +62,12 @@ refused_list refused tried =
     else []
 
 abbrev pub enter_words : ℕ → List ℕ
-enter_words count = joined (codes "Enter these " ∷ decimal count ∷ codes " commands" ∷ [])
+enter_words count = joined (codes "Enter " ∷ decimal count ∷ commands_word count ∷ [])
 
 unfoldable pub entered_all : List ℕ → ℕ → ℕ → List Tried → List ℕ
 entered_all token id entered tried =
     codes "<h2>To enter</h2>\n<ol>\n" ++ flat_map entered_line tried ++ codes "</ol>\n"
-    ++ lines_form token id (codes "/import") (flat_map sent_line tried) (enter_words entered)
+    ++ lines_form enters token id (codes "/import") (flat_map sent_line tried) (enter_words entered)
 
 -- those that would be entered, and the form that enters them, where there are any
 abbrev pub entered_list : List ℕ → ℕ → ℕ → List Tried → List ℕ

@@ -1,32 +1,36 @@
--- The page of a form that asks for no command.
+-- The pages of a form that asks for no command.
 use Rattle.std.specs.Prelude.{ℕ, List, [], ◌∷◌, ◌++◌, codes, length}
 use Rattle.markup.specs.board_page.Escaped.{escaped}
 use Rattle.markup.specs.Pieces.{joined}
 use Rattle.table_views.specs.declared.around.Around.{Around}
 use Rattle.table_views.specs.Frame.{top, bottom}
 
-abbrev pub refusal : List ℕ → List ℕ → List ℕ
-refusal back why = joined (
-    codes "<section><h1>Not sent</h1>\n<p><strong role=\"alert\">" ∷ escaped why
-    ∷ codes "</strong></p>\n<p><a href=\"" ∷ escaped back
+-- what stands before why, and after it, with a link back to the page of the form
+abbrev pub why_section : List ℕ → List ℕ → List ℕ → List ℕ → List ℕ
+why_section start end back why = joined (
+    start ∷ escaped why ∷ end ∷ codes "<p><a href=\"" ∷ escaped back
     ∷ codes "\">Back to the form</a></p></section>\n" ∷ []
     )
+
+abbrev pub why_page : List ℕ → List ℕ → List ℕ → Around → List ℕ → List ℕ → List ℕ
+why_page title start end around back why =
+    top (codes "hall") title around.desks.now (length around.mirror.now)
+    ++ why_section start end back why ++ bottom
 
 -- why, with a link back to the page of the form
 abbrev pub refused_page : Around → List ℕ → List ℕ → List ℕ
 refused_page around back why =
-    top (codes "hall") (codes "Not sent") around.desks.now (length around.mirror.now)
-    ++ refusal back why ++ bottom
-
-abbrev pub faults : List ℕ → List ℕ → List ℕ
-faults back why = joined (
-    codes "<section><h1>Not entered</h1>\n<pre role=\"alert\">" ∷ escaped why
-    ∷ codes "</pre>\n<p><a href=\"" ∷ escaped back
-    ∷ codes "\">Back to the form</a></p></section>\n" ∷ []
-    )
+    why_page (codes "Not sent") (codes "<section><h1>Not sent</h1>\n<p><strong role=\"alert\">")
+    (codes "</strong></p>\n")
+    around
+    back
+    why
 
 -- why, in several lines, with a link back to the page of the form
 abbrev pub faults_page : Around → List ℕ → List ℕ → List ℕ
 faults_page around back why =
-    top (codes "hall") (codes "Not entered") around.desks.now (length around.mirror.now)
-    ++ faults back why ++ bottom
+    why_page (codes "Not entered") (codes "<section><h1>Not entered</h1>\n<pre role=\"alert\">")
+    (codes "</pre>\n")
+    around
+    back
+    why

@@ -8,7 +8,7 @@ use Rattle.texts.specs.declared.command.Command.{Command}
 use Rattle.texts.specs.declared.command.RoundId.{RoundId}
 use Rattle.table_views.specs.declared.around.Around.{Around}
 use Rattle.table_views.specs.Logs.{accepted_in}
-use Rattle.hall_views.specs.Editions.{mends}
+use Rattle.table_views.specs.Editions.{is_latest}
 use Rattle.hall_views.specs.Forms.{button, form_start, path_of, round_value}
 
 abbrev pub round_numbered : Event → ℕ → RoundId
@@ -26,12 +26,12 @@ again_form token form id =
     ++ form_start token form (codes "REOPEN") (path_of id) ++ round_value id
     ++ button (codes "Open it again")
 
--- the form, in edition 3; before it, what edition 3 would allow
+-- the form, in edition 4; before it, what edition 4 would allow
 abbrev pub again_or_told : Around → RoundId → List ℕ
 again_or_told around id =
-    if mends (accepted_in around.mirror.now)
+    if is_latest (accepted_in around.mirror.now)
     then again_form around.token.now (get_or around.ids.now 0 0) id
-    else codes "<p>With <a href=\"/rounds\">edition 3</a> it could be opened again.</p>\n"
+    else codes "<p>With <a href=\"/rounds\">edition 4</a> it could be opened again.</p>\n"
 
 -- nothing where the next round is opened
 abbrev pub again : Around → RoundId → List ℕ

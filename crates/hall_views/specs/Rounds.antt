@@ -20,7 +20,7 @@ use Rattle.table_views.specs.Recent.{recent_section}
 use Rattle.hall_views.specs.declared.round_forms.State.{State}
 use Rattle.hall_views.specs.declared.round_forms.State.TheVariants.{Closed, Open, ToOpen}
 use Rattle.hall_views.specs.Closing.{open_round, through}
-use Rattle.hall_views.specs.Editions.{edition_form, mends}
+use Rattle.table_views.specs.Editions.{edition_form, is_latest}
 use Rattle.hall_views.specs.Opening.{opening}
 use Rattle.hall_views.specs.Proposal.{proposed}
 use Rattle.hall_views.specs.Reopening.{again, round_numbered}
@@ -85,16 +85,20 @@ event_row accepted event =
     if nat_lt (edition_in accepted) (event_edition event) then []
     else row_of accepted event
 
--- the form that moves to edition 3, until it holds
+-- the form that moves to edition 4, until it holds
 abbrev pub edition_section : Around → List ℕ
 edition_section around =
-    if mends (accepted_in around.mirror.now)
-    then codes "<p>Edition 3 of the commands holds.</p>\n"
+    if is_latest (accepted_in around.mirror.now)
+    then codes "<p>Edition 4 of the commands holds.</p>\n"
     else edition_form around.token.now (get_or around.ids.now 0 0) (codes "/rounds")
+
+abbrev pub all_head : List ℕ
+all_head =
+    codes "<section><h1>Open and close rounds</h1>\n<table><caption>By event</caption><tbody>\n"
 
 unfoldable pub all_section : Around → List ℕ
 all_section around =
-    codes "<section><h1>Open and close rounds</h1>\n<table><tbody>\n"
+    all_head
     ++ flat_map (event_row (accepted_in around.mirror.now)) all_events
     ++ codes "</tbody></table>\n" ++ edition_section around ++ codes "</section>\n"
 
@@ -174,5 +178,5 @@ unfoldable pub rounds_page : Around → Option RoundId → List ℕ
 rounds_page around round =
     top (codes "hall") (codes "Open and close rounds") around.desks.now (length around.mirror.now)
     ++ inside around round
-    ++ recent_section (accepted_in around.mirror.now) around.desks.now around.now around.recent.now
+    ++ recent_section around
     ++ bottom

@@ -12,7 +12,7 @@ use Rattle.texts.specs.declared.command.RoundId.{RoundId}
 use Rattle.markup.specs.Pieces.{joined}
 use Rattle.table_views.specs.declared.around.Around.{Around}
 use Rattle.table_views.specs.Logs.{accepted_in}
-use Rattle.hall_views.specs.Editions.{mends}
+use Rattle.table_views.specs.Editions.{is_latest}
 use Rattle.hall_views.specs.Forms.{button, form_start, path_of, round_value, text_field}
 
 abbrev pub scramble_shown : ℕ → List ℕ → List ℕ
@@ -34,7 +34,7 @@ abbrev pub setting : List ℕ → ℕ → RoundId → ℕ → List ℕ
 setting token form id attempt =
     scramble_form (codes "SCR") [] (codes "Set the scramble") token form id attempt
 
--- the form that changes it, in edition 3
+-- the form that changes it, in edition 4
 abbrev pub rescrambling : Bool → List ℕ → List ℕ → ℕ → RoundId → ℕ → List ℕ
 rescrambling true moves token form id attempt =
     scramble_form (codes "RSC") moves (codes "Change the scramble") token form id attempt
@@ -53,7 +53,8 @@ scramble_or_form mends None token form id attempt = setting token form id attemp
 -- the scramble that an attempt has, with the form that changes it, or the form that sets it
 abbrev pub scramble_at : List Command → List ℕ → ℕ → RoundId → ℕ → List ℕ
 scramble_at accepted token form id attempt =
-    scramble_or_form (mends accepted) (scramble_of accepted id.event id.round attempt) token form id
+    scramble_or_form (is_latest accepted) (scramble_of accepted id.event id.round attempt) token
+    form id
     attempt
 
 abbrev pub scramble_if : Around → ℕ → RoundId → ℕ → ℕ → List ℕ
@@ -61,10 +62,15 @@ scramble_if around form id count attempt =
     if nat_le attempt count
     then scramble_at (accepted_in around.mirror.now) around.token.now form id attempt else []
 
+abbrev pub scrambles_head : List ℕ
+scrambles_head =
+    codes "<h2>Scrambles</h2>\n<p>Each button sets the scramble of its attempt to the moves in its "
+    ++ codes "field.</p>\n"
+
 -- a round of fewest moves has at most three attempts
 unfoldable pub all_scrambles : Around → RoundId → ℕ → List ℕ
 all_scrambles around id count =
-    codes "<h2>Scrambles</h2>\n" ++ scramble_if around (get_or around.ids.now 2 0) id count 1
+    scrambles_head ++ scramble_if around (get_or around.ids.now 2 0) id count 1
     ++ scramble_if around (get_or around.ids.now 3 0) id count 2
     ++ scramble_if around (get_or around.ids.now 4 0) id count 3
 

@@ -109,7 +109,10 @@ fn push_events(out: &mut Vec<u8>, meet: &Meet, events: &[Event]) -> Result<(), N
 fn push_section(out: &mut Vec<u8>, meet: &Meet) -> Result<(), NoMemory>
     ensures { OnOk result (out.new.items ≡ out.old.items ++ section meet.now.accepted) }
 {
-    out.extend_from_slice(b"<section id=\"rounds\"><h1>Rounds</h1>\n<table><tbody>\n")?;
+    out.extend_from_slice(
+        b"<section id=\"rounds\"><h1>Rounds</h1>\n<table><caption>How far each is</caption>\
+<tbody>\n",
+    )?;
     push_events(out, meet, &Event::ALL)?;
     out.extend_from_slice(
         b"</tbody></table>\n<p><a href=\"/rounds\">Open a round</a></p></section>\n",

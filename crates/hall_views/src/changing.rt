@@ -3,14 +3,13 @@
 ghost use Rattle.std.specs.Prelude.{◌≡◌, ◌++◌, OnOk};
 ghost use Rattle.hall_views.specs.Changing.{changing, early_words, settings_form};
 
-use crate::editions::mends;
 use crate::forms::{id_at, path_of, push_button, push_form, push_round_value};
 use crate::opening::push_rule_fields;
 use acceptor::NoMemory;
 use card_forms::FormId;
 use formats::Event;
 use round_counts::Opened;
-use table_views::Around;
+use table_views::{Around, is_latest};
 use texts::{RoundId, Settings};
 
 /// Adds the form that changes format, cutoff and limit, with what stands chosen beforehand.
@@ -25,7 +24,10 @@ fn push_settings_form(
         ≡ out.old.items ++ settings_form token.now form id settings) }
 {
     let back = path_of(*out.allocator(), id)?;
-    out.extend_from_slice(b"<h2>Change format, cutoff and limit</h2>\n")?;
+    out.extend_from_slice(
+        b"<h2>Change format, cutoff and limit</h2>\n<p>The button sets these to what the fields \
+say, until the first attempt.</p>\n",
+    )?;
     push_form(out, token, form, b"SET", &back)?;
     push_round_value(out, id)?;
     push_rule_fields(
@@ -38,25 +40,25 @@ fn push_settings_form(
     push_button(out, b"Change format, cutoff and limit")
 }
 
-/// What edition 3 would allow in an open round.
+/// What edition 4 would allow in an open round.
 fn early_words(event: Event, attempted: bool) -> &'static [u8]
     ensures { result.now ≡ early_words event attempted }
 {
     match event {
         Event::FewestMoves => {
-            b"<p>With <a href=\"/rounds\">edition 3</a> a scramble could be changed, and before \
+            b"<p>With <a href=\"/rounds\">edition 4</a> a scramble could be changed, and before \
 the first attempt format and cutoff.</p>\n"
         }
         _ if attempted => b"",
         _ => {
-            b"<p>With <a href=\"/rounds\">edition 3</a> format, cutoff and limit could be changed \
+            b"<p>With <a href=\"/rounds\">edition 4</a> format, cutoff and limit could be changed \
 before the first attempt.</p>\n"
         }
     }
 }
 
-/// Adds the form that changes how an open round is run, in edition 3 and while nobody has an
-/// attempt; before edition 3, what it would allow.
+/// Adds the form that changes how an open round is run, in edition 4 and while nobody has an
+/// attempt; before edition 4, what it would allow.
 pub(crate) fn push_changing(
     out: &mut Vec<u8>,
     around: &Around<'_>,
@@ -67,7 +69,7 @@ pub(crate) fn push_changing(
         (round.entry.settings, round.entry.table.now)) }
 {
     let attempted = round.table.is_attempted(1);
-    if !mends(around.mirror.meet()) {
+    if !is_latest(around.mirror.meet()) {
         return out.extend_from_slice(early_words(id.event, attempted));
     }
     if attempted {

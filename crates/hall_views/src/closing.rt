@@ -1,58 +1,176 @@
 //! The forms of a round that is open: who goes on, and closing it.
 
-ghost use Rattle.std.specs.Prelude.{◌≡◌, ◌++◌, OnOk};
+ghost use Rattle.std.specs.Prelude.{◌≡◌, ◌++◌, IfOk, OnOk};
 ghost use Rattle.advancement.specs.Advancing.{advancing, quota};
+ghost use Rattle.advancement.specs.Waiting.{waiting};
 ghost use Rattle.rounds.specs.Tables.{started};
 ghost use Rattle.hall_views.specs.Closing.{change, close, closing_told};
-ghost use Rattle.hall_views.specs.Closing.{closing_words, list_through, open_round};
-ghost use Rattle.hall_views.specs.Closing.{through, tie};
+ghost use Rattle.hall_views.specs.Closing.{closing_words, is_placed, list_through, open_round};
+ghost use Rattle.hall_views.specs.Closing.{sharing, those_placed, through, tie, tied};
+ghost use Rattle.hall_views.specs.Closing.{tied_list, untied};
 
 use crate::absent::push_never_came;
 use crate::changing::push_changing;
-use crate::editions::mends;
 use crate::forms::{id_at, path_of, push_button, push_form, push_round_value, push_unseen};
 use crate::opening::push_advance;
 use crate::unfinished::{push_entrants, push_unfinished};
 use acceptor::NoMemory;
-use advancement::{advancing, quota};
+use advancement::{advancing, quota, waiting};
 use card_forms::FormId;
 use commands::Meet;
 use formats::Advance;
 use markup::{Piece, push_pieces};
 use round_counts::Opened;
 use rounds::RoundTable;
-use table_views::Around;
+use std::alloc::Global;
+use table_views::{Around, is_latest};
 use texts::{Command, RoundId, print};
 
-/// Adds that a tie keeps people out, where fewer go on than could.
-fn push_tie(out: &mut Vec<u8>, through: usize, most: u16) -> Result<(), NoMemory>
-    ensures { OnOk result (out.new.items ≡ out.old.items ++ tie through most) }
+/// Whether the entrant with a number has this place.
+fn is_placed(table: &RoundTable, wanted: u16, number: u16) -> bool
+    ensures { result ≡ is_placed table.now wanted number }
 {
-    if through >= usize::from(most) {
-        return Ok(());
+    match table.place(number) {
+        Some(place) => place == wanted,
+        None => false,
     }
+}
+
+/// Those of these numbers whose entrants have this place.
+fn those_placed(
+    alloc: Global,
+    table: &RoundTable,
+    wanted: Option<u16>,
+    numbers: &[u16],
+) -> Result<Vec<u16>, NoMemory>
+    ensures { IfOk result (λ kept. kept.items ≡ those_placed table.now wanted numbers.now) }
+{
+    let Some(wanted) = wanted else {
+        return Ok(Vec::new(alloc));
+    };
+    numbers
+        .iter()
+        .copied()
+        .filter(|number| is_placed(table, wanted, *number))
+        .collect(alloc)
+}
+
+/// Those of these numbers who share the place of the first.
+fn sharing(alloc: Global, table: &RoundTable, numbers: &[u16]) -> Result<Vec<u16>, NoMemory>
+    ensures { IfOk result (λ kept. kept.items ≡ sharing table.now numbers.now) }
+{
+    match numbers.first() {
+        Some(first) => those_placed(alloc, table, table.place(*first), numbers),
+        None => Ok(Vec::new(alloc)),
+    }
+}
+
+/// Adds that these are tied at the border where so many could go on.
+fn push_tied_list(
+    out: &mut Vec<u8>,
+    meet: &Meet,
+    id: RoundId,
+    most: u16,
+    numbers: &[u16],
+) -> Result<(), NoMemory>
+    ensures { OnOk result (out.new.items
+        ≡ out.old.items ++ tied_list meet.now.accepted id most numbers.now) }
+{
     push_pieces(
         out,
         &[
             Piece::Html(b"<p class=\"told\">"),
             Piece::Number(most as u64),
             Piece::Html(
-                b" could go on: the others are tied at the border, or have no result.</p>\n",
+                b" could go on, but these are tied at the border, so none of them goes on:</p>\n\
+<ul>\n",
             ),
+        ],
+    )?;
+    push_entrants(out, meet, id, numbers)?;
+    out.extend_from_slice(b"</ul>\n")
+}
+
+/// Adds that nobody is tied where so many could go on.
+fn push_untied(out: &mut Vec<u8>, most: u16) -> Result<(), NoMemory>
+    ensures { OnOk result (out.new.items ≡ out.old.items ++ untied most) }
+{
+    push_pieces(
+        out,
+        &[
+            Piece::Html(b"<p class=\"told\">"),
+            Piece::Number(most as u64),
+            Piece::Html(b" could go on: the others have no result.</p>\n"),
         ],
     )
 }
 
-/// Adds these as those who go on, of whom there could be so many.
+/// Adds who is tied at the border where so many could go on, or that nobody is.
+fn push_tied(
+    out: &mut Vec<u8>,
+    meet: &Meet,
+    id: RoundId,
+    most: u16,
+    numbers: &[u16],
+) -> Result<(), NoMemory>
+    ensures { OnOk result (out.new.items
+        ≡ out.old.items ++ tied meet.now.accepted id most numbers.now) }
+{
+    if numbers.is_empty() {
+        push_untied(out, most)
+    } else {
+        push_tied_list(out, meet, id, most, numbers)
+    }
+}
+
+/// Adds who is tied at the border of a rule by which so many could go on.
+fn push_tied_by(
+    out: &mut Vec<u8>,
+    meet: &Meet,
+    id: RoundId,
+    table: &RoundTable,
+    advance: Advance,
+    most: u16,
+) -> Result<(), NoMemory>
+    ensures { OnOk result (out.new.items ≡ out.old.items
+        ++ tied meet.now.accepted id most (sharing table.now (waiting table.now advance))) }
+{
+    let waiting = waiting(*out.allocator(), table, advance)?;
+    let tied = sharing(*out.allocator(), table, &waiting)?;
+    push_tied(out, meet, id, most, &tied)
+}
+
+/// Adds whom a tie keeps out, where fewer go on than could.
+fn push_tie(
+    out: &mut Vec<u8>,
+    meet: &Meet,
+    id: RoundId,
+    table: &RoundTable,
+    advance: Advance,
+    most: u16,
+    through: usize,
+) -> Result<(), NoMemory>
+    ensures { OnOk result (out.new.items
+        ≡ out.old.items ++ tie meet.now.accepted id table.now advance most through) }
+{
+    if through >= usize::from(most) {
+        return Ok(());
+    }
+    push_tied_by(out, meet, id, table, advance, most)
+}
+
+/// Adds these as those who go on by a rule, of so many who could.
 fn push_list_through(
     out: &mut Vec<u8>,
     meet: &Meet,
     id: RoundId,
-    numbers: &[u16],
+    table: &RoundTable,
+    advance: Advance,
     most: u16,
+    numbers: &[u16],
 ) -> Result<(), NoMemory>
     ensures { OnOk result (out.new.items
-        ≡ out.old.items ++ list_through meet.now.accepted id numbers.now most) }
+        ≡ out.old.items ++ list_through meet.now.accepted id table.now advance most numbers.now) }
 {
     push_pieces(
         out,
@@ -64,7 +182,7 @@ fn push_list_through(
     )?;
     push_entrants(out, meet, id, numbers)?;
     out.extend_from_slice(b"</ol>\n")?;
-    push_tie(out, numbers.len(), most)
+    push_tie(out, meet, id, table, advance, most, numbers.len())
 }
 
 /// Adds who goes on by a rule.
@@ -76,10 +194,11 @@ fn push_through_by(
     advance: Advance,
 ) -> Result<(), NoMemory>
     ensures { OnOk result (out.new.items ≡ out.old.items ++ list_through meet.now.accepted id
-        (advancing table.now advance) (quota advance (started table.now))) }
+        table.now advance (quota advance (started table.now)) (advancing table.now advance)) }
 {
     let numbers = advancing(*out.allocator(), table, advance)?;
-    push_list_through(out, meet, id, &numbers, quota(advance, table.started()))
+    let most = quota(advance, table.started());
+    push_list_through(out, meet, id, table, advance, most, &numbers)
 }
 
 /// Adds who goes on, if the round is closed as it stands.
@@ -113,14 +232,17 @@ fn push_change(
     ensures { OnOk result (out.new.items
         ≡ out.old.items ++ change token.now form id advance back.now) }
 {
-    out.extend_from_slice(b"<h2>Change who goes on</h2>\n")?;
+    out.extend_from_slice(
+        b"<h2>Change who goes on</h2>\n<p>The button sets who goes on to what is chosen here, and \
+changes nothing else.</p>\n",
+    )?;
     push_form(out, token, form, b"ADV", back)?;
     push_round_value(out, id)?;
     push_advance(out, advance)?;
     push_button(out, b"Change who goes on")
 }
 
-/// What becomes of a round that is closed: from edition 3 on it can be opened again.
+/// What becomes of a round that is closed: from edition 4 on it can be opened again.
 fn closing_words(mends: bool) -> &'static [u8]
     ensures { result.now ≡ closing_words mends }
 {
@@ -194,7 +316,7 @@ pub(crate) fn push_open_round(
     )?;
     push_close(
         out,
-        mends(meet),
+        is_latest(meet),
         around.token,
         id_at(around.ids, 0),
         id,

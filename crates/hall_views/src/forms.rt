@@ -1,8 +1,8 @@
 //! Forms that send commands.
 
 ghost use Rattle.std.specs.Prelude.{◌≡◌, ◌++◌, ◌<◌, IfOk, OnOk, decimal, get_or};
-ghost use Rattle.hall_views.specs.Forms.{button, choice, form_start, path_of, person_path};
-ghost use Rattle.hall_views.specs.Forms.{round_value, text_field, unseen};
+ghost use Rattle.hall_views.specs.Forms.{button, choice, commands_word, form_start, path_of};
+ghost use Rattle.hall_views.specs.Forms.{person_path, round_value, text_field, unit_field, unseen};
 
 use acceptor::NoMemory;
 use attempts::push_decimal;
@@ -105,6 +105,44 @@ pub(crate) fn push_text_field<'a>(
             Piece::Html(b"\"></label>\n"),
         ],
     )
+}
+
+/// Adds a field with a label, and with the unit in which a script reads what is in it.
+pub(crate) fn push_unit_field<'a>(
+    out: &mut Vec<u8>,
+    name: &'a [u8],
+    label: &'a [u8],
+    unit: &'a [u8],
+    value: &'a [u8],
+) -> Result<(), NoMemory>
+    ensures { OnOk result (out.new.items
+        ≡ out.old.items ++ unit_field name.now label.now unit.now value.now) }
+{
+    push_pieces(
+        out,
+        &[
+            Piece::Html(b"<label>"),
+            Piece::Html(label),
+            Piece::Html(b" <input name=\""),
+            Piece::Html(name),
+            Piece::Html(b"\" data-unit=\""),
+            Piece::Html(unit),
+            Piece::Html(b"\" value=\""),
+            Piece::Text(value),
+            Piece::Html(b"\"></label>\n"),
+        ],
+    )
+}
+
+/// The word after a number of commands.
+pub(crate) fn commands_word(count: usize) -> &'static [u8]
+    ensures { result.now ≡ commands_word count }
+{
+    if count == 1 {
+        b" command"
+    } else {
+        b" commands"
+    }
 }
 
 /// Adds one of the values that can be chosen.

@@ -7,9 +7,11 @@ ghost use Rattle.hall_views.specs.Opening.{after_mark, amount_of, border_text, c
 ghost use Rattle.hall_views.specs.Opening.{cutoff_fields, rule_fields};
 ghost use Rattle.hall_views.specs.Opening.{cutoff_select, format_choice, format_mark, limit_field};
 ghost use Rattle.hall_views.specs.Opening.{most_attempts, opening, opening_head};
-ghost use Rattle.hall_views.specs.Opening.{proposed_limit};
+ghost use Rattle.hall_views.specs.Opening.{border_field, come_head, come_word, proposed_limit};
 
-use crate::forms::{digits_of, path_of, push_button, push_form, push_round_value, push_text_field};
+use crate::forms::{
+    digits_of, path_of, push_button, push_form, push_round_value, push_text_field, push_unit_field,
+};
 use crate::proposal::Proposal;
 use acceptor::NoMemory;
 use attempts::{Unit, Value, print_value};
@@ -129,6 +131,29 @@ fn border_text(alloc: Global, unit: Unit, cutoff: Option<(u8, u32)>) -> Result<V
     }
 }
 
+/// Adds the field of what a cutoff has to be below, in this unit.
+fn push_border(out: &mut Vec<u8>, unit: Unit, border: &[u8]) -> Result<(), NoMemory>
+    ensures { OnOk result (out.new.items ≡ out.old.items ++ border_field unit border.now) }
+{
+    match unit {
+        Unit::Time => push_unit_field(
+            out,
+            b"cutoff",
+            b"one of them below (minutes and seconds as on a card: 15 is 0.15)",
+            b"time",
+            border,
+        ),
+        Unit::Moves => push_unit_field(
+            out,
+            b"cutoff",
+            b"one of them below (a number of moves)",
+            b"moves",
+            border,
+        ),
+        Unit::Multi => Ok(()),
+    }
+}
+
 /// Adds the fields of a cutoff, in this unit.
 fn push_cutoff_select(
     out: &mut Vec<u8>,
@@ -145,7 +170,7 @@ fn push_cutoff_select(
     )?;
     push_each_after(out, cutoff, &AFTER[..most_attempts(event)])?;
     out.extend_from_slice(b"</select> attempts</label>\n")?;
-    push_text_field(out, b"cutoff", b"one of them below (as 15.00)", &border)
+    push_border(out, unit, &border)
 }
 
 /// Adds the fields of a cutoff, which multi-blind has not. What stands of it is filled in.
@@ -176,7 +201,13 @@ fn push_limit(out: &mut Vec<u8>, event: Event, proposed: Option<u32>) -> Result<
 {
     let limit = proposed_limit(*out.allocator(), proposed)?;
     match unit_of(event) {
-        Unit::Time => push_text_field(out, b"limit", b"Time limit", &limit),
+        Unit::Time => push_unit_field(
+            out,
+            b"limit",
+            b"Time limit (minutes and seconds as on a card: 10 is 0.10)",
+            b"time",
+            &limit,
+        ),
         Unit::Moves | Unit::Multi => Ok(()),
     }
 }
@@ -257,26 +288,41 @@ pub(crate) fn push_rule_fields(
     push_limit(out, event, limit)
 }
 
-/// Adds that what the form has is proposed, and how many come into the round.
+/// The word after how many come into a round.
+fn come_word(count: u16) -> &'static [u8]
+    ensures { result.now ≡ come_word count }
+{
+    if count == 1 { b" comes" } else { b" come" }
+}
+
+/// Adds how many come into the round, that what the form has is proposed, and what its button does.
+fn push_come(out: &mut Vec<u8>, come: u16) -> Result<(), NoMemory>
+    ensures { OnOk result (out.new.items ≡ out.old.items ++ come_head come) }
+{
+    push_pieces(
+        out,
+        &[
+            Piece::Html(b"<h2>Open the round</h2>\n<p>"),
+            Piece::Number(come as u64),
+            Piece::Html(come_word(come)),
+            Piece::Html(
+                b" into this round. What is chosen here is proposed, after the round before: \
+change ",
+            ),
+            Piece::Html(b"what you like. The button opens the round as the fields say.</p>\n"),
+        ],
+    )
+}
+
+/// Adds that what the form has is proposed, how many come into the round, and what the button does.
 fn push_head(out: &mut Vec<u8>, come: Option<u16>) -> Result<(), NoMemory>
     ensures { OnOk result (out.new.items ≡ out.old.items ++ opening_head come) }
 {
     match come {
-        Some(come) => push_pieces(
-            out,
-            &[
-                Piece::Html(b"<h2>Open the round</h2>\n<p>"),
-                Piece::Number(come as u64),
-                Piece::Html(
-                    b" come into this round. What is chosen here is proposed, after the round \
-before: ",
-                ),
-                Piece::Html(b"change what you like.</p>\n"),
-            ],
-        ),
+        Some(come) => push_come(out, come),
         None => out.extend_from_slice(
-            b"<h2>Open the round</h2>\n<p>What is chosen here is proposed: \
-change what you like.</p>\n",
+            b"<h2>Open the round</h2>\n<p>What is chosen here is proposed: change what you like. \
+The button opens the round as the fields say.</p>\n",
         ),
     }
 }

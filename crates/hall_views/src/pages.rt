@@ -2,7 +2,6 @@
 
 ghost use Rattle.std.specs.Prelude.{◌≡◌, ◌++◌, IfOk, OnOk, codes, length};
 ghost use Rattle.table_views.specs.Frame.{bottom, top};
-ghost use Rattle.table_views.specs.Logs.{accepted_in};
 ghost use Rattle.table_views.specs.Recent.{recent_section};
 
 use acceptor::NoMemory;
@@ -26,15 +25,8 @@ pub(crate) fn start_page(
 /// Adds the cards and commands of late, and the end of the page.
 pub(crate) fn push_end(page: &mut Vec<u8>, around: &Around<'_>) -> Result<(), NoMemory>
     ensures { OnOk result (page.new.items ≡ page.old.items
-        ++ recent_section (accepted_in around.entry.now.mirror.now) around.entry.now.desks.now
-        around.entry.now.now around.entry.now.recent.now ++ bottom) }
+        ++ recent_section around.entry.now ++ bottom) }
 {
-    push_recent(
-        page,
-        around.mirror.meet(),
-        around.desks,
-        around.now,
-        around.recent,
-    )?;
+    push_recent(page, around)?;
     push_bottom(page)
 }

@@ -146,7 +146,10 @@ fn push_registering(
         ≡ out.old.items ++ registering token.now form number) }
 {
     let digits = digits_of(*out.allocator(), number as u32)?;
-    out.extend_from_slice(b"<h2>Register a competitor</h2>\n")?;
+    out.extend_from_slice(
+        b"<h2>Register a competitor</h2>\n<p>The button gives the number, which nobody may have \
+yet, to this name.</p>\n",
+    )?;
     push_form(out, token, form, b"REG", b"/people")?;
     push_text_field(out, b"number", b"Number", &digits)?;
     push_text_field(out, b"name", b"Name", b"")?;
@@ -158,7 +161,10 @@ fn push_entering(out: &mut Vec<u8>, meet: &Meet, token: &[u8], form: FormId) -> 
     ensures { OnOk result (out.new.items
         ≡ out.old.items ++ entering meet.now.accepted token.now form) }
 {
-    out.extend_from_slice(b"<h2>Enter a competitor in an event</h2>\n")?;
+    out.extend_from_slice(
+        b"<h2>Enter a competitor in an event</h2>\n<p>The button enters the competitor in the \
+first round of the event.</p>\n",
+    )?;
     push_form(out, token, form, b"ENT", b"/people")?;
     out.extend_from_slice(b"<label>Event <select name=\"event\">\n")?;
     push_open_events(out, meet, &Event::ALL)?;
@@ -179,7 +185,8 @@ From a competition's file or from lines</a></p>\n",
     push_registering(out, around.token, id_at(around.ids, 0), free_number(meet))?;
     push_entering(out, meet, around.token, id_at(around.ids, 1))?;
     out.extend_from_slice(
-        b"<table><thead><tr><th>number</th><th>name</th><th>events</th></tr></thead><tbody>\n",
+        b"<table><caption>Who is registered</caption>\n<thead><tr><th scope=\"col\">number</th>\
+<th scope=\"col\">name</th><th scope=\"col\">events</th></tr></thead><tbody>\n",
     )?;
     push_competitors(out, meet, LAST_NUMBER)?;
     out.extend_from_slice(b"</tbody></table></section>\n")

@@ -1,14 +1,13 @@
 //! The page of a competitor: another name, and withdrawing from a round.
 
 ghost use Rattle.std.specs.Prelude.{◌≡◌, ◌++◌, IfOk, OnOk, flat_map, option_map};
-ghost use Rattle.hall_views.specs.Editions.{edition_form};
+ghost use Rattle.table_views.specs.Editions.{edition_form};
 ghost use Rattle.hall_views.specs.Forms.{person_path};
 ghost use Rattle.hall_views.specs.Person.{leave_button, leave_event};
 ghost use Rattle.hall_views.specs.Person.{leave_in, mending, mending_or_edition};
 ghost use Rattle.hall_views.specs.Person.{page_of, person_form, person_page};
 ghost use Rattle.hall_views.specs.Person.{person_section, renaming, withdrawing, withdrawing_if};
 
-use crate::editions::{mends, push_edition_form};
 use crate::forms::{
     digits_of, id_at, person_path, push_button, push_form, push_text_field, push_unseen,
 };
@@ -23,7 +22,7 @@ use markup::{Piece, push_pieces};
 use round_counts::round_opened;
 use round_words::{push_round_name, push_round_words};
 use std::alloc::Global;
-use table_views::{Around, may_leave};
+use table_views::{Around, is_latest, may_leave, push_edition_form};
 use texts::RoundId;
 
 /// Adds the beginning of a form for a competitor, whose number it carries unseen.
@@ -54,7 +53,10 @@ fn push_renaming(
     ensures { OnOk result (out.new.items
         ≡ out.old.items ++ renaming token.now form number name.now) }
 {
-    out.extend_from_slice(b"<h2>Change the name</h2>\n")?;
+    out.extend_from_slice(
+        b"<h2>Change the name</h2>\n<p>The button gives this number the name in the field, \
+everywhere.</p>\n",
+    )?;
     push_person_form(out, token, form, b"REN", number)?;
     push_text_field(out, b"name", b"Name", name)?;
     push_button(out, b"Change the name")
@@ -153,7 +155,7 @@ fn push_withdrawing_if(
     }
 }
 
-/// Adds the forms of edition 3.
+/// Adds the forms of edition 4.
 fn push_mending(
     out: &mut Vec<u8>,
     around: &Around<'_>,
@@ -168,7 +170,7 @@ fn push_mending(
     push_withdrawing_if(out, around.token, id_at(around.ids, 1), number, &buttons)
 }
 
-/// Adds the form that moves to edition 3. After it the browser goes to the competitor's page.
+/// Adds the form that moves to edition 4. After it the browser goes to the competitor's page.
 fn push_edition(out: &mut Vec<u8>, token: &[u8], form: FormId, number: u16) -> Result<(), NoMemory>
     ensures { OnOk result (out.new.items
         ≡ out.old.items ++ edition_form token.now form (person_path number)) }
@@ -177,7 +179,7 @@ fn push_edition(out: &mut Vec<u8>, token: &[u8], form: FormId, number: u16) -> R
     push_edition_form(out, token, form, &back)
 }
 
-/// Adds the forms of edition 3, or the form that moves to it.
+/// Adds the forms of edition 4, or the form that moves to it.
 fn push_mending_or_edition(
     out: &mut Vec<u8>,
     around: &Around<'_>,
@@ -187,7 +189,7 @@ fn push_mending_or_edition(
     ensures { OnOk result (out.new.items
         ≡ out.old.items ++ mending_or_edition around.entry.now number name.now) }
 {
-    if mends(around.mirror.meet()) {
+    if is_latest(around.mirror.meet()) {
         push_mending(out, around, number, name)
     } else {
         push_edition(out, around.token, id_at(around.ids, 0), number)
@@ -237,9 +239,9 @@ fn page_of(
 
 /// The page of a competitor; none where nobody has the number.
 ///
-/// It has the name, the number and the events in whose first round the competitor is. In edition 3
+/// It has the name, the number and the events in whose first round the competitor is. In edition 4
 /// it has a form that gives another name, and one that withdraws from each open round in which the
-/// competitor is and has no attempt; before it, the form that moves to edition 3.
+/// competitor is and has no attempt; before it, the form that moves to edition 4.
 pub fn person_page(
     alloc: Global,
     around: &Around<'_>,

@@ -4,10 +4,10 @@ ghost use Rattle.std.specs.Prelude.{◌≡◌, ◌++◌, IfOk, OnOk, count_by, f
 ghost use Rattle.hall_views.specs.Preview.{enter_words, entered_all, entered_line};
 ghost use Rattle.hall_views.specs.Preview.{entered_list, is_entered, lists, preview_page};
 ghost use Rattle.hall_views.specs.Preview.{preview_section, refused_item, refused_line};
-ghost use Rattle.hall_views.specs.Preview.{refused_list, sent_line, would_enter};
+ghost use Rattle.hall_views.specs.Preview.{refused_list, sent_line, told, would_enter};
 
-use crate::forms::id_at;
-use crate::lines::{push_line, push_lines_form};
+use crate::forms::{commands_word, id_at};
+use crate::line_forms::{ENTERS, push_line, push_lines_form};
 use crate::pages::start_page;
 use acceptor::NoMemory;
 use card_forms::FormId;
@@ -123,9 +123,9 @@ fn enter_words(alloc: Global, count: usize) -> Result<Vec<u8>, NoMemory>
     push_pieces(
         &mut words,
         &[
-            Piece::Html(b"Enter these "),
+            Piece::Html(b"Enter "),
             Piece::Number(count as u64),
-            Piece::Html(b" commands"),
+            Piece::Html(commands_word(count)),
         ],
     )?;
     Ok(words)
@@ -147,7 +147,7 @@ fn push_entered_all(
     out.extend_from_slice(b"<h2>To enter</h2>\n<ol>\n")?;
     push_entered_lines(out, tried)?;
     out.extend_from_slice(b"</ol>\n")?;
-    push_lines_form(out, token, id, b"/import", &lines, &words)
+    push_lines_form(out, ENTERS, token, id, b"/import", &lines, &words)
 }
 
 /// Adds those that would be entered, and the form that enters them, where there are any.
@@ -168,6 +168,23 @@ fn push_entered(
     }
 }
 
+/// Adds how many of the commands would be entered, and how many refused.
+fn push_told(out: &mut Vec<u8>, entered: usize, refused: usize) -> Result<(), NoMemory>
+    ensures { OnOk result (out.new.items ≡ out.old.items ++ told entered refused) }
+{
+    push_pieces(
+        out,
+        &[
+            Piece::Html(b"<section><h1>What would be entered</h1>\n<p class=\"told\">"),
+            Piece::Number(entered as u64),
+            Piece::Html(commands_word(entered)),
+            Piece::Html(b" would be entered, and "),
+            Piece::Number(refused as u64),
+            Piece::Html(b" would not.</p>\n"),
+        ],
+    )
+}
+
 /// Adds the section of commands of which so many would be entered, and so many refused.
 fn push_lists(
     out: &mut Vec<u8>,
@@ -179,16 +196,7 @@ fn push_lists(
     ensures { OnOk result (out.new.items
         ≡ out.old.items ++ lists around.entry.now entered refused tried.now) }
 {
-    push_pieces(
-        out,
-        &[
-            Piece::Html(b"<section><h1>What would be entered</h1>\n<p class=\"told\">"),
-            Piece::Number(entered as u64),
-            Piece::Html(b" commands would be entered, and "),
-            Piece::Number(refused as u64),
-            Piece::Html(b" would not.</p>\n"),
-        ],
-    )?;
+    push_told(out, entered, refused)?;
     push_refused(out, refused, tried)?;
     push_entered(out, around.token, id_at(around.ids, 0), entered, tried)?;
     out.extend_from_slice(

@@ -1,7 +1,7 @@
 //! The pages of a form that asks for no command.
 
 ghost use Rattle.std.specs.Prelude.{◌≡◌, ◌++◌, IfOk, OnOk};
-ghost use Rattle.hall_views.specs.Refused.{faults, faults_page, refusal, refused_page};
+ghost use Rattle.hall_views.specs.Refused.{faults_page, refused_page, why_page, why_section};
 
 use crate::pages::start_page;
 use acceptor::NoMemory;
@@ -9,20 +9,47 @@ use markup::{Piece, push_pieces};
 use std::alloc::Global;
 use table_views::{Around, push_bottom};
 
-/// Adds why, with a link back.
-fn push_refusal<'a>(out: &mut Vec<u8>, back: &'a [u8], why: &'a [u8]) -> Result<(), NoMemory>
-    ensures { OnOk result (out.new.items ≡ out.old.items ++ refusal back.now why.now) }
+/// Adds why, between these, with a link back.
+fn push_why<'a>(
+    out: &mut Vec<u8>,
+    start: &'a [u8],
+    end: &'a [u8],
+    back: &'a [u8],
+    why: &'a [u8],
+) -> Result<(), NoMemory>
+    ensures { OnOk result (out.new.items
+        ≡ out.old.items ++ why_section start.now end.now back.now why.now) }
 {
     push_pieces(
         out,
         &[
-            Piece::Html(b"<section><h1>Not sent</h1>\n<p><strong role=\"alert\">"),
+            Piece::Html(start),
             Piece::Text(why),
-            Piece::Html(b"</strong></p>\n<p><a href=\""),
+            Piece::Html(end),
+            Piece::Html(b"<p><a href=\""),
             Piece::Text(back),
             Piece::Html(b"\">Back to the form</a></p></section>\n"),
         ],
     )
+}
+
+/// A page of this title that says why, between these, with a link back.
+fn why_page(
+    alloc: Global,
+    title: &[u8],
+    start: &[u8],
+    end: &[u8],
+    around: &Around<'_>,
+    back: &[u8],
+    why: &[u8],
+) -> Result<Vec<u8>, NoMemory>
+    ensures { IfOk result (λ page. page.items
+        ≡ why_page title.now start.now end.now around.entry.now back.now why.now) }
+{
+    let mut page = start_page(alloc, around, title)?;
+    push_why(&mut page, start, end, back, why)?;
+    push_bottom(&mut page)?;
+    Ok(page)
 }
 
 /// The page that says why a form asks for no command, with a link back to the page of the form.
@@ -34,25 +61,14 @@ pub fn refused_page(
 ) -> Result<Vec<u8>, NoMemory>
     ensures { IfOk result (λ page. page.items ≡ refused_page around.entry.now back.now why.now) }
 {
-    let mut page = start_page(alloc, around, b"Not sent")?;
-    push_refusal(&mut page, back, why)?;
-    push_bottom(&mut page)?;
-    Ok(page)
-}
-
-/// Adds why, in several lines, with a link back.
-fn push_faults<'a>(out: &mut Vec<u8>, back: &'a [u8], lines: &'a [u8]) -> Result<(), NoMemory>
-    ensures { OnOk result (out.new.items ≡ out.old.items ++ faults back.now lines.now) }
-{
-    push_pieces(
-        out,
-        &[
-            Piece::Html(b"<section><h1>Not entered</h1>\n<pre role=\"alert\">"),
-            Piece::Text(lines),
-            Piece::Html(b"</pre>\n<p><a href=\""),
-            Piece::Text(back),
-            Piece::Html(b"\">Back to the form</a></p></section>\n"),
-        ],
+    why_page(
+        alloc,
+        b"Not sent",
+        b"<section><h1>Not sent</h1>\n<p><strong role=\"alert\">",
+        b"</strong></p>\n",
+        around,
+        back,
+        why,
     )
 }
 
@@ -66,8 +82,13 @@ pub fn faults_page(
 ) -> Result<Vec<u8>, NoMemory>
     ensures { IfOk result (λ page. page.items ≡ faults_page around.entry.now back.now faults.now) }
 {
-    let mut page = start_page(alloc, around, b"Not entered")?;
-    push_faults(&mut page, back, faults)?;
-    push_bottom(&mut page)?;
-    Ok(page)
+    why_page(
+        alloc,
+        b"Not entered",
+        b"<section><h1>Not entered</h1>\n<pre role=\"alert\">",
+        b"</pre>\n",
+        around,
+        back,
+        faults,
+    )
 }

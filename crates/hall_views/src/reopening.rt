@@ -3,14 +3,13 @@
 ghost use Rattle.std.specs.Prelude.{◌≡◌, ◌++◌, OnOk};
 ghost use Rattle.hall_views.specs.Reopening.{again, again_form, is_followed};
 
-use crate::editions::mends;
 use crate::forms::{id_at, path_of, push_button, push_form, push_round_value};
 use acceptor::NoMemory;
 use card_forms::FormId;
 use commands::Meet;
 use formats::LAST_ROUND;
 use round_counts::round_opened;
-use table_views::Around;
+use table_views::{Around, is_latest};
 use texts::RoundId;
 
 /// Whether the next round is opened.
@@ -43,8 +42,8 @@ fn push_again_form(
     push_button(out, b"Open it again")
 }
 
-/// Adds the form that opens a closed round again, unless the next one is opened: in edition 3;
-/// before it, what edition 3 would allow.
+/// Adds the form that opens a closed round again, unless the next one is opened: in edition 4;
+/// before it, what edition 4 would allow.
 pub(crate) fn push_again(
     out: &mut Vec<u8>,
     around: &Around<'_>,
@@ -56,10 +55,10 @@ pub(crate) fn push_again(
     if is_followed(meet, id) {
         return Ok(());
     }
-    if mends(meet) {
+    if is_latest(meet) {
         return push_again_form(out, around.token, id_at(around.ids, 0), id);
     }
     out.extend_from_slice(
-        b"<p>With <a href=\"/rounds\">edition 3</a> it could be opened again.</p>\n",
+        b"<p>With <a href=\"/rounds\">edition 4</a> it could be opened again.</p>\n",
     )
 }

@@ -14,7 +14,6 @@ ghost use Rattle.hall_views.specs.Rounds.{link_after, link_in, link_to_next, row
 ghost use Rattle.hall_views.specs.Rounds.{running_forms, unopened_forms};
 
 use crate::closing::{push_open_round, push_through};
-use crate::editions::{mends, push_edition_form};
 use crate::forms::id_at;
 use crate::opening::push_opening;
 use crate::pages::{push_end, start_page};
@@ -28,7 +27,7 @@ use markup::{Piece, push_pieces};
 use round_counts::{Opened, round_opened};
 use round_words::{event_words, push_round_name, push_round_words, push_settings};
 use std::alloc::Global;
-use table_views::Around;
+use table_views::{Around, is_latest, push_edition_form};
 use texts::RoundId;
 
 /// The rounds that an event can have.
@@ -159,12 +158,12 @@ fn push_events(out: &mut Vec<u8>, meet: &Meet, events: &[Event]) -> Result<(), N
     Ok(())
 }
 
-/// Adds the form that moves to edition 3, until it holds.
+/// Adds the form that moves to edition 4, until it holds.
 fn push_edition(out: &mut Vec<u8>, around: &Around<'_>) -> Result<(), NoMemory>
     ensures { OnOk result (out.new.items ≡ out.old.items ++ edition_section around.entry.now) }
 {
-    if mends(around.mirror.meet()) {
-        out.extend_from_slice(b"<p>Edition 3 of the commands holds.</p>\n")
+    if is_latest(around.mirror.meet()) {
+        out.extend_from_slice(b"<p>Edition 4 of the commands holds.</p>\n")
     } else {
         push_edition_form(out, around.token, id_at(around.ids, 0), b"/rounds")
     }
@@ -174,7 +173,9 @@ fn push_edition(out: &mut Vec<u8>, around: &Around<'_>) -> Result<(), NoMemory>
 fn push_all(out: &mut Vec<u8>, around: &Around<'_>) -> Result<(), NoMemory>
     ensures { OnOk result (out.new.items ≡ out.old.items ++ all_section around.entry.now) }
 {
-    out.extend_from_slice(b"<section><h1>Open and close rounds</h1>\n<table><tbody>\n")?;
+    out.extend_from_slice(
+        b"<section><h1>Open and close rounds</h1>\n<table><caption>By event</caption><tbody>\n",
+    )?;
     push_events(out, around.mirror.meet(), &Event::ALL)?;
     out.extend_from_slice(b"</tbody></table>\n")?;
     push_edition(out, around)?;

@@ -6,7 +6,6 @@ ghost use Rattle.hall_views.specs.Scrambles.{scramble_at, scramble_form, scrambl
 ghost use Rattle.hall_views.specs.Scrambles.{all_scrambles, rescrambling};
 ghost use Rattle.hall_views.specs.Scrambles.{scrambles, standing_scramble};
 
-use crate::editions::mends;
 use crate::forms::{
     digits_of, id_at, path_of, push_button, push_form, push_round_value, push_text_field,
 };
@@ -16,7 +15,7 @@ use commands::Meet;
 use cube::Move;
 use formats::{Event, Format, attempts_of};
 use markup::{Piece, push_pieces};
-use table_views::Around;
+use table_views::{Around, is_latest};
 use texts::RoundId;
 
 /// What a form with a scramble says.
@@ -52,7 +51,7 @@ fn push_scramble_form(
     push_button(out, wording.button)
 }
 
-/// Adds the form that changes the scramble of an attempt from these moves, in edition 3.
+/// Adds the form that changes the scramble of an attempt from these moves, in edition 4.
 fn push_rescrambling(
     out: &mut Vec<u8>,
     mends: bool,
@@ -117,7 +116,7 @@ fn push_scramble(
         ≡ out.old.items ++ scramble_at meet.now.accepted token.now form id attempt) }
 {
     match meet.scramble(id.event, id.round, attempt) {
-        Some(moves) => push_standing(out, mends(meet), moves, token, form, id, attempt),
+        Some(moves) => push_standing(out, is_latest(meet), moves, token, form, id, attempt),
         None => {
             let wording = Wording {
                 command: b"SCR",
@@ -154,7 +153,10 @@ fn push_all(out: &mut Vec<u8>, around: &Around<'_>, id: RoundId, count: u8) -> R
     ensures { OnOk result (out.new.items
         ≡ out.old.items ++ all_scrambles around.entry.now id count) }
 {
-    out.extend_from_slice(b"<h2>Scrambles</h2>\n")?;
+    out.extend_from_slice(
+        b"<h2>Scrambles</h2>\n<p>Each button sets the scramble of its attempt to the moves in its \
+field.</p>\n",
+    )?;
     push_scramble_if(out, around, id_at(around.ids, 2), id, count, 1)?;
     push_scramble_if(out, around, id_at(around.ids, 3), id, count, 2)?;
     push_scramble_if(out, around, id_at(around.ids, 4), id, count, 3)

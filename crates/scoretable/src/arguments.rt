@@ -1,6 +1,5 @@
 //! The arguments of the program, and how it ends.
 
-use card_queue::JournalFault;
 use clap::builder::ValueParser;
 use clap::{Arg, ArgAction, ArgMatches, Command, Error};
 use command_line::borrowed;
@@ -10,12 +9,13 @@ use hall_file::hall_options::{
 };
 use hall_standings::Hall;
 use http_server::Config;
+use outbox::JournalFault;
 use page_sockets::browsers_at;
 use pages::Terms;
 use std::alloc::{AllocError, Global};
 use std::io::Write;
 use std::net::SocketAddr;
-use table_service::{End, FileFault, Opened, PROGRAM, open_journal, serve};
+use table_service::{End, FileFault, Opened, PROGRAM, hall_name, open_journal, serve};
 
 const ABOUT: &str = "Takes scorecards in a browser, and enters them at the desks of a hall.";
 
@@ -43,9 +43,9 @@ Whoever reaches ADDR can enter results, so it has to be an address of this machi
 127.0.0.1:8081, unless --open-network is given.
 
 Exit status: 2 invalid arguments, or help or the version; 3 FILE describes no hall, the key's file
-gives no key, or the journal is damaged; 4 an invalid address, the journal cannot be used, cannot
-listen, cannot go on, or two desks told different entries; 5 no memory. Standard error gets a line
-that says why.";
+gives no key, or the journal is damaged, of another hall, or of an earlier scoretable; 4 an invalid
+address, the journal cannot be used, cannot listen, cannot go on, or two desks told different
+entries; 5 no memory. Standard error gets a line that says why.";
 
 /// The most browsers whose connections are open at once. With the longest bodies they take half a
 /// GiB.
@@ -128,7 +128,10 @@ fn order_of<'a>(rt: &HostRuntime, found: &ArgMatches<'a>) -> Result<Order, Refus
         return Err(Refusal::Wrong(Mistake::NoMemory));
     };
     let path = found.get_str("journal").unwrap_or(JOURNAL);
-    match open_journal(rt, path, 0) {
+    let Ok(name) = hall_name(rt.alloc(), hall.hall, &hall.desks) else {
+        return Err(Refusal::Wrong(Mistake::NoMemory));
+    };
+    match open_journal(rt, path, &name, 0) {
         Ok(journal) => Ok(Order {
             hall,
             title,

@@ -1,9 +1,11 @@
 -- What is planned for several commands, and for lines and files that are looked at.
-use Rattle.std.proofs.Common.{◌≡◌, ◌∙◌, ℕ, List, Vec, Global, Bool, false, Result, Ok, Err, Option}
-use Rattle.std.proofs.Common.{None, codes, inl, inr, refl, subst, sym}
+use Rattle.std.proofs.Common.{◌≡◌, ◌∙◌, ◌||◌, ℕ, List, Vec, Global, Bool, true, false, Result, Ok}
+use Rattle.std.proofs.Common.{Err, Option, None, ap, bytes_eq, codes, inl, inr, refl, subst, sym}
 use Rattle.std.specs.Prelude.{IfOk}
 use Rattle.std.specs.declared.alloc.AllocError.{AllocError}
+use Rattle.acceptor.specs.declared.entry.Entry.{Entry}
 use Rattle.card_forms.specs.declared.pairs.Pair.{Pair}
+use Rattle.card_forms.specs.Entries.{command_entries}
 use Rattle.card_forms.specs.Pairs.{value_of}
 use Rattle.command_lists.specs.declared.file.FileLines.{FileLines}
 use Rattle.command_lists.specs.declared.file.FileLines.TheVariants as file
@@ -11,6 +13,7 @@ use Rattle.command_lists.specs.Answered.{first_refusal}
 use Rattle.command_lists.specs.Files.{IsOfFile}
 use Rattle.command_lists.specs.Lists.{AreUnfit, IsReadFrom}
 use Rattle.hall_views.specs.Refused.{faults_page}
+use Rattle.outbox.specs.Items.{ItemsOf}
 use Rattle.wcif.specs.declared.file.FileFault.{FileFault}
 use Rattle.wcif.specs.declared.options.Options.{Options}
 use Rattle.table_views.specs.declared.around.Around.{Around}
@@ -19,10 +22,13 @@ use Rattle.table_service.specs.declared.plan.Plan.{Plan}
 use Rattle.table_service.specs.declared.plan.Reply.TheVariants as reply
 use Rattle.table_service.specs.declared.plan.Shown.{Shown}
 use Rattle.table_service.specs.declared.plan.Shown.TheVariants as shown
-use Rattle.table_service.specs.Imports.{PlansFile}
+use Rattle.table_service.specs.Imports.{PlansCarried, PlansFile, PlansParts, content_of}
+use Rattle.table_service.specs.Imports.{options_of}
 use Rattle.table_service.specs.Lists.{LooksAt, PlansAsked, PlansLines, answered, unfit_words}
-use Rattle.table_service.specs.Lists.{would_be_done}
-use Rattle.table_service.specs.Plans.{IsWrong, RefusesWith, ShowsPage, page_after}
+use Rattle.table_service.specs.Lists.{is_known, would_be_done}
+use Rattle.table_service.specs.Plans.{IsWrong, RefusesWith, page_after}
+use Rattle.table_service.specs.Replying.{ShowsPage}
+use Rattle.table_service.specs.Taking.{PlansEntries}
 
 -- a page that is sent
 pub page_shown : (status : Shown) (text : List ℕ) (page : Vec ℕ Global) (plan : Plan)
@@ -40,31 +46,46 @@ is_wrong around pairs back why same (Ok plan) wrong =
     (why, subst (λ (place : List ℕ). RefusesWith around place why plan) same wrong)
 is_wrong around pairs back why same (Err error) wrong = tt
 
-module _ (around : Around) (pairs : List Pair) (id : ℕ) (back : List ℕ)
-    (same : back ≡ page_after pairs) where
-  -- not all commands would be accepted
-  pub not_done : (texts : List (List ℕ)) → would_be_done around.mirror.now id texts ≡ false
-      → (why : List ℕ) → why ≡ first_refusal texts (answered around.mirror.now id texts)
-      → (r : Result Plan AllocError) → IfOk r (RefusesWith around back why)
-      → IfOk r (PlansAsked around pairs id texts (would_be_done around.mirror.now id texts))
-  not_done texts is why says (Ok plan) wrong =
-      subst (λ (b : Bool). PlansAsked around pairs id texts b plan) (sym is)
-      (subst (λ (words : List ℕ). RefusesWith around (page_after pairs) words plan) says
-      (subst (λ (place : List ℕ). RefusesWith around place why plan) same wrong))
-  not_done texts is why says (Err error) wrong = tt
+module _ (around : Around) (q : ItemsOf) (pairs : List Pair) (id : ℕ) where
+  -- the first of them is known, or all would be accepted
+  abbrev goes_on : List (List ℕ) → Bool
+  goes_on texts = is_known q id || would_be_done around.mirror.now id texts
 
-  -- the lines have no commands that can be sent together
-  pub none_read : (lines : List ℕ) → lines ≡ value_of (codes "lines") pairs
-      → (texts : Option (List (List ℕ))) → texts ≡ None → IsReadFrom lines texts
-      → (r : Result Plan AllocError) → IfOk r (RefusesWith around back unfit_words)
-      → IfOk r (PlansLines around pairs id)
-  none_read lines of texts is read (Ok plan) wrong =
-      inl (
-        subst AreUnfit of
-            (subst (λ (o : Option (List (List ℕ))). IsReadFrom lines o) is read),
-        subst (λ (place : List ℕ). RefusesWith around place unfit_words plan) same wrong,
-      )
-  none_read lines of texts is read (Err error) wrong = tt
+  -- commands that are entered
+  pub goes : (texts : List (List ℕ)) → goes_on texts ≡ true → (place : List ℕ)
+      → place ≡ page_after pairs → (entries : List Entry) → entries ≡ command_entries id texts
+      → (r : Result Plan AllocError) → IfOk r (PlansEntries q around place entries)
+      → IfOk r (PlansAsked around q pairs id texts (goes_on texts))
+  goes texts is place same entries are (Ok plan) plans =
+      subst (λ (b : Bool). PlansAsked around q pairs id texts b plan) (sym is)
+      (subst (λ (es : List Entry). PlansEntries q around (page_after pairs) es plan) are
+      (subst (λ (at : List ℕ). PlansEntries q around at entries plan) same plans))
+  goes texts is place same entries are (Err error) plans = tt
+
+  module _ (back : List ℕ) (same : back ≡ page_after pairs) where
+    -- not all commands would be accepted
+    pub not_done : (texts : List (List ℕ)) → goes_on texts ≡ false → (why : List ℕ)
+        → why ≡ first_refusal texts (answered around.mirror.now id texts)
+        → (r : Result Plan AllocError) → IfOk r (RefusesWith around back why)
+        → IfOk r (PlansAsked around q pairs id texts (goes_on texts))
+    not_done texts is why says (Ok plan) wrong =
+        subst (λ (b : Bool). PlansAsked around q pairs id texts b plan) (sym is)
+        (subst (λ (words : List ℕ). RefusesWith around (page_after pairs) words plan) says
+        (subst (λ (place : List ℕ). RefusesWith around place why plan) same wrong))
+    not_done texts is why says (Err error) wrong = tt
+
+    -- the lines have no commands that can be sent together
+    pub none_read : (lines : List ℕ) → lines ≡ value_of (codes "lines") pairs
+        → (texts : Option (List (List ℕ))) → texts ≡ None → IsReadFrom lines texts
+        → (r : Result Plan AllocError) → IfOk r (RefusesWith around back unfit_words)
+        → IfOk r (PlansLines around q pairs id)
+    none_read lines of texts is read (Ok plan) wrong =
+        inl (
+          subst AreUnfit of
+              (subst (λ (o : Option (List (List ℕ))). IsReadFrom lines o) is read),
+          subst (λ (place : List ℕ). RefusesWith around place unfit_words plan) same wrong,
+        )
+    none_read lines of texts is read (Err error) wrong = tt
 
 module _ (around : Around) (options : Options) (bytes : List ℕ) (found : FileLines)
     (of : IsOfFile options bytes found) where
@@ -88,3 +109,19 @@ module _ (around : Around) (options : Options) (bytes : List ℕ) (found : FileL
       let so : IsOfFile options bytes (file.Refused fault words) =
       subst (λ (f : FileLines). IsOfFile options bytes f) is of in
       inr (fault, so, said, shows)
+
+-- a form with a file that carries the token
+pub file_carried : (around : Around) (parts : List (List ℕ × List ℕ)) (token : List ℕ)
+    → token ≡ content_of (codes "token") parts → (carries : Bool)
+    → carries ≡ bytes_eq token around.token.now → carries ≡ true → (options : Options)
+    → options ≡ options_of parts → (file : List ℕ) → file ≡ content_of (codes "file") parts
+    → (r : Result Plan AllocError) → IfOk r (PlansFile around options file)
+    → IfOk r (PlansParts around parts)
+file_carried around parts token is carries same so options read file content (Ok plan) plans =
+    let carried : bytes_eq (content_of (codes "token") parts) around.token.now ≡ true =
+    ap (λ (t : List ℕ). bytes_eq t around.token.now) (sym is) ∙ sym same ∙ so in
+    subst (λ (b : Bool). PlansCarried around parts b plan) (sym carried)
+    (subst (λ (f : List ℕ). PlansFile around (options_of parts) f plan) content
+    (subst (λ (o : Options). PlansFile around o file plan) read plans))
+file_carried around parts token is carries same so options read file content (Err error) plans =
+    tt

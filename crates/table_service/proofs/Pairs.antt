@@ -1,24 +1,9 @@
 -- Commands that are looked at, each with its answer.
-use Rattle.std.proofs.Common.{◌≡◌, ◌∙◌, ◌++◌, ◌∷◌, [], ◌+◌, ◌<◌, ℕ, suc, List, ap, refl, drop}
-use Rattle.std.proofs.Common.{get_or, length}
-use Rattle.std.proofs.lemmas.List.{at_drop_more}
+use Rattle.std.proofs.Common.{◌≡◌, ◌∙◌, ◌++◌, ◌∷◌, [], ◌+◌, ℕ, suc, List, ap, refl, length}
 use Rattle.acceptor.specs.declared.entry.Entry.{Entry}
-use Rattle.texts.specs.declared.answer.Answer.{Answer}
-use Rattle.card_queue.specs.Sending.{command_entries}
+use Rattle.card_forms.specs.Entries.{command_entries}
 use Rattle.mirror.specs.Answered.{answers_after}
-use Rattle.table_service.specs.Lists.{answered, paired}
-
--- what is left of both lists
-pub pairs_left : (texts : List (List ℕ)) (answers : List Answer) (i : ℕ) (t : List ℕ) (a : Answer)
-    → i < length texts → i < length answers
-    → paired (drop i texts) (drop i answers)
-    ≡ (get_or texts i t, get_or answers i a)
-    ∷ paired (drop (i + 1) texts) (drop (i + 1) answers)
-pairs_left texts answers i t a within among =
-    at_drop_more (λ (ts : List (List ℕ)). paired ts (drop i answers)) texts i t within
-    ∙ at_drop_more
-    (λ (given : List Answer). paired (get_or texts i t ∷ drop (i + 1) texts) given) answers i a
-    among
+use Rattle.table_service.specs.Lists.{answered}
 
 entries_count : (id : ℕ) (texts : List (List ℕ)) → length (command_entries id texts) ≡ length texts
 entries_count id [] = refl

@@ -1,32 +1,30 @@
--- What is planned for requests, by cases.
-use Rattle.std.proofs.Common.{◌≡◌, ◌∙◌, ◌⊎◌, inl, inr, Bool, true, false, ℕ, List, [], ◌∷◌, ap}
-use Rattle.std.proofs.Common.{bytes_eq, codes, subst, sym, Option, None, Some, Result, Ok, Err}
-use Rattle.std.proofs.Common.{refl, slice_get}
-use Rattle.std.proofs.lemmas.List.{append-nil}
+-- What is planned for requests, by cases: entries are taken for forms alone that ask for them.
+use Rattle.std.proofs.Common.{◌≡◌, ◌∙◌, inl, inr, Bool, true, false, ℕ, List, [], ◌∷◌, ap, bytes_eq}
+use Rattle.std.proofs.Common.{codes, subst, sym, Option, None, Some, Result, Ok, Err, refl}
+use Rattle.std.proofs.Common.{get_or, length, slice_get, ◌||◌}
 use Rattle.std.proofs.lemmas.Slice.Eq.{bytes_eq-Decides}
-use Rattle.std.specs.Prelude.{IfOk}
-use Rattle.std.specs.declared.alloc.AllocError.{AllocError}
 use Rattle.acceptor.specs.declared.entry.Entry.{Entry}
+use Rattle.attempts.specs.declared.Value.{Value}
 use Rattle.http.specs.declared.request.Request.{Request}
-use Rattle.http1.specs.Fields.{Header}
-use Rattle.http_server.specs.declared.response.Response.{Response}
-use Rattle.http_server.specs.Response.{IsResponse}
 use Rattle.card_forms.specs.declared.cards.CardForm.{CardForm}
 use Rattle.card_forms.specs.declared.faults.CardFormFault.{CardFormFault}
-use Rattle.card_forms.specs.declared.items.Item.{Item}
-use Rattle.card_forms.specs.declared.items.Item.TheVariants as item
-use Rattle.card_forms.specs.declared.items.State.{State}
 use Rattle.card_forms.specs.declared.pairs.Pair.{Pair}
-use Rattle.card_forms.specs.Asking.{Asks as AsksOf, IsCommandText}
 use Rattle.card_forms.specs.Cards.{card_form_of, form_id_of}
-use Rattle.card_forms.specs.Items.{id_of}
+use Rattle.card_forms.specs.Entries.{card_entry, card_in, command_entries, entry_with}
 use Rattle.card_forms.specs.Pairs.{value_of}
-use Rattle.card_queue.specs.Queues.{QueueOf, found_in, is_full}
+use Rattle.card_forms.specs.Readings.{IsReadAs}
+use Rattle.entry_views.specs.declared.notes.Note.{Note}
 use Rattle.form_data.specs.Bodies.{parts_of}
 use Rattle.wcif.specs.Lines as printed
 use Rattle.command_lists.specs.Lists.{texts_in}
+use Rattle.outbox.specs.declared.item.Item.{Item}
+use Rattle.outbox.specs.Items.{ItemsOf, item_in}
+use Rattle.outbox.specs.Outboxes.{may_answer}
 use Rattle.table_views.specs.declared.around.Around.{Around}
-use Rattle.table_service.specs.declared.checks.Checked.{Checked}
+use Rattle.table_views.specs.Editions.{is_latest}
+use Rattle.table_views.specs.Logs.{accepted_in}
+use Rattle.texts.specs.declared.command.CardEntry.{CardEntry}
+use Rattle.texts.specs.Fields.{enters_later, was_of}
 use Rattle.table_service.specs.declared.plan.Effect.{Effect}
 use Rattle.table_service.specs.declared.plan.Effect.TheVariants as effect
 use Rattle.table_service.specs.declared.plan.Plan.{Plan}
@@ -37,358 +35,463 @@ use Rattle.table_service.specs.declared.plan.Reply.TheVariants as reply
 use Rattle.table_service.specs.declared.plan.Shown.{Shown}
 use Rattle.table_service.specs.declared.reading.Asked.{Asked}
 use Rattle.table_service.specs.declared.reading.Asked.TheVariants as asked
+use Rattle.table_service.specs.Answering.{PlansAgainCard, PlansAgainEntry, PlansAgainId}
+use Rattle.table_service.specs.Answering.{PlansAgainIf, PlansAgainItem, PlansAnsweredId}
+use Rattle.table_service.specs.Answering.{PlansAnsweredItem, PlansLeaving, again_entry, card_over}
+use Rattle.table_service.specs.Answering.{id_of}
 use Rattle.table_service.specs.Asked.{asked_at}
+use Rattle.table_service.specs.Checks.{doubts}
 use Rattle.table_service.specs.Gate.{has_token, is_own}
-use Rattle.table_service.specs.Laws.{Asks, AsksFor, IsQueued, IsSecured, QueuesNothing}
 use Rattle.table_service.specs.Imports.{PlansBody, PlansCarried, PlansPartsIf, boundary_in}
 use Rattle.table_service.specs.Imports.{content_of}
-use Rattle.table_service.specs.Lists.{LooksAt, PlansAsked, PlansLines, PlansListFor, PlansListOf}
+use Rattle.table_service.specs.Laws.{AsksAgain, AsksBack, AsksFor, IsForm}
+use Rattle.table_service.specs.Lists.{LooksAt, PlansAsked, PlansLines, PlansListOf, is_known}
 use Rattle.table_service.specs.Lists.{would_be_done}
-use Rattle.table_service.specs.Plans.{GoesTo, PlansChecked, PlansCommand, PlansForm, PlansKnown}
-use Rattle.table_service.specs.Plans.{PlansText, ShowsAs, ShowsView, is_held}
-use Rattle.table_service.specs.Plans.{card_place, is_sure, page_after, refuses, shows}
-use Rattle.table_service.specs.Replies.{Writes, fields_with, security}
+use Rattle.table_service.specs.Plans.{HoldsCard, PlansCardAs, PlansCardEntry, PlansCardIf}
+use Rattle.table_service.specs.Plans.{PlansCommand, PlansForm, PlansSpelled, ShowsView, card_place}
+use Rattle.table_service.specs.Plans.{cards_place, is_entered, page_after}
+use Rattle.table_service.specs.Replying.{GoesTo, ShowsAs, refuses, shows}
 use Rattle.table_service.specs.Requests.{is_post, is_read, path_of, query_of, sent_pairs}
-use Rattle.table_service.specs.Sent.{PlansAt, PlansAtLines, PlansBy, PlansFormAt, PlansOwn}
-use Rattle.table_service.specs.Sent.{PlansPosted}
-use Rattle.table_service.specs.Services.{Answers, DoesAs, IsAround, Plans, PlansAround, PlansIf}
-use Rattle.table_service.specs.Services.{PlansWith, ServiceOf}
+use Rattle.table_service.specs.Sent.{PlansAt, PlansAtAnswers, PlansAtLast, PlansAtLines, PlansBy}
+use Rattle.table_service.specs.Sent.{PlansFormAt, PlansPosted}
+use Rattle.table_service.specs.Services.{IsAround, Plans, PlansIf, PlansWith, ServiceOf}
+use Rattle.table_service.specs.Undoing.{PlansUndoCard, PlansUndoEntry, PlansUndoId, PlansUndoIf}
+use Rattle.table_service.specs.Undoing.{PlansUndoItem, may_undo, undone_entry}
+use Rattle.table_service.specs.Taking.{AreTaken, PlansOther, PlansRoom, has_room, other_in}
 
 -- the browser is sent on
 abbrev pub GoesOn : Reply → Type 0
 GoesOn answer = (location : List ℕ) × GoesTo location answer
 
--- ---- where an item is taken
+-- entries that are taken are what the pairs at a path ask for, the browser is sent on, and so much
+-- holds besides
+abbrev pub FoundBy : Type 0 → ItemsOf → List ℕ → List Pair → Reply → Effect → Type 0
+FoundBy More q path pairs answer effect.Nothing = Unit {0}
+FoundBy More q path pairs answer effect.Ids = Unit {0}
+FoundBy More q path pairs answer (effect.Take them) =
+    More × AsksFor q path pairs them.items × GoesOn answer
+FoundBy More q path pairs answer (effect.Again entry of) =
+    More × AsksFor q path pairs (entry ∷ []) × GoesOn answer
+FoundBy More q path pairs answer (effect.Answer of) = Unit {0}
 
-module _ (plan : Plan) (one : Item) (takes : plan.effect ≡ effect.Take one) where
-  not_refused : (why : Problem) → plan ≡ refuses why → ⊥
-  not_refused why is =
-      let wrong : effect.Nothing ≡ effect.Take one =
-      sym (ap (λ (p : Plan). p.effect) is) ∙ takes in
-      cc
+module _ (More : Type 0) (q : ItemsOf) (path : List ℕ) (pairs : List Pair) (plan : Plan) where
+  abbrev Found : Type 0
+  Found = FoundBy More q path pairs plan.reply plan.effect
 
-  not_shown : (answer : Reply) → plan ≡ shows answer → ⊥
-  not_shown answer is =
-      let wrong : effect.Nothing ≡ effect.Take one =
-      sym (ap (λ (p : Plan). p.effect) is) ∙ takes in
-      cc
+  refused : (why : Problem) → plan ≡ refuses why → Found
+  refused why is =
+      subst (λ (p : Plan). FoundBy More q path pairs p.reply p.effect) (sym is) tt
 
-  not_nothing : plan.effect ≡ effect.Nothing → ⊥
-  not_nothing is = let wrong : effect.Nothing ≡ effect.Take one = sym is ∙ takes in cc
+  shown : (answer : Reply) → plan ≡ shows answer → Found
+  shown answer is =
+      subst (λ (p : Plan). FoundBy More q path pairs p.reply p.effect) (sym is) tt
 
-  not_ids : plan.effect ≡ effect.Ids → ⊥
-  not_ids is = let wrong : effect.Ids ≡ effect.Take one = sym is ∙ takes in cc
+  nothing : plan.effect ≡ effect.Nothing → Found
+  nothing is = subst (λ (e : Effect). FoundBy More q path pairs plan.reply e) (sym is) tt
 
-  not_page : (status : Shown) (page : Option (List ℕ)) → ShowsAs status page plan → ⊥
-  not_page status None is = not_refused problem.NotFound is
-  not_page status (Some text) is = not_ids is.1
+  ids : plan.effect ≡ effect.Ids → Found
+  ids is = subst (λ (e : Effect). FoundBy More q path pairs plan.reply e) (sym is) tt
 
-  not_view : (q : QueueOf) (around : Around) (title : List ℕ) (what : Option Asked)
-      → ShowsView q around title what plan → ⊥
-  not_view q around title None is = not_refused problem.NotFound is
-  not_view q around title (Some asked.Style) is = not_shown reply.Style is
-  not_view q around title (Some asked.Script) is = not_shown reply.Script is
-  not_view q around title (Some (asked.Page view)) is = not_page _ is.0 is.2
+  answered : (of : ℕ) → plan.effect ≡ effect.Answer of → Found
+  answered of is = subst (λ (e : Effect). FoundBy More q path pairs plan.reply e) (sym is) tt
 
-  -- what the pairs at a path ask for, and that it is new and there is room
-  abbrev FoundAs : List Entry → QueueOf → List Pair → List ℕ → Item → Type 0
-  FoundAs log q pairs path it =
-      AsksFor log path pairs it × (found_in q (id_of it) ≡ None) × (is_full q ≡ false)
-      × GoesOn plan.reply
+  page : (status : Shown) (is : Option (List ℕ)) → ShowsAs status is plan → Found
+  page status None is = refused problem.NotFound is
+  page status (Some text) is = ids is.1
 
-  module _ (around : Around) (q : QueueOf) (pairs : List Pair) (path : List ℕ) where
-    abbrev Found : Type 0
-    Found = FoundAs around.mirror.now q pairs path one
+  view : (around : Around) (title : List ℕ) (what : Option Asked)
+      → ShowsView q around title what plan → Found
+  view around title None is = refused problem.NotFound is
+  view around title (Some asked.Style) is = shown reply.Style is
+  view around title (Some asked.Script) is = shown reply.Script is
+  view around title (Some (asked.Page what)) is = page _ is.0 is.2
 
-    card_checked : (form : CardForm) → path ≡ codes "/card" → card_form_of pairs ≡ Ok form
-        → found_in q form.id ≡ None → is_full q ≡ false → (checked : Checked) (held : Bool)
-        → PlansChecked q around form checked held plan → Found
-    card_checked form at is unknown room checked true holds =
-        absurd (not_page _ holds.page holds.shows)
-    card_checked form at is unknown room checked false sends =
-        let both : effect.Take (item.Card form) ≡ effect.Take one = sym sends.1 ∙ takes in
-        let same : item.Card form ≡ one = cc in
-        subst (λ (it : Item). FoundAs around.mirror.now q pairs path it) same
-        ((at, is), unknown, room, (card_place form, sends.0))
+  -- looking at lines, or at a competition's file, takes nothing
+  looked : (around : Around) (lines : List ℕ) → LooksAt around lines plan → Found
+  looked around lines (inl unfit) = ids unfit.1.1
+  looked around lines (inr is) = ids is.2.shows.1
 
-    card_known : (form : CardForm) → path ≡ codes "/card" → card_form_of pairs ≡ Ok form
-        → (sure : Bool) (state : Option State) → found_in q form.id ≡ state → (full : Bool)
-        → is_full q ≡ full → PlansKnown q around form sure state full plan → Found
-    card_known form at is sure (Some state) known full room plans = absurd (not_nothing plans.1)
-    card_known form at is sure None unknown true room plans =
-        absurd (not_refused problem.Busy plans)
-    card_known form at is sure None unknown false room plans =
-        card_checked form at is unknown room plans.0 (is_held sure plans.0) plans.2
+  file : (around : Around) (parts : List (List ℕ × List ℕ)) (carries : Bool)
+      → PlansCarried around parts carries plan → Found
+  file around parts false plans = refused problem.Foreign plans
+  file around parts true (inl looks) = looked around (printed.lines looks.0) looks.2
+  file around parts true (inr faults) = ids faults.3.1
 
-    card_form : path ≡ codes "/card" → (sure : Bool) (r : Result CardForm CardFormFault)
-        → card_form_of pairs ≡ r → PlansForm around q sure r plan → Found
-    card_form at sure (Err why) is plans = absurd (not_refused problem.BadForm plans)
-    card_form at sure (Ok form) is plans =
-        card_known form at is sure (found_in q form.id) refl (is_full q) refl plans
+  parts_if : (around : Around) (parts : Option (List (List ℕ × List ℕ)))
+      → PlansPartsIf around parts plan → Found
+  parts_if around None plans = refused problem.BadForm plans
+  parts_if around (Some parts) plans =
+      file around parts (bytes_eq (content_of (codes "token") parts) around.token.now) plans
 
-    command_text : (id : ℕ) (text back : List ℕ) → path ≡ codes "/command"
-        → form_id_of (value_of (codes "id") pairs) ≡ Some id → IsCommandText text
-        → AsksOf pairs text → (state : Option State) → found_in q id ≡ state → (full : Bool)
-        → is_full q ≡ full → PlansText id text back state full plan → Found
-    command_text id text back at is fit asks (Some state) known full room plans =
-        absurd (not_nothing plans.1)
-    command_text id text back at is fit asks None unknown true room plans =
-        absurd (not_refused problem.Busy plans)
-    command_text id text back at is fit asks None unknown false room sends =
-        let both : effect.Take (item.Commands id (text ∷ [])) ≡ effect.Take one =
-        sym sends.1 ∙ takes in
-        let same : item.Commands id (text ∷ []) ≡ one = cc in
-        subst (λ (it : Item). FoundAs around.mirror.now q pairs path it) same
-        ((is, inl (at, (text, fit, asks, refl))), unknown, room, (back, sends.0))
+  body : (around : Around) (bytes : List ℕ) (boundary : Option (List ℕ))
+      → PlansBody around bytes boundary plan → Found
+  body around bytes None plans = refused problem.BadForm plans
+  body around bytes (Some boundary) plans = parts_if around (parts_of boundary bytes) plans
 
-    command_asked : path ≡ codes "/command" → PlansCommand around q pairs plan → Found
-    command_asked at (inl lacks) = absurd (not_refused problem.BadForm lacks.1)
-    command_asked at (inr (inl wrong)) = absurd (not_ids wrong.1.1)
-    command_asked at (inr (inr asks)) =
-        command_text asks.id asks.text (page_after pairs) at asks.named asks.fit asks.asks
-        (found_in q asks.id) refl (is_full q) refl asks.plans
+  module _ (more : More) (around : Around) where
+    taken_as : (entries : List Entry) → AsksFor q path pairs entries → (what : Effect)
+        → AreTaken entries what → GoesOn plan.reply → FoundBy More q path pairs plan.reply what
+    taken_as entries asks effect.Nothing are on = absurd are
+    taken_as entries asks effect.Ids are on = absurd are
+    taken_as entries asks (effect.Take them) are on =
+        (more, subst (λ (es : List Entry). AsksFor q path pairs es) (sym are) asks, on)
+    taken_as entries asks (effect.Again entry of) are on = absurd are
+    taken_as entries asks (effect.Answer of) are on = absurd are
 
-    -- by whether the commands of the lines would be accepted
-    texts_done : (id : ℕ) (texts : List (List ℕ)) → path ≡ codes "/commands"
-        → form_id_of (value_of (codes "id") pairs) ≡ Some id
-        → texts_in (value_of (codes "lines") pairs) ≡ Some texts → found_in q id ≡ None
-        → is_full q ≡ false → (done : Bool) → would_be_done around.mirror.now id texts ≡ done
-        → PlansAsked around pairs id texts done plan → Found
-    texts_done id texts at is are unknown room false so wrong = absurd (not_ids wrong.1)
-    texts_done id texts at is are unknown room true so sends =
-        let both : effect.Take (item.Commands id texts) ≡ effect.Take one =
-        sym sends.1 ∙ takes in
-        let same : item.Commands id texts ≡ one = cc in
-        subst (λ (it : Item). FoundAs around.mirror.now q pairs path it) same
-        ((is, inr (at, (are, so))), unknown, room, (page_after pairs, sends.0))
+    module _ (place : List ℕ) (entries : List Entry) (asks : AsksFor q path pairs entries) where
+      room : (has : Bool) → PlansRoom has place entries plan → Found
+      room false plans = refused problem.Busy plans
+      room true plans = taken_as entries asks plan.effect plans.takes (place, plans.goes)
 
-    lines_asked : (id : ℕ) → path ≡ codes "/commands"
-        → form_id_of (value_of (codes "id") pairs) ≡ Some id → found_in q id ≡ None
-        → is_full q ≡ false → PlansLines around pairs id plan → Found
-    lines_asked id at is unknown room (inl unfit) = absurd (not_ids unfit.1.1)
-    lines_asked id at is unknown room (inr asks) =
-        texts_done id asks.texts at is asks.are unknown room
-        (would_be_done around.mirror.now id asks.texts) refl asks.plans
+      other : (known : Option (List ℕ × List ℕ))
+          → PlansOther known q around place entries plan → Found
+      other (Some both) plans = ids plans.1
+      other None plans = room (has_room q (length entries)) plans
 
-    list_known : (id : ℕ) → path ≡ codes "/commands"
-        → form_id_of (value_of (codes "id") pairs) ≡ Some id → (state : Option State)
-        → found_in q id ≡ state → (full : Bool) → is_full q ≡ full
-        → PlansListFor around pairs id state full plan → Found
-    list_known id at is (Some state) known full room plans = absurd (not_nothing plans.1)
-    list_known id at is None unknown true room plans =
-        absurd (not_refused problem.Busy plans)
-    list_known id at is None unknown false room plans =
-        lines_asked id at is unknown room plans
+      taken : PlansOther (other_in q entries) q around place entries plan → Found
+      taken plans = other (other_in q entries) plans
 
-    list_asked : path ≡ codes "/commands" → (id : Option ℕ)
+    -- ---- a card
+
+    held : (form : CardForm) (notes : List Note) (status : Shown)
+        → HoldsCard q around form notes status plan → Found
+    held form notes status holds = page status holds.page holds.shows
+
+    module _ (at : path ≡ codes "/card") (form : CardForm) (sent : card_form_of pairs ≡ Ok form)
+      where
+        card_entered : (card : CardEntry) → IsReadAs form card → (entry : Entry)
+            → card_entry form.id card ≡ Some entry → (notes : List Note) (entered : Bool)
+            → PlansCardEntry q around form notes entry entered plan → Found
+        card_entered card read entry is notes true plans =
+            taken (card_place form) (entry ∷ [])
+            (inl (
+              at,
+              record {
+                form = form;
+                sent = sent;
+                card = card;
+                read = read;
+                entry = entry;
+                is = is;
+                alone = refl;
+              },
+            ))
+            plans
+        card_entered card read entry is notes false plans = held form notes _ plans
+
+        card_spelled : (card : CardEntry) → IsReadAs form card → (sure : List ℕ) (entry : Entry)
+            → card_entry form.id card ≡ Some entry → (spelled : Option CardEntry)
+            → PlansSpelled q around form sure entry spelled plan → Found
+        card_spelled card read sure entry is None plans = refused problem.BadForm plans
+        card_spelled card read sure entry is (Some it) plans =
+            card_entered card read entry is (doubts (accepted_in around.mirror.now) it)
+            (is_entered q entry.id sure (doubts (accepted_in around.mirror.now) it)) plans
+
+        card_as : (card : CardEntry) → IsReadAs form card → (sure : List ℕ)
+            (entry : Option Entry) → card_entry form.id card ≡ entry
+            → PlansCardAs q around form sure entry plan → Found
+        card_as card read sure None is plans = held form _ _ plans
+        card_as card read sure (Some entry) is plans =
+            card_spelled card read sure entry is (card_in entry.text) plans
+
+    card_form : path ≡ codes "/card" → (sure : List ℕ) (r : Result CardForm CardFormFault)
+        → card_form_of pairs ≡ r → PlansForm q around sure r plan → Found
+    card_form at sure (Err why) is plans = refused problem.BadForm plans
+    card_form at sure (Ok form) is (inl reads) =
+        card_as at form is reads.entry reads.read sure (card_entry form.id reads.entry) refl
+        reads.plans
+    card_form at sure (Ok form) is (inr unread) = held form _ _ unread.2
+
+    card_if : path ≡ codes "/card" → (latest : Bool) → PlansCardIf latest around q pairs plan
+        → Found
+    card_if at false plans = ids plans.1
+    card_if at true plans =
+        card_form at (value_of (codes "sure") pairs) (card_form_of pairs) refl plans
+
+    -- ---- a command, and several
+
+    command : path ≡ codes "/command" → PlansCommand around q pairs plan → Found
+    command at (inl lacks) = refused problem.BadForm lacks.1
+    command at (inr (inl wrong)) = ids wrong.1.1
+    command at (inr (inr asks)) =
+        taken (page_after pairs) (entry_with asks.id asks.text ∷ [])
+        (inr (inl (
+          at,
+          record {
+            id = asks.id;
+            named = asks.named;
+            text = asks.text;
+            fit = asks.fit;
+            asks = asks.asks;
+            are = refl;
+          },
+        )))
+        asks.plans
+
+    module _ (at : path ≡ codes "/commands") (id : ℕ)
+        (named : form_id_of (value_of (codes "id") pairs) ≡ Some id) where
+      texts_asked : (texts : List (List ℕ))
+          → texts_in (value_of (codes "lines") pairs) ≡ Some texts → (done : Bool)
+          → PlansAsked around q pairs id texts done plan → Found
+      texts_asked texts are true plans =
+          taken (page_after pairs) (command_entries id texts)
+          (inr (inr (inl (
+            at,
+            record {
+              id = id;
+              named = named;
+              texts = texts;
+              read = are;
+              are = refl;
+            },
+          ))))
+          plans
+      texts_asked texts are false plans = ids plans.1
+
+      lines_asked : PlansLines around q pairs id plan → Found
+      lines_asked (inl unfit) = ids unfit.1.1
+      lines_asked (inr asks) =
+          texts_asked asks.texts asks.are
+          (is_known q id || would_be_done around.mirror.now id asks.texts) asks.plans
+
+    list : path ≡ codes "/commands" → (id : Option ℕ)
         → form_id_of (value_of (codes "id") pairs) ≡ id → PlansListOf around q pairs id plan
         → Found
-    list_asked at None is plans = absurd (not_refused problem.BadForm plans)
-    list_asked at (Some id) is plans =
-        list_known id at is (found_in q id) refl (is_full q) refl plans
+    list at None is plans = refused problem.BadForm plans
+    list at (Some id) is plans = lines_asked at id is plans
 
-    -- looking at lines takes nothing
-    not_looked : (lines : List ℕ) → LooksAt around lines plan → ⊥
-    not_looked lines (inl unfit) = not_ids unfit.1.1
-    not_looked lines (inr looked) = not_ids looked.2.shows.1
+    -- ---- what was typed, over what stands now
+
+    entry_of : (enters : Bool) (id : ℕ) (card : CardEntry) (was : List Value) (entry : Entry)
+        → again_entry enters id card was ≡ Some entry
+        → card_entry id (card_over card was) ≡ Some entry
+    entry_of false id card was entry is = absurd (cc)
+    entry_of true id card was entry is = is
+
+    module _ (at : path ≡ codes "/again") (of : ℕ) (named : id_of pairs ≡ Some of) where
+      again_as : (entry : Entry) → AsksAgain q pairs (entry ∷ []) → GoesOn plan.reply
+          → plan.effect ≡ effect.Again entry of → Found
+      again_as entry asks on is =
+          subst (λ (e : Effect). FoundBy More q path pairs plan.reply e) (sym is)
+          (more, inr (inr (inr (inl (at, asks)))), on)
+
+      module _ (item : Item) (known : item_in q of ≡ Some item) where
+        again_entered : (card : CardEntry) → card_in item.entry.text ≡ Some card
+            → (was : List Value) (enters : Bool) (id : ℕ) (has : Bool) (entry : Option Entry)
+            → again_entry enters id card was ≡ entry
+            → PlansAgainEntry has around q of card entry plan → Found
+        again_entered card typed was enters id has None is plans = ids plans.1
+        again_entered card typed was enters id false (Some entry) is plans =
+            refused problem.Busy plans
+        again_entered card typed was enters id true (Some entry) is plans =
+            again_as entry
+            record {
+              of = of;
+              named = named;
+              card = card;
+              item = item;
+              known = known;
+              typed = typed;
+              was = was;
+              entry = entry;
+              id = id;
+              is = entry_of enters id card was entry is;
+              alone = refl;
+            }
+            (cards_place card.id, plans.0) plans.1
+
+        again_card : (was : Option (List Value)) (card : Option CardEntry)
+            → card_in item.entry.text ≡ card → PlansAgainCard around q of was card plan → Found
+        again_card None card typed plans = refused problem.BadForm plans
+        again_card (Some was) None typed plans = refused problem.BadForm plans
+        again_card (Some was) (Some card) typed plans =
+            again_entered card typed was (enters_later (length was) card.now)
+            (get_or around.ids.now 0 0) (has_room q 1)
+            (again_entry (enters_later (length was) card.now) (get_or around.ids.now 0 0) card was)
+            refl plans
+
+        again_if : (may : Bool) → PlansAgainIf may around q pairs of item plan → Found
+        again_if false plans = nothing plans.1
+        again_if true plans =
+            again_card (was_of (value_of (codes "was") pairs)) (card_in item.entry.text) refl
+            plans
+
+      again_item : (item : Option Item) → item_in q of ≡ item
+          → PlansAgainItem around q pairs of item plan → Found
+      again_item None known plans = refused problem.BadForm plans
+      again_item (Some item) known plans =
+          again_if item known (may_answer around.mirror.now q of) plans
+
+    again : path ≡ codes "/again" → (of : Option ℕ) → id_of pairs ≡ of
+        → PlansAgainId around q pairs of plan → Found
+    again at None named plans = refused problem.BadForm plans
+    again at (Some of) named plans = again_item at of named (item_in q of) refl plans
+
+    -- ---- leaving it
+
+    leaving : (may : Bool) (of : ℕ) (item : Item) → PlansLeaving may of item plan → Found
+    leaving false of item plans = nothing plans.1
+    leaving true of item plans = answered of plans.1
+
+    left_item : (of : ℕ) (item : Option Item) → PlansAnsweredItem around q of item plan → Found
+    left_item of None plans = refused problem.BadForm plans
+    left_item of (Some item) plans = leaving (may_answer around.mirror.now q of) of item plans
+
+    left : (of : Option ℕ) → PlansAnsweredId around q of plan → Found
+    left None plans = refused problem.BadForm plans
+    left (Some of) plans = left_item of (item_in q of) plans
+
+    -- ---- taking a card back
+
+    module _ (at : path ≡ codes "/undo") (of : ℕ) (named : id_of pairs ≡ Some of) where
+      back_as : (entry : Entry) → AsksBack q pairs (entry ∷ []) → GoesOn plan.reply
+          → plan.effect ≡ effect.Again entry of → Found
+      back_as entry asks on is =
+          subst (λ (e : Effect). FoundBy More q path pairs plan.reply e) (sym is)
+          (more, inr (inr (inr (inr (at, asks)))), on)
+
+      module _ (item : Item) (known : item_in q of ≡ Some item) where
+        back_entered : (card : CardEntry) → card_in item.entry.text ≡ Some card → (id : ℕ)
+            (has : Bool) (entry : Option Entry)
+            → undone_entry (accepted_in around.mirror.now) id card ≡ entry
+            → PlansUndoEntry has around of card.id entry plan → Found
+        back_entered card typed id has None is plans = ids plans.1
+        back_entered card typed id false (Some entry) is plans = refused problem.Busy plans
+        back_entered card typed id true (Some entry) is plans =
+            back_as entry
+            record {
+              of = of;
+              named = named;
+              card = card;
+              item = item;
+              known = known;
+              typed = typed;
+              accepted = accepted_in around.mirror.now;
+              entry = entry;
+              id = id;
+              is = is;
+              alone = refl;
+            }
+            (cards_place card.id, plans.0) plans.1
+
+        back_card : (card : Option CardEntry) → card_in item.entry.text ≡ card
+            → PlansUndoCard around q of card plan → Found
+        back_card None typed plans = refused problem.BadForm plans
+        back_card (Some card) typed plans =
+            back_entered card typed (get_or around.ids.now 0 0) (has_room q 1)
+            (undone_entry (accepted_in around.mirror.now) (get_or around.ids.now 0 0) card) refl
+            plans
+
+        back_if : (may : Bool) → PlansUndoIf may around q of item plan → Found
+        back_if false plans = nothing plans.1
+        back_if true plans = back_card (card_in item.entry.text) refl plans
+
+      back_item : (item : Option Item) → item_in q of ≡ item → PlansUndoItem around q of item plan
+          → Found
+      back_item None known plans = refused problem.BadForm plans
+      back_item (Some item) known plans =
+          back_if item known (may_undo around.mirror.now q of) plans
+
+    back : path ≡ codes "/undo" → (of : Option ℕ) → id_of pairs ≡ of
+        → PlansUndoId around q of plan → Found
+    back at None named plans = refused problem.BadForm plans
+    back at (Some of) named plans = back_item at of named (item_in q of) refl plans
+
+    -- ---- by the path
+
+    sent_last : (leaves undoes : Bool) → bytes_eq path (codes "/undo") ≡ undoes
+        → PlansAtLast around q pairs leaves undoes plan → Found
+    sent_last true undoes at plans = left (id_of pairs) plans
+    sent_last false true at plans =
+        back ((bytes_eq-Decides path (codes "/undo")).0 at) (id_of pairs) refl plans
+    sent_last false false at plans = refused problem.Method plans
+
+    sent_answers : (takes : Bool) → bytes_eq path (codes "/again") ≡ takes
+        → PlansAtAnswers around q path pairs takes plan → Found
+    sent_answers true at plans =
+        again ((bytes_eq-Decides path (codes "/again")).0 at) (id_of pairs) refl plans
+    sent_answers false at plans =
+        sent_last (bytes_eq path (codes "/answered")) (bytes_eq path (codes "/undo")) refl plans
 
     sent_lines : (commands lines : Bool) → bytes_eq path (codes "/commands") ≡ commands
-        → PlansAtLines around q pairs commands lines plan → Found
+        → PlansAtLines around q path pairs commands lines plan → Found
     sent_lines true lines at plans =
-        list_asked ((bytes_eq-Decides path (codes "/commands")).0 at)
+        list ((bytes_eq-Decides path (codes "/commands")).0 at)
         (form_id_of (value_of (codes "id") pairs)) refl plans
-    sent_lines false true at plans = absurd (not_looked (value_of (codes "lines") pairs) plans)
-    sent_lines false false at plans = absurd (not_refused problem.Method plans)
+    sent_lines false true at plans = looked around (value_of (codes "lines") pairs) plans
+    sent_lines false false at plans =
+        sent_answers (bytes_eq path (codes "/again")) refl plans
 
-    sent : (card command : Bool) → bytes_eq path (codes "/card") ≡ card
-        → bytes_eq path (codes "/command") ≡ command
-        → PlansAt around q path pairs card command plan → Found
-    sent true command at other plans =
-        card_form ((bytes_eq-Decides path (codes "/card")).0 at) (is_sure pairs)
-        (card_form_of pairs) refl plans
+    sent : (card one : Bool) → bytes_eq path (codes "/card") ≡ card
+        → bytes_eq path (codes "/command") ≡ one → PlansAt around q path pairs card one plan
+        → Found
+    sent true one at other plans =
+        card_if ((bytes_eq-Decides path (codes "/card")).0 at)
+        (is_latest (accepted_in around.mirror.now)) plans
     sent false true other at plans =
-        command_asked ((bytes_eq-Decides path (codes "/command")).0 at) plans
+        command ((bytes_eq-Decides path (codes "/command")).0 at) plans
     sent false false other another plans =
         sent_lines (bytes_eq path (codes "/commands")) (bytes_eq path (codes "/lines")) refl plans
 
-  module _ (s : ServiceOf) (request : Request (List ℕ)) where
-    abbrev FoundForm : Type 0
-    FoundForm =
-        (has_token s.token (sent_pairs request) ≡ true)
-        × FoundAs s.mirroring.entries s.queue (sent_pairs request) (path_of request) one
+-- ---- a request
 
-    abbrev FoundPost : Type 0
-    FoundPost = (is_post request ≡ true) × FoundForm
+module _ (s : ServiceOf) (request : Request (List ℕ)) (plan : Plan) where
+  abbrev FoundFor : Type 0
+  FoundFor =
+      FoundBy (IsForm s request) s.outbox.list (path_of request) (sent_pairs request) plan.reply
+      plan.effect
 
-    posted : (set : List ℕ) (around : Around) → IsAround s set around → (carries : Bool)
-        → has_token around.token.now (sent_pairs request) ≡ carries
-        → PlansPosted around s.queue (path_of request) (sent_pairs request) carries plan
-        → FoundForm
-    posted set around is false not-so plans = absurd (not_refused problem.Foreign plans)
-    posted set around is true so plans = (
-      subst (λ (t : List ℕ). has_token t (sent_pairs request) ≡ true) is.token so,
-      subst
-          (λ (log : List Entry).
-          FoundAs log s.queue (sent_pairs request) (path_of request) one) is.mirror
-          (sent around s.queue (sent_pairs request) (path_of request)
-          (bytes_eq (path_of request) (codes "/card"))
-          (bytes_eq (path_of request) (codes "/command")) refl refl plans),
-    )
+  module _ (own : is_own s.hosts request ≡ true) where
+    module _ (set : List ℕ) (around : Around) (is : IsAround s set around) where
+      posted : is_post request ≡ true → (carries : Bool)
+          → has_token around.token.now (sent_pairs request) ≡ carries
+          → PlansPosted around s.outbox.list (path_of request) (sent_pairs request) carries plan
+          → FoundFor
+      posted post false not-so plans =
+          refused (IsForm s request) s.outbox.list (path_of request) (sent_pairs request) plan
+          problem.Foreign plans
+      posted post true so plans =
+          sent (IsForm s request) s.outbox.list (path_of request) (sent_pairs request) plan
+          record {
+            own = own;
+            method = post;
+            token = subst (λ (t : List ℕ). has_token t (sent_pairs request) ≡ true) is.token so;
+          }
+          around (bytes_eq (path_of request) (codes "/card"))
+          (bytes_eq (path_of request) (codes "/command")) refl refl plans
 
-    -- a competition's file takes nothing
-    not_file : (around : Around) (parts : List (List ℕ × List ℕ)) (carries : Bool)
-        → PlansCarried around parts carries plan → ⊥
-    not_file around parts false plans = not_refused problem.Foreign plans
-    not_file around parts true (inl looks) =
-        not_looked around s.queue [] [] (printed.lines looks.0) looks.2
-    not_file around parts true (inr faults) = not_ids faults.3.1
+      by_form : is_post request ≡ true → (imports : Bool)
+          → PlansFormAt around s.outbox.list request imports plan → FoundFor
+      by_form post true plans =
+          body (IsForm s request) s.outbox.list (path_of request) (sent_pairs request) plan
+          around request.body (boundary_in request) plans
+      by_form post false plans =
+          posted post (has_token around.token.now (sent_pairs request)) refl plans
 
-    not_parts : (around : Around) (parts : Option (List (List ℕ × List ℕ)))
-        → PlansPartsIf around parts plan → ⊥
-    not_parts around None plans = not_refused problem.BadForm plans
-    not_parts around (Some parts) plans =
-        not_file around parts (bytes_eq (content_of (codes "token") parts) around.token.now) plans
+      by_method : (read post : Bool) → is_post request ≡ post
+          → PlansBy around s.title s.outbox.list request read post plan → FoundFor
+      by_method true post so plans =
+          view (IsForm s request) s.outbox.list (path_of request) (sent_pairs request) plan
+          around s.title (asked_at (path_of request) (query_of request)) plans
+      by_method false true so plans =
+          by_form so (bytes_eq (path_of request) (codes "/import")) plans
+      by_method false false so plans =
+          refused (IsForm s request) s.outbox.list (path_of request) (sent_pairs request) plan
+          problem.Method plans
 
-    not_import : (around : Around) (boundary : Option (List ℕ))
-        → PlansBody around request.body boundary plan → ⊥
-    not_import around None plans = not_refused problem.BadForm plans
-    not_import around (Some boundary) plans =
-        not_parts around (parts_of boundary request.body) plans
-
-    by_form : (set : List ℕ) (around : Around) → IsAround s set around → (file : Bool)
-        → PlansFormAt around s.queue request file plan → FoundForm
-    by_form set around is true plans = absurd (not_import around (boundary_in request) plans)
-    by_form set around is false plans =
-        posted set around is (has_token around.token.now (sent_pairs request)) refl plans
-
-    by_method : (set : List ℕ) (around : Around) → IsAround s set around → (read post : Bool)
-        → is_post request ≡ post → PlansBy around s.title s.queue request read post plan
-        → FoundPost
-    by_method set around is true post so plans =
-        absurd
-        (not_view s.queue around s.title (asked_at (path_of request) (query_of request)) plans)
-    by_method set around is false true so plans =
-        (so, by_form set around is (bytes_eq (path_of request) (codes "/import")) plans)
-    by_method set around is false false so plans = absurd (not_refused problem.Method plans)
-
-    by_ids : (set : Option (List ℕ)) → PlansWith s request set plan → FoundPost
-    by_ids None plans = absurd (not_refused problem.Busy plans)
+    by_ids : (set : Option (List ℕ)) → PlansWith s request set plan → FoundFor
+    by_ids None plans =
+        refused (IsForm s request) s.outbox.list (path_of request) (sent_pairs request) plan
+        problem.Busy plans
     by_ids (Some set) plans =
         by_method set plans.around plans.is (is_read request) (is_post request) refl plans.plans
 
-    by_own : (own : Bool) → is_own s.hosts request ≡ own → PlansIf s request own plan
-        → Asks s request one × GoesOn plan.reply
-    by_own false so plans = absurd (not_refused problem.Foreign plans)
-    by_own true so plans =
-        let found = by_ids (slice_get s.ids 0) plans in (
-          record {
-            form = record { own = so; method = found.0; token = found.1.0 };
-            asked = found.1.1.0;
-            unknown = found.1.1.1;
-            room = found.1.1.2;
-          },
-          found.1.1.3,
-        )
+  by_own : (own : Bool) → is_own s.hosts request ≡ own → PlansIf s request own plan → FoundFor
+  by_own false so plans =
+      refused (IsForm s request) s.outbox.list (path_of request) (sent_pairs request) plan
+      problem.Foreign plans
+  by_own true so plans = by_ids so (slice_get s.ids 0) plans
 
-    -- an item is taken for a form alone that asks for it
-    pub taken : Plans s request plan → Asks s request one × GoesOn plan.reply
-    taken plans = by_own (is_own s.hosts request) refl plans
-
--- ---- what is answered
-
-sent_on : (answer : Reply) (r : Response) → GoesOn answer → Writes answer r → r.status ≡ 303
-sent_on (reply.SeeOther location) r on (inl is) = is.status
-sent_on (reply.SeeOther location) r on (inr is) = is.1.status
-sent_on (reply.Text why) r on is = absurd on.1
-sent_on (reply.Html status page) r on is = absurd on.1
-sent_on reply.Style r on is = absurd on.1
-sent_on reply.Script r on is = absurd on.1
-
-module _ (old new : ServiceOf) (request : Request (List ℕ)) (response : Response) where
-  queued_as : (plan : Plan) → Plans old request plan → (what : Effect) → plan.effect ≡ what
-      → DoesAs what plan old response new
-      → QueuesNothing old new ⊎ IsQueued old request response new
-  queued_as plan planned effect.Nothing is does =
-      inl (ap (λ (s : ServiceOf). s.queue) does.0, ap (λ (s : ServiceOf). s.kept) does.0)
-  queued_as plan planned effect.Ids is does =
-      inl (ap (λ (s : ServiceOf). s.queue) does.0, ap (λ (s : ServiceOf). s.kept) does.0)
-  queued_as plan planned (effect.Take one) is (inl does) =
-      let asks = taken plan one is old request planned in
-      inr record {
-        one = one;
-        asks = asks.0;
-        becomes = does.0;
-        told = sent_on plan.reply response asks.1 does.1;
-      }
-  queued_as plan planned (effect.Take one) is (inr kept) =
-      inl (ap (λ (s : ServiceOf). s.queue) kept.0, ap (λ (s : ServiceOf). s.kept) kept.0)
-
-  pub queued_for_forms : Answers old request response new
-      → QueuesNothing old new ⊎ IsQueued old request response new
-  queued_for_forms answers =
-      queued_as answers.plan answers.planned answers.plan.effect refl answers.does
-
--- ---- the fields of each answer
-
-secured_with : (code : ℕ) (field : Header) (content : List ℕ) (r : Response)
-    → IsResponse code (fields_with field) content r → IsSecured r
-secured_with code field content r is = (field ∷ [], is.headers)
-
-secured_by : (answer : Reply) (r : Response) → Writes answer r → IsSecured r
-secured_by (reply.Text why) r is = secured_with _ _ _ r is
-secured_by (reply.Html status page) r is = secured_with _ _ _ r is
-secured_by reply.Style r is = secured_with _ _ _ r is
-secured_by reply.Script r is = secured_with _ _ _ r is
-secured_by (reply.SeeOther location) r (inl is) = secured_with _ _ _ r is
-secured_by (reply.SeeOther location) r (inr is) =
-    ([], is.1.headers ∙ sym (append-nil security))
-
-secured_as : (plan : Plan) (what : Effect) (old new : ServiceOf) (r : Response)
-    → DoesAs what plan old r new → IsSecured r
-secured_as plan effect.Nothing old new r does = secured_by plan.reply r does.1
-secured_as plan effect.Ids old new r does = secured_by plan.reply r does.1
-secured_as plan (effect.Take one) old new r (inl does) = secured_by plan.reply r does.1
-secured_as plan (effect.Take one) old new r (inr kept) = secured_with _ _ _ r kept.1
-
-pub secured : (old new : ServiceOf) (request : Request (List ℕ)) (response : Response)
-    → Answers old request response new → IsSecured response
-secured old new request response answers =
-    secured_as answers.plan answers.plan.effect old new response answers.does
-
--- ---- what is planned
-
-pub foreign_planned : (s : ServiceOf) (request : Request (List ℕ)) (plan : Plan)
-    → is_own s.hosts request ≡ false → plan ≡ refuses problem.Foreign → Plans s request plan
-foreign_planned s request plan not-so is =
-    subst (λ (b : Bool). PlansIf s request b plan) (sym not-so) is
-
-module _ (s : ServiceOf) (request : Request (List ℕ)) (so : is_own s.hosts request ≡ true) where
-  pub busy_planned : (plan : Plan) → slice_get s.ids 0 ≡ None → plan ≡ refuses problem.Busy
-      → Plans s request plan
-  busy_planned plan none is =
-      subst (λ (b : Bool). PlansIf s request b plan) (sym so)
-      (subst (λ (o : Option (List ℕ)). PlansWith s request o plan) (sym none) is)
-
-  own_planned : (set : List ℕ) → slice_get s.ids 0 ≡ Some set → (plan : Plan)
-      → PlansAround s set request plan → Plans s request plan
-  own_planned set some plan is =
-      subst (λ (b : Bool). PlansIf s request b plan) (sym so)
-      (subst (λ (o : Option (List ℕ)). PlansWith s request o plan) (sym some) is)
-
-  pub all_planned : (set : List ℕ) → slice_get s.ids 0 ≡ Some set
-      → (r : Result Plan AllocError) → IfOk r (PlansAround s set request)
-      → IfOk r (Plans s request)
-  all_planned set some (Ok plan) is = own_planned set some plan is
-  all_planned set some (Err error) is = tt
-
-pub around_planned : (s : ServiceOf) (set : List ℕ) (request : Request (List ℕ)) (around : Around)
-    (title : List ℕ) (q : QueueOf) (r : Result Plan AllocError)
-    → IfOk r (PlansOwn around title q request) → IsAround s set around → title ≡ s.title
-    → q ≡ s.queue → IfOk r (PlansAround s set request)
-around_planned s set request around title q (Ok plan) plans is named queued = record {
-  around = around;
-  is = is;
-  plans = subst (λ (t : List ℕ). PlansOwn around t s.queue request plan) named
-      (subst (λ (z : QueueOf). PlansOwn around title z request plan) queued plans);
-}
-around_planned s set request around title q (Err error) plans is named queued = tt
+  -- entries are taken for a form alone that asks for them
+  pub found : Plans s request plan → FoundFor
+  found plans = by_own (is_own s.hosts request) refl plans

@@ -1,25 +1,32 @@
 -- What is said of a card before it is taken.
-use Rattle.std.specs.Prelude.{◌≡◌, ◌⊎◌, ℕ, ◌+◌, ◌*◌, ◌&&◌, ◌||◌, nat_lt, Bool, true, false}
-use Rattle.std.specs.Prelude.{if◌then◌else◌, List, [], ◌∷◌, ◌++◌, flat_map, length, take, drop}
-use Rattle.std.specs.Prelude.{min, get_or, Option, None, Some, Ok, Err}
+use Rattle.std.specs.Prelude.{ℕ, ◌+◌, ◌*◌, ◌==◌, ◌&&◌, ◌||◌, nat_lt, Bool, true, false}
+use Rattle.std.specs.Prelude.{if◌then◌else◌, List, [], ◌∷◌, ◌++◌, flat_map, filter_map, length}
+use Rattle.std.specs.Prelude.{take, drop, min, get_or, slice_get, Option, None, Some, is_some}
+use Rattle.std.specs.Prelude.{option_and_then, option_map}
 use Rattle.std.specs.List.{list_all, list_any, range_with_len}
 use Rattle.texts.specs.declared.command.Command.{Command}
-use Rattle.texts.specs.declared.command.Command.TheVariants.{Correct, Strike}
+use Rattle.texts.specs.declared.command.CardEntry.{CardEntry}
+use Rattle.texts.specs.declared.command.Command.TheVariants.{Card}
+use Rattle.texts.specs.declared.command.RoundId.{RoundId}
+use Rattle.texts.specs.declared.command.Settings.{Settings}
+use Rattle.texts.specs.declared.answer.Code.{Code}
+use Rattle.formats.specs.declared.events.Event.{Event}
+use Rattle.formats.specs.Results.{is_dnf, least}
+use Rattle.commands.specs.Accepted.{card_values, is_solution, is_value, lacks_scramble, refusal}
+use Rattle.commands.specs.Accepted.{round_by, scramble_of, settled}
+use Rattle.cube.specs.declared.moves.Move.{Move}
+use Rattle.attempts.specs.declared.Value.{Value}
+use Rattle.attempts.specs.declared.Value.TheVariants as value
 use Rattle.texts.specs.declared.command.Entered.{Entered}
 use Rattle.texts.specs.declared.command.Entered.TheVariants as entered
 use Rattle.scorecard.specs.declared.fault.CardFault.{CardFault as FieldFault}
-use Rattle.derivation.specs.declared.card.Card.{Card}
-use Rattle.derivation.specs.declared.fault.CardFault.{CardFault}
-use Rattle.derivation.specs.Cards.{count_filled, derived}
-use Rattle.card_forms.specs.declared.cards.CardForm.{CardForm}
-use Rattle.card_forms.specs.declared.faults.CardReading.{CardReading}
-use Rattle.card_forms.specs.declared.faults.CardReading.TheVariants as reading
 use Rattle.card_forms.specs.declared.faults.NumberFault.{NumberFault}
 use Rattle.card_forms.specs.declared.faults.Unread.{Unread}
-use Rattle.card_forms.specs.Readings.{IsNotRead, IsReadAs}
+use Rattle.table_views.specs.Standing.{standing}
+use Rattle.entry_views.specs.Bounds.{best_in, floor_of, single_of}
 use Rattle.entry_views.specs.declared.notes.Note.{Note}
 use Rattle.entry_views.specs.declared.notes.Note.TheVariants as note
-use Rattle.table_service.specs.declared.checks.Checked.{Checked}
+use Rattle.table_service.specs.declared.checks.Bounds.{Bounds}
 
 -- ---- times that are unlike the others
 
@@ -70,37 +77,187 @@ abbrev pub is_unlike : List (Option Entered) → ℕ → Bool
 is_unlike fields place =
     is_unlike_in (time_of (get_or fields place None)) (others fields place)
 
+-- ---- times that are too good to be true
+
+abbrev pub is_fast_in : ℕ → Option ℕ → Bool
+is_fast_in floor None = false
+is_fast_in floor (Some time) = nat_lt time floor
+
+-- a field's time is below a floor
+abbrev pub is_fast : ℕ → Option Entered → Bool
+is_fast floor field = is_fast_in floor (time_of field)
+
+-- a time is less than half of a single, if there is one
+abbrev pub is_half_of : ℕ → Option ℕ → Bool
+is_half_of time None = false
+is_half_of time (Some single) = nat_lt (2 * time) single
+
+abbrev pub is_half_in : Bounds → Option ℕ → Bool
+is_half_in bounds None = false
+is_half_in bounds (Some time) = is_half_of time bounds.here || is_half_of time bounds.elsewhere
+
+-- a field's time is less than half of one of two singles
+abbrev pub is_half : Bounds → Option Entered → Bool
+is_half bounds field = is_half_in bounds (time_of field)
+
+-- the best single that stands in a round, if it was opened
+abbrev pub best_here : List Command → RoundId → Option ℕ
+best_here accepted id = option_and_then (λ round. best_in round.1) (round_by accepted id)
+
+abbrev pub numbered : Event → ℕ → RoundId
+numbered event round = record { event = event; round = round }
+
+-- the best single that stands of a number in a round of the event that is not this one
+abbrev pub single_beside : List Command → RoundId → ℕ → ℕ → Option ℕ
+single_beside accepted id number round =
+    if round == id.round then None
+    else single_of (standing accepted (numbered id.event round) number)
+
+-- the best single that stands of a number in the other rounds of the event (which has at most four:
+-- WCA Regulations, article 9m)
+abbrev pub best_elsewhere : List Command → RoundId → ℕ → Option ℕ
+best_elsewhere accepted id number =
+    least (filter_map (single_beside accepted id number) (1 ∷ 2 ∷ 3 ∷ 4 ∷ []))
+
+-- what the times of a card are compared with: what nobody has ever been below in the event, the
+-- best single of the round, and the competitor's in the others
+abbrev pub bounds_of : List Command → CardEntry → Bounds
+bounds_of accepted card = record {
+  floor = floor_of card.id.event;
+  here = best_here accepted card.id;
+  elsewhere = best_elsewhere accepted card.id card.number;
+}
+
+-- ---- what is asked of times
+
+abbrev pub fast_at : Bounds → List (Option Entered) → ℕ → List Note
+fast_at bounds fields place =
+    if is_fast bounds.floor (get_or fields place None) then note.Fast (place + 1) ∷ [] else []
+
+abbrev pub half_at : Bounds → List (Option Entered) → ℕ → List Note
+half_at bounds fields place =
+    if is_half bounds (get_or fields place None) then note.Half (place + 1) ∷ [] else []
+
 abbrev pub unlike_at : List (Option Entered) → ℕ → List Note
 unlike_at fields place = if is_unlike fields place then note.Unlike (place + 1) ∷ [] else []
 
--- each of the first five times that is unlike the others
-abbrev pub unlike_notes : List (Option Entered) → List Note
-unlike_notes fields = flat_map (unlike_at fields) (range_with_len 0 (min (length fields) 5))
+-- what is asked of the time at a place: whether it is below the floor of the event, less than half
+-- of the singles before it, or unlike the others of the card
+abbrev pub time_at : Bounds → List (Option Entered) → ℕ → List Note
+time_at bounds fields place =
+    fast_at bounds fields place ++ half_at bounds fields place ++ unlike_at fields place
+
+-- what is asked of each of the first five times
+abbrev pub time_notes : Bounds → List (Option Entered) → List Note
+time_notes bounds fields =
+    flat_map (time_at bounds fields) (range_with_len 0 (min (length fields) 5))
+
+-- ---- what it would be answered
+
+abbrev pub enters : (Entered → Bool) → Option Entered → Bool
+enters is None = false
+enters is (Some x) = is x
+
+-- a solution is entered at a place, counted from 0, for an attempt that has no scramble
+abbrev pub lacks_at : (ℕ → Option (List Move)) → List (Option Entered) → ℕ → Bool
+lacks_at scrambles now at = enters (lacks_scramble (scrambles (at + 1))) (get_or now at None)
+
+-- what a card leaves at a place, counted from 0
+abbrev pub left_by : (Entered → Value) → Option Entered → Option Value → List Value
+left_by counts (Some x) was = counts x ∷ []
+left_by counts None (Some value) = value ∷ []
+left_by counts None None = []
+
+abbrev pub left_at : List Command → CardEntry → Settings → ℕ → List Value
+left_at accepted card settings at =
+    left_by (settled settings (scramble_of accepted card.id.event card.id.round (at + 1)))
+    (get_or card.now at None) (slice_get card.was at)
+
+abbrev pub refused_notes : Option Code → List Note
+refused_notes None = []
+refused_notes (Some why) = note.Refused why ∷ []
 
 -- ---- attempts that would change
 
--- the attempt that a command changes; a strike strikes out this one
-abbrev pub change_at : ℕ → Command → List Note
-change_at struck (Correct entry) = note.Changes entry.attempt ∷ []
-change_at struck (Strike id number) = note.Changes struck ∷ []
-change_at struck _ = []
+abbrev pub is_left : Option Value → Option Value → Bool
+is_left (Some value) (Some left) = is_value value left
+is_left None None = true
+is_left _ _ = false
 
--- the attempt that the next strike strikes out
-abbrev pub struck_after : ℕ → Command → ℕ
-struck_after struck (Strike id number) = min (struck + 1) 255
-struck_after struck _ = struck
+-- the attempt at a place, counted from 0, would not be what it was
+abbrev pub change_at : List Value → List Value → ℕ → List Note
+change_at was left place =
+    if is_left (slice_get was place) (slice_get left place) then []
+    else note.Changes (place + 1) ∷ []
 
--- each attempt that is corrected, and each that is struck out, from this one on
-abbrev pub change_notes : ℕ → List Command → List Note
-change_notes struck [] = []
-change_notes struck (command ∷ commands) =
-    change_at struck command ++ change_notes (struck_after struck command) commands
+-- each attempt that stands and would change
+abbrev pub change_notes : List Value → List Value → List Note
+change_notes was left = flat_map (change_at was left) (range_with_len 0 (min (length was) 5))
 
--- attempts are struck out after those that the card has
-abbrev pub doubts : Card → List Command → List Note
-doubts card commands =
-    unlike_notes card.attempts.items
-    ++ change_notes (min (count_filled card.attempts.items) 5 + 1) commands
+abbrev pub left_in : List Command → CardEntry → Option Settings → List Value
+left_in accepted card None = []
+left_in accepted card (Some settings) =
+    card_values (scramble_of accepted card.id.event card.id.round) card settings
+
+-- the values that a card leaves in its round; none, where the round was not opened
+abbrev pub left_of : List Command → CardEntry → List Value
+left_of accepted card =
+    left_in accepted card (option_map (λ round. round.0) (round_by accepted card.id))
+
+-- ---- what is left, beside what is entered
+
+abbrev pub is_failed : Option Value → Bool
+is_failed None = false
+is_failed (Some value) = is_dnf value
+
+-- the solution that is entered at a place, counted from 0, counts DNF under the scramble of its
+-- attempt
+abbrev pub is_unsolved : (ℕ → Option (List Move)) → List (Option Entered) → List Value → ℕ → Bool
+is_unsolved scrambles now left at =
+    enters is_solution (get_or now at None) && is_some (scrambles (at + 1))
+    && is_failed (slice_get left at)
+
+abbrev pub unsolved_at : (ℕ → Option (List Move)) → List (Option Entered) → List Value → ℕ
+    → List Note
+unsolved_at scrambles now left at =
+    if is_unsolved scrambles now left at then note.Unsolved (at + 1) ∷ [] else []
+
+-- each of the first five solutions that does not solve its scramble; these values are left
+abbrev pub unsolved_notes : (ℕ → Option (List Move)) → List (Option Entered) → List Value
+    → List Note
+unsolved_notes scrambles now left =
+    flat_map (unsolved_at scrambles now left) (range_with_len 0 (min (length now) 5))
+
+abbrev pub is_again : Option Value → Option Value → Bool
+is_again (Some (value.Number first)) (Some (value.Number again)) = first == again
+is_again _ _ = false
+
+abbrev pub is_entered : List (Option Entered) → ℕ → Bool
+is_entered now at = enters (λ x. true) (get_or now at None)
+
+-- attempts 3 and 4 are left as results, those of 1 and 2 again, and one of them is entered
+abbrev pub is_repeat : List (Option Entered) → List Value → Bool
+is_repeat now left =
+    (is_entered now 2 || is_entered now 3)
+    && (is_again (slice_get left 0) (slice_get left 2)
+    && is_again (slice_get left 1) (slice_get left 3))
+
+abbrev pub repeat_notes : List (Option Entered) → List Value → List Note
+repeat_notes now left = if is_repeat now left then note.Repeats ∷ [] else []
+
+-- what is asked of the values that a card leaves: each solution that does not solve its scramble;
+-- the first two results again; and each attempt that stands and would change
+abbrev pub left_notes : (ℕ → Option (List Move)) → CardEntry → List Value → List Note
+left_notes scrambles card left =
+    unsolved_notes scrambles card.now left ++ repeat_notes card.now left
+    ++ change_notes card.was left
+
+-- what is to be confirmed of a card: the code with which it would be refused, if it came next; each
+-- time that is too good to be true, or unlike the others; and what it would leave
+abbrev pub doubts : List Command → CardEntry → List Note
+doubts accepted card =
+    refused_notes (refusal accepted (Card card)) ++ time_notes (bounds_of accepted card) card.now
+    ++ left_notes (scramble_of accepted card.id.event card.id.round) card (left_of accepted card)
 
 -- ---- what is wrong
 
@@ -120,39 +277,3 @@ field_notes attempt (fault ∷ faults) =
 
 abbrev pub unread_notes : Unread → List Note
 unread_notes faults = number_notes faults.number ++ field_notes 1 faults.attempts
-
-abbrev pub AreUnread : CardForm → List Note → CardReading → Type 0
-AreUnread form notes (reading.Unread faults) =
-    IsNotRead form (reading.Unread faults) × (notes ≡ unread_notes faults)
-AreUnread form notes reading.NoMemory = ⊥
-
--- the card is not read, and this is said of its fields
-abbrev pub IsUnread : CardForm → List Note → Type 0
-IsUnread form notes = (why : CardReading) × AreUnread form notes why
-
--- no commands are derived from a card, and this is why; or these are, and this is to be confirmed
-abbrev pub ChecksCardAs : Card → List Command → List Note → Bool → Type 0
-ChecksCardAs card accepted notes true =
-    (why : CardFault) × (derived accepted card ≡ Err why) × (notes ≡ note.Card why ∷ [])
-ChecksCardAs card accepted notes false =
-    (commands : List Command) × (derived accepted card ≡ Ok commands)
-    × (notes ≡ doubts card commands)
-
-abbrev pub ChecksCard : Card → List Command → Checked → Type 0
-ChecksCard card accepted checked =
-    ChecksCardAs card accepted checked.notes.items checked.refused
-
--- the card is read, and this is said of it
-abbrev pub ChecksRead : CardForm → List Command → List Note → Bool → Type 0
-ChecksRead form accepted notes refused =
-    (card : Card) × IsReadAs form card × ChecksCardAs card accepted notes refused
-
-abbrev pub ChecksAs : CardForm → List Command → List Note → Bool → Type 0
-ChecksAs form accepted notes true =
-    IsUnread form notes ⊎ ChecksRead form accepted notes true
-ChecksAs form accepted notes false = ChecksRead form accepted notes false
-
--- what is said of a card by the commands that are accepted so far: what is wrong with its fields;
--- else why no commands are derived from it; else what is to be confirmed
-abbrev pub Checks : CardForm → List Command → Checked → Type 0
-Checks form accepted checked = ChecksAs form accepted checked.notes.items checked.refused

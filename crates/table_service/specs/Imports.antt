@@ -21,7 +21,7 @@ use Rattle.table_service.specs.declared.plan.Problem.TheVariants as problem
 use Rattle.table_service.specs.declared.plan.Shown.TheVariants as shown
 use Rattle.table_service.specs.Gate.{values_in}
 use Rattle.table_service.specs.Lists.{LooksAt}
-use Rattle.table_service.specs.Plans.{ShowsPage, refuses}
+use Rattle.table_service.specs.Replying.{ShowsPage, refuses}
 
 -- a part's name and its content
 abbrev pub named : Part → List ℕ × List ℕ

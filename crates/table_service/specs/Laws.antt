@@ -1,25 +1,45 @@
 -- What holds of each answer of the score table.
-use Rattle.std.specs.Prelude.{◌≡◌, ◌⊎◌, ℕ, ◌++◌, ◌∷◌, [], true, false, List, None, Some, Ok, codes}
+use Rattle.std.specs.Prelude.{◌≡◌, ◌⊎◌, ℕ, ◌+◌, ◌++◌, ◌∷◌, [], true, false, List, Some, Ok, codes}
+use Rattle.std.specs.Prelude.{take}
 use Rattle.acceptor.specs.declared.entry.Entry.{Entry}
+use Rattle.attempts.specs.declared.Value.{Value}
 use Rattle.http.specs.declared.request.Request.{Request}
 use Rattle.http1.specs.Fields.{Header}
 use Rattle.http_server.specs.declared.response.Response.{Response}
 use Rattle.http_server.specs.Response.{fields_of}
-use Rattle.card_forms.specs.declared.items.Item.{Item}
-use Rattle.card_forms.specs.declared.items.Item.TheVariants as item
+use Rattle.card_forms.specs.declared.cards.CardForm.{CardForm}
 use Rattle.card_forms.specs.declared.pairs.Pair.{Pair}
 use Rattle.card_forms.specs.Asking.{Asks as AsksOf, IsCommandText}
 use Rattle.card_forms.specs.Cards.{card_form_of, form_id_of}
-use Rattle.card_forms.specs.Items.{id_of}
+use Rattle.card_forms.specs.Entries.{card_entry, card_in, command_entries}
 use Rattle.card_forms.specs.Pairs.{value_of}
-use Rattle.card_queue.specs.Queues.{found_in, is_full}
+use Rattle.card_forms.specs.Readings.{IsReadAs}
 use Rattle.command_lists.specs.Lists.{texts_in}
+use Rattle.commands.specs.Accepted.{are_values, card_values, round_by, scramble_of}
+use Rattle.learner.specs.Laws.{IsPrefix}
+use Rattle.outbox.specs.declared.item.Item.{Item}
+use Rattle.outbox.specs.declared.state.State.TheVariants as state
+use Rattle.outbox.specs.Histories.{Call, CallLeads, World, world}
+use Rattle.outbox.specs.Items.{ItemsOf, item_in}
+use Rattle.outbox.specs.Lines.{HallOf}
+use Rattle.outbox.specs.States.{state_of}
+use Rattle.rounds.specs.Tables.{Table}
+use Rattle.table_views.specs.Logs.{accepted_in}
+use Rattle.table_views.specs.Standing.{values_of}
+use Rattle.texts.specs.declared.command.CardEntry.{CardEntry}
+use Rattle.texts.specs.declared.command.Command.{Command}
+use Rattle.texts.specs.declared.command.Command.TheVariants.{Card}
+use Rattle.texts.specs.declared.command.Settings.{Settings}
 use Rattle.table_service.specs.declared.plan.Problem.TheVariants as problem
+use Rattle.table_service.specs.Answering.{card_over, id_of}
+use Rattle.table_service.specs.Disks.{IsSynced, lines_in}
 use Rattle.table_service.specs.Gate.{has_token, is_own}
-use Rattle.table_service.specs.Lists.{would_be_done}
 use Rattle.table_service.specs.Replies.{IsProblem, security}
 use Rattle.table_service.specs.Requests.{is_post, path_of, sent_pairs}
-use Rattle.table_service.specs.Services.{Answers, ServiceOf, with_item}
+use Rattle.table_service.specs.Undoing.{undone_entry}
+use Rattle.table_service.specs.Services.{Answers, IsKept, ServiceOf, TakesAll}
+
+-- ---- what is taken
 
 -- a request is a form of one of the program's own pages: it names no foreign host or origin, its
 -- method is POST, and it carries the token
@@ -28,51 +48,95 @@ pub record IsForm (s : ServiceOf) (request : Request (List ℕ)) : Type 0 where
   pub method : is_post request ≡ true
   pub token : has_token s.token (sent_pairs request) ≡ true
 
+-- the form of a card is read as this one command, over what its page showed, under its own id
+pub record AsksForCard (pairs : List Pair) (entries : List Entry) : Type 0 where
+  pub form : CardForm
+  pub sent : card_form_of pairs ≡ Ok form
+  pub card : CardEntry
+  pub read : IsReadAs form card
+  pub entry : Entry
+  pub is : card_entry form.id card ≡ Some entry
+  pub alone : entries ≡ entry ∷ []
+
 -- the command that a command's form asks for
-abbrev pub AsksForOne : List Pair → List (List ℕ) → Type 0
-AsksForOne pairs texts =
-    (text : List ℕ) × IsCommandText text × AsksOf pairs text × (texts ≡ text ∷ [])
+pub record AsksForOne (pairs : List Pair) (entries : List Entry) : Type 0 where
+  pub id : ℕ
+  pub named : form_id_of (value_of (codes "id") pairs) ≡ Some id
+  pub text : List ℕ
+  pub fit : IsCommandText text
+  pub asks : AsksOf pairs text
+  pub are : entries ≡ command_entries id (text ∷ [])
 
--- the commands of the lines of a form, each of which would be accepted after the log
-abbrev pub AsksForAll : List Entry → List Pair → ℕ → List (List ℕ) → Type 0
-AsksForAll log pairs id texts =
-    (texts_in (value_of (codes "lines") pairs) ≡ Some texts) × (would_be_done log id texts ≡ true)
+-- the commands of the lines of a form, each under an id of its own
+pub record AsksForAll (pairs : List Pair) (entries : List Entry) : Type 0 where
+  pub id : ℕ
+  pub named : form_id_of (value_of (codes "id") pairs) ≡ Some id
+  pub texts : List (List ℕ)
+  pub read : texts_in (value_of (codes "lines") pairs) ≡ Some texts
+  pub are : entries ≡ command_entries id texts
 
--- the item that the pairs at a path ask for
-abbrev pub AsksFor : List Entry → List ℕ → List Pair → Item → Type 0
-AsksFor log path pairs (item.Card form) =
-    (path ≡ codes "/card") × (card_form_of pairs ≡ Ok form)
-AsksFor log path pairs (item.Commands id texts) =
-    (form_id_of (value_of (codes "id") pairs) ≡ Some id)
-    × (((path ≡ codes "/command") × AsksForOne pairs texts)
-    ⊎ ((path ≡ codes "/commands") × AsksForAll log pairs id texts))
+-- what was typed into a card that was not saved, over what the form's page showed that stands
+pub record AsksAgain (q : ItemsOf) (pairs : List Pair) (entries : List Entry) : Type 0 where
+  pub of : ℕ
+  pub named : id_of pairs ≡ Some of
+  pub card : CardEntry
+  pub item : Item
+  pub known : item_in q of ≡ Some item
+  pub typed : card_in item.entry.text ≡ Some card
+  pub was : List Value
+  pub entry : Entry
+  pub id : ℕ
+  pub is : card_entry id (card_over card was) ≡ Some entry
+  pub alone : entries ≡ entry ∷ []
 
--- a form of one of the program's own pages asks for an item whose id is not known, and there is
--- room for it
-pub record Asks (s : ServiceOf) (request : Request (List ℕ)) (one : Item) : Type 0 where
-  pub form : IsForm s request
-  pub asked : AsksFor s.mirroring.entries (path_of request) (sent_pairs request) one
-  pub unknown : found_in s.queue (id_of one) ≡ None
-  pub room : is_full s.queue ≡ false
+-- what stood before a card that is saved, over what that card left, by these accepted commands
+pub record AsksBack (q : ItemsOf) (pairs : List Pair) (entries : List Entry) : Type 0 where
+  pub of : ℕ
+  pub named : id_of pairs ≡ Some of
+  pub card : CardEntry
+  pub item : Item
+  pub known : item_in q of ≡ Some item
+  pub typed : card_in item.entry.text ≡ Some card
+  pub accepted : List Command
+  pub entry : Entry
+  pub id : ℕ
+  pub is : undone_entry accepted id card ≡ Some entry
+  pub alone : entries ≡ entry ∷ []
 
--- the queue stays, and nothing is kept in the journal
-abbrev pub QueuesNothing : ServiceOf → ServiceOf → Type 0
-QueuesNothing old new = (new.queue ≡ old.queue) × (new.kept ≡ old.kept)
+-- the entries that the pairs at a path ask for
+abbrev pub AsksFor : ItemsOf → List ℕ → List Pair → List Entry → Type 0
+AsksFor q path pairs entries =
+    ((path ≡ codes "/card") × AsksForCard pairs entries)
+    ⊎ ((path ≡ codes "/command") × AsksForOne pairs entries)
+    ⊎ ((path ≡ codes "/commands") × AsksForAll pairs entries)
+    ⊎ ((path ≡ codes "/again") × AsksAgain q pairs entries)
+    ⊎ ((path ≡ codes "/undo") × AsksBack q pairs entries)
 
--- the item that a form asks for is queued, its line is kept, and the browser is sent on
-pub record IsQueued (old : ServiceOf) (request : Request (List ℕ)) (response : Response)
+-- no item is taken
+abbrev pub TakesNothing : ServiceOf → ServiceOf → Type 0
+TakesNothing old new = new.outbox.list.items ≡ old.outbox.list.items
+
+-- the entries that a form asks for are taken, their lines are kept, a crash leaves them, and the
+-- browser is sent on
+pub record IsTaken (old : ServiceOf) (request : Request (List ℕ)) (response : Response)
     (new : ServiceOf) : Type 0 where
-  pub one : Item
-  pub asks : Asks old request one
-  pub becomes : new ≡ with_item old one
+  pub entries : List Entry
+  pub list : ItemsOf
+  pub form : IsForm old request
+  pub asked : AsksFor old.outbox.list (path_of request) (sent_pairs request) entries
+  pub taken : TakesAll old.outbox.list entries old.time list
+  pub items : new.outbox.list.items ≡ list.items
+  pub synced : IsSynced new.file
   pub told : response.status ≡ 303
 
--- nothing is queued or kept but what a form of one of the program's own pages asks for
-abbrev pub QueuesForForms : Type 0
-QueuesForForms =
+-- nothing is taken but what a form of one of the program's own pages asks for
+abbrev pub TakesForForms : Type 0
+TakesForForms =
     (old new : ServiceOf) (request : Request (List ℕ)) (response : Response)
-    → Answers old request response new
-    → QueuesNothing old new ⊎ IsQueued old request response new
+    → IsKept old.outbox → Answers old request response new
+    → TakesNothing old new ⊎ IsTaken old request response new
+
+-- ---- what is answered
 
 -- the fields that each answer has come first
 abbrev pub IsSecured : Response → Type 0
@@ -89,3 +153,51 @@ RefusesForeign =
     (old new : ServiceOf) (request : Request (List ℕ)) (response : Response)
     → Answers old request response new → is_own old.hosts request ≡ false
     → IsProblem problem.Foreign response × (new ≡ old)
+
+-- ---- the journal
+
+-- calls of an outbox, one after the other
+abbrev pub CallsLead : HallOf → List Call → World → World → Type 0
+CallsLead hall [] old new = new ≡ old
+CallsLead hall (call ∷ calls) old new =
+    (next : World) × CallLeads hall call old next × CallsLead hall calls next new
+
+-- the items, and the lines of the journal, come from calls of the outbox
+pub record IsCalled (hall : HallOf) (file : List ℕ) (old new : ServiceOf) : Type 0 where
+  pub calls : List Call
+  pub after : List ℕ
+  pub kept : lines_in new.file ≡ Some after
+  pub lead : CallsLead hall calls (world old.outbox file) (world new.outbox after)
+
+-- whatever is asked, the items and the lines of the journal come from calls of the outbox
+abbrev pub CallsAreOfTheOutbox : Type 0
+CallsAreOfTheOutbox =
+    (hall : HallOf) (file : List ℕ) (old new : ServiceOf) (request : Request (List ℕ))
+    (response : Response)
+    → Answers old request response new → lines_in old.file ≡ Some file
+    → IsCalled hall file old new
+
+-- ---- saved is the card
+
+-- Just before a card is accepted the attempts of its competitor were those that its page showed, in
+-- a round that is opened; just after it they are those that the card leaves.
+pub record IsSavedCard (before : List Command) (card : CardEntry) : Type 0 where
+  pub round : Settings × Table
+  pub opened : round_by before card.id ≡ Some round
+  pub were : are_values card.was (values_of round.1 card.number) ≡ true
+  pub after : Settings × Table
+  pub leaves : round_by (before ++ Card card ∷ []) card.id ≡ Some after
+  pub are : values_of after.1 card.number
+      ≡ card_values (scramble_of before card.id.event card.id.round) card round.0
+
+-- the entry at a position of a log is this one
+abbrev pub StandsAt : List Entry → ℕ → Entry → Type 0
+StandsAt log position entry = take (position + 1) log ≡ take position log ++ entry ∷ []
+
+-- what a mirror's log tells to be saved is so in each log that begins with it
+abbrev pub SavedIsTheCard : Type 0
+SavedIsTheCard =
+    (held log : List Entry) (entry : Entry) (card : CardEntry) (position : ℕ)
+    → IsPrefix held log → card_in entry.text ≡ Some card
+    → state_of held entry ≡ state.Saved position
+    → StandsAt log position entry × IsSavedCard (accepted_in (take position log)) card

@@ -1,27 +1,26 @@
 -- Several commands that are sent together, one a line.
-use Rattle.std.specs.Prelude.{◌≡◌, ◌⊎◌, ℕ, Bool, true, false, codes, List, [], ◌∷◌, get_or}
-use Rattle.std.specs.Prelude.{map, Option, None, Some}
+use Rattle.std.specs.Prelude.{◌≡◌, ◌⊎◌, ℕ, ◌||◌, Bool, true, false, codes, List, [], ◌∷◌, get_or}
+use Rattle.std.specs.Prelude.{is_some, map, Option, None, Some}
 use Rattle.std.specs.List.{list_all}
 use Rattle.acceptor.specs.declared.entry.Entry.{Entry}
 use Rattle.texts.specs.declared.answer.Answer.{Answer}
-use Rattle.card_forms.specs.declared.items.Item.TheVariants as item
-use Rattle.card_forms.specs.declared.items.State.{State}
 use Rattle.card_forms.specs.declared.pairs.Pair.{Pair}
 use Rattle.card_forms.specs.Cards.{form_id_of}
 use Rattle.card_forms.specs.Pairs.{value_of}
-use Rattle.card_queue.specs.Queues.{QueueOf, found_in, is_full}
-use Rattle.card_queue.specs.Sending.{command_entries}
+use Rattle.card_forms.specs.Entries.{command_entries}
 use Rattle.command_lists.specs.Answered.{first_refusal, is_done}
 use Rattle.command_lists.specs.Lists.{AreUnfit, texts_in}
 use Rattle.hall_views.specs.declared.preview.Tried.{Tried}
 use Rattle.hall_views.specs.Preview.{preview_page}
 use Rattle.mirror.specs.Answered.{answers_after}
+use Rattle.outbox.specs.Items.{ItemsOf, item_in}
 use Rattle.table_views.specs.declared.around.Around.{Around}
-use Rattle.table_service.specs.declared.plan.Effect.TheVariants as effect
 use Rattle.table_service.specs.declared.plan.Plan.{Plan}
 use Rattle.table_service.specs.declared.plan.Problem.TheVariants as problem
 use Rattle.table_service.specs.declared.plan.Shown.TheVariants as shown
-use Rattle.table_service.specs.Plans.{RefusesWith, Sends, ShowsPage, page_after, refuses}
+use Rattle.table_service.specs.Plans.{RefusesWith, page_after}
+use Rattle.table_service.specs.Replying.{ShowsPage, refuses}
+use Rattle.table_service.specs.Taking.{PlansEntries}
 
 -- what commands would be answered after a log, if the first has this id
 abbrev pub answered : List Entry → ℕ → List (List ℕ) → List Answer
@@ -36,41 +35,39 @@ unfit_words = codes "1 to 16,384 commands are sent together, each of at most 600
 
 -- ---- commands that are sent
 
--- by whether all of them would be accepted
-abbrev pub PlansAsked : Around → List Pair → ℕ → List (List ℕ) → Bool → Plan → Type 0
-PlansAsked around pairs id texts true plan =
-    Sends (page_after pairs) (effect.Take (item.Commands id texts)) plan
-PlansAsked around pairs id texts false plan =
+-- the first of them is known
+abbrev pub is_known : ItemsOf → ℕ → Bool
+is_known q id = is_some (item_in q id)
+
+-- by whether the first of them is known, or all of them would be accepted
+abbrev pub PlansAsked : Around → ItemsOf → List Pair → ℕ → List (List ℕ) → Bool → Plan → Type 0
+PlansAsked around q pairs id texts true plan =
+    PlansEntries q around (page_after pairs) (command_entries id texts) plan
+PlansAsked around q pairs id texts false plan =
     RefusesWith around (page_after pairs)
     (first_refusal texts (answered around.mirror.now id texts)) plan
 
 -- the lines have commands that can be sent together
-pub record AsksTexts (around : Around) (pairs : List Pair) (id : ℕ) (plan : Plan) : Type 0 where
+pub record AsksTexts (around : Around) (q : ItemsOf) (pairs : List Pair) (id : ℕ) (plan : Plan)
+    : Type 0 where
   pub texts : List (List ℕ)
   pub are : texts_in (value_of (codes "lines") pairs) ≡ Some texts
-  pub plans : PlansAsked around pairs id texts (would_be_done around.mirror.now id texts) plan
+  pub plans : PlansAsked around q pairs id texts
+      (is_known q id || would_be_done around.mirror.now id texts) plan
 
--- new commands, for which there is room
-abbrev pub PlansLines : Around → List Pair → ℕ → Plan → Type 0
-PlansLines around pairs id plan =
+-- the lines of the form with this id
+abbrev pub PlansLines : Around → ItemsOf → List Pair → ℕ → Plan → Type 0
+PlansLines around q pairs id plan =
     (AreUnfit (value_of (codes "lines") pairs)
     × RefusesWith around (page_after pairs) unfit_words plan)
-    ⊎ AsksTexts around pairs id plan
+    ⊎ AsksTexts around q pairs id plan
 
--- by what has become of the form, and whether there is no room
-abbrev pub PlansListFor : Around → List Pair → ℕ → Option State → Bool → Plan → Type 0
-PlansListFor around pairs id (Some state) full plan =
-    Sends (page_after pairs) effect.Nothing plan
-PlansListFor around pairs id None true plan = plan ≡ refuses problem.Busy
-PlansListFor around pairs id None false plan = PlansLines around pairs id plan
-
-abbrev pub PlansListOf : Around → QueueOf → List Pair → Option ℕ → Plan → Type 0
+abbrev pub PlansListOf : Around → ItemsOf → List Pair → Option ℕ → Plan → Type 0
 PlansListOf around q pairs None plan = plan ≡ refuses problem.BadForm
-PlansListOf around q pairs (Some id) plan =
-    PlansListFor around pairs id (found_in q id) (is_full q) plan
+PlansListOf around q pairs (Some id) plan = PlansLines around q pairs id plan
 
 -- the form of several commands
-abbrev pub PlansList : Around → QueueOf → List Pair → Plan → Type 0
+abbrev pub PlansList : Around → ItemsOf → List Pair → Plan → Type 0
 PlansList around q pairs plan =
     PlansListOf around q pairs (form_id_of (value_of (codes "id") pairs)) plan
 

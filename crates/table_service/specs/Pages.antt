@@ -1,8 +1,8 @@
 -- The pages that are made of the mirror.
-use Rattle.std.specs.Prelude.{◌≡◌, ℕ, ◌+◌, List, Option, None, Some, slice_get}
+use Rattle.std.specs.Prelude.{◌≡◌, ℕ, ◌+◌, List, Option, None, Some, is_some, slice_get}
 use Rattle.acceptor.specs.declared.entry.Entry.{Entry}
 use Rattle.card_forms.specs.Readings.{number_of}
-use Rattle.card_queue.specs.Queues.{QueueOf, has_card_of}
+use Rattle.outbox.specs.Items.{ItemsOf, item_in}
 use Rattle.commands.specs.Accepted.{round_by}
 use Rattle.entry_views.specs.declared.draft.Draft.{Draft}
 use Rattle.entry_views.specs.declared.draft.Draft.TheVariants as draft
@@ -30,26 +30,26 @@ draft_of (Some number) = draft.Number number
 
 -- ---- a card
 
-abbrev pub origin_by : QueueOf → ℕ → Option Entry → Option Origin
+abbrev pub origin_by : ItemsOf → ℕ → Option Entry → Option Origin
 origin_by q position None = None
 origin_by q position (Some entry) =
-    Some (record { position = position + 1; here = has_card_of q entry.id })
+    Some (record { position = position + 1; here = is_some (item_in q entry.id) })
 
--- the entry at a position, by how many entries there are up to it, and whether it is of a card that
--- the queue knows
-abbrev pub origin_at : QueueOf → List Entry → ℕ → Option Origin
+-- the entry at a position, by how many entries there are up to it, and whether it was sent
+-- from this table
+abbrev pub origin_at : ItemsOf → List Entry → ℕ → Option Origin
 origin_at q log position = origin_by q position (slice_get log position)
 
-abbrev pub origin_if : QueueOf → List Entry → Option ℕ → Option Origin
+abbrev pub origin_if : ItemsOf → List Entry → Option ℕ → Option Origin
 origin_if q log None = None
 origin_if q log (Some position) = origin_at q log position
 
 -- by which entry of the log the attempts of a competitor in a round stand as they do, if by any
-abbrev pub IsOrigin : QueueOf → List Entry → RoundId → ℕ → Option Origin → Type 0
+abbrev pub IsOrigin : ItemsOf → List Entry → RoundId → ℕ → Option Origin → Type 0
 IsOrigin q log round number origin =
     (last : Option ℕ) × IsLastChange log round number last × (origin ≡ origin_if q log last)
 
-abbrev pub IsOriginFor : QueueOf → List Entry → RoundId → Option ℕ → Option Origin → Type 0
+abbrev pub IsOriginFor : ItemsOf → List Entry → RoundId → Option ℕ → Option Origin → Type 0
 IsOriginFor q log round None origin = origin ≡ None
 IsOriginFor q log round (Some number) origin = IsOrigin q log round number origin
 
@@ -60,7 +60,7 @@ number_in (draft.Number number) = Some number
 number_in (draft.Typed form notes) = number_if (number_of form.now.number)
 
 -- the page of a card of a round, with this draft
-pub record IsCard (q : QueueOf) (around : Around) (round : RoundId) (draft : Draft)
+pub record IsCard (q : ItemsOf) (around : Around) (round : RoundId) (draft : Draft)
     (page : Option (List ℕ)) : Type 0 where
   pub origin : Option Origin
   pub from : IsOriginFor q around.mirror.now round (number_in draft) origin
@@ -73,7 +73,7 @@ IsPeople around (Some page) = IsPeoplePage around page
 
 -- this is the page, under the title of the hall; none where its round was not opened, or where
 -- nobody has its number
-abbrev pub IsPage : QueueOf → Around → List ℕ → View → Option (List ℕ) → Type 0
+abbrev pub IsPage : ItemsOf → Around → List ℕ → View → Option (List ℕ) → Type 0
 IsPage q around title view.Overview page = page ≡ Some (overview around)
 IsPage q around title view.People page = IsPeople around page
 IsPage q around title (view.Person number) page = page ≡ person_page around number

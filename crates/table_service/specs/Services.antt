@@ -1,53 +1,58 @@
--- What the score table answers, and what it queues.
-use Rattle.std.specs.Prelude.{◌≡◌, ◌⊎◌, ℕ, [], Bool, true, false, List, drop, map, slice_get}
-use Rattle.std.specs.Prelude.{Option, None, Some}
+-- What the score table answers, and what it takes.
+use Rattle.std.specs.Prelude.{◌≡◌, ◌⊎◌, ℕ, ◌∷◌, [], Bool, true, false, List, drop, length}
+use Rattle.std.specs.Prelude.{slice_get, Option, None, Some}
+use Rattle.acceptor.specs.declared.entry.Entry.{Entry}
 use Rattle.http.specs.declared.request.Request.{Request}
 use Rattle.http_server.specs.declared.response.Response.{Response}
 use Rattle.mirroring.specs.Mirrorings.{MirroringOf}
-use Rattle.card_forms.specs.declared.items.Item.{Item}
-use Rattle.card_queue.specs.declared.stepping.Stepped.{Stepped}
-use Rattle.card_queue.specs.declared.stepping.Stepped.TheVariants as stepped
-use Rattle.card_queue.specs.Queues.{QueueOf, Steps, queued, recent_in, shown}
-use Rattle.card_queue.specs.Words.{done_line, item_line, with_end}
+use Rattle.outbox.specs.declared.item.Taken.{Taken}
+use Rattle.outbox.specs.Items.{ItemsOf, Takes, all_kept, taken_back}
+use Rattle.outbox.specs.Outboxes.{Answers as AnswersItem, OutboxOf, with_list}
+use Rattle.wire.specs.Entries.{IsEntry}
 use Rattle.table_views.specs.declared.around.Around.{Around}
 use Rattle.table_views.specs.declared.desks.Desks.{Desks}
 use Rattle.table_service.specs.declared.plan.Effect.{Effect}
 use Rattle.table_service.specs.declared.plan.Effect.TheVariants as effect
 use Rattle.table_service.specs.declared.plan.Plan.{Plan}
 use Rattle.table_service.specs.declared.plan.Problem.TheVariants as problem
+use Rattle.table_service.specs.Disks.{JournalOf, Keeps}
 use Rattle.table_service.specs.Gate.{is_own}
-use Rattle.table_service.specs.Keeping.{with_kept}
-use Rattle.table_service.specs.Plans.{refuses}
+use Rattle.table_service.specs.Recents.{AreRecent}
 use Rattle.table_service.specs.Replies.{IsProblem, Writes}
+use Rattle.table_service.specs.Replying.{refuses}
 use Rattle.table_service.specs.Sent.{PlansOwn}
 
 -- the title of the hall, the hosts and the token of the program, the mirror with what keeps it up,
--- what is known of the desks, the queue, the ids for the forms of pages, a set for each page, the
--- time, and what was kept in the journal, where that is told
+-- what is known of the desks, what was entered, the ids for the forms of pages, a set for each
+-- page, the time, and the journal
 pub record ServiceOf : Type 0 where
   pub title : List ℕ
   pub hosts : List (List ℕ)
   pub token : List ℕ
   pub mirroring : MirroringOf
   pub desks : Desks
-  pub queue : QueueOf
+  pub outbox : OutboxOf
   pub ids : List (List ℕ)
   pub time : ℕ
-  pub kept : Option (List ℕ)
+  pub file : JournalOf
 
-abbrev pub service : List ℕ → List (List ℕ) → List ℕ → MirroringOf → Desks → QueueOf
-    → List (List ℕ) → ℕ → Option (List ℕ) → ServiceOf
-service title hosts token mirroring desks queue ids time kept = record {
+abbrev pub service : List ℕ → List (List ℕ) → List ℕ → MirroringOf → Desks → OutboxOf
+    → List (List ℕ) → ℕ → JournalOf → ServiceOf
+service title hosts token mirroring desks outbox ids time file = record {
   title = title;
   hosts = hosts;
   token = token;
   mirroring = mirroring;
   desks = desks;
-  queue = queue;
+  outbox = outbox;
   ids = ids;
   time = time;
-  kept = kept;
+  file = file;
 }
+
+-- between two calls all that was taken stands in the journal, and no line is on the way there
+abbrev pub IsKept : OutboxOf → Type 0
+IsKept o = (o.list.kept ≡ length o.list.items) × (o.list.lines ≡ [])
 
 -- ---- what a service becomes
 
@@ -55,29 +60,22 @@ service title hosts token mirroring desks queue ids time kept = record {
 abbrev pub with_ids_used : ServiceOf → ServiceOf
 with_ids_used s = record s { ids = drop 1 s.ids }
 
--- an item is queued, and its line is kept
-abbrev pub with_item : ServiceOf → Item → ServiceOf
-with_item s one = record s {
-  queue = queued s.queue one s.time;
-  kept = with_kept s.kept (with_end (item_line one));
-}
-
 -- ---- what is to be done for a request
 
--- a page is made of the mirror, the queue and the desks as they are, with this set of ids
+-- a page is made of the mirror, the items and the desks as they are, with this set of ids
 pub record IsAround (s : ServiceOf) (set : List ℕ) (around : Around) : Type 0 where
   pub mirror : around.mirror.now ≡ s.mirroring.entries
   pub desks : around.desks.now ≡ s.desks
   pub token : around.token.now ≡ s.token
   pub ids : around.ids.now ≡ set
-  pub recent : map shown around.recent.now ≡ recent_in s.queue
+  pub recent : AreRecent s.mirroring.entries s.outbox.list around.recent.now
   pub time : around.now ≡ s.time
 
 pub record PlansAround (s : ServiceOf) (set : List ℕ) (request : Request (List ℕ)) (plan : Plan)
     : Type 0 where
   pub around : Around
   pub is : IsAround s set around
-  pub plans : PlansOwn around s.title s.queue request plan
+  pub plans : PlansOwn around s.title s.outbox.list request plan
 
 -- a page needs ids for its forms
 abbrev pub PlansWith : ServiceOf → Request (List ℕ) → Option (List ℕ) → Plan → Type 0
@@ -94,16 +92,85 @@ Plans s request plan = PlansIf s request (is_own s.hosts request) plan
 
 -- ---- what is done
 
--- an item is queued and kept, and the browser is sent on; or it was not kept, and that is answered
-abbrev pub Takes : Item → Plan → ServiceOf → Response → ServiceOf → Type 0
-Takes one plan old response new =
-    ((new ≡ with_item old one) × Writes plan.reply response)
-    ⊎ ((new ≡ old) × IsProblem problem.Busy response)
+-- entries, whose ids and texts are in their ranges, are taken, one after the other
+abbrev pub TakesAll : ItemsOf → List Entry → ℕ → ItemsOf → Type 0
+TakesAll old [] now new = new ≡ old
+TakesAll old (entry ∷ entries) now new =
+    (came : Taken) × (next : ItemsOf) × IsEntry entry × Takes old entry now came next
+    × TakesAll next entries now new
+
+-- what becomes of items whose lines are kept, or could not be kept
+abbrev pub list_if : Bool → ItemsOf → ItemsOf
+list_if true list = all_kept list
+list_if false list = taken_back list
+
+-- the lines of these items are kept, and a crash leaves them; or they could not be kept, and what
+-- was taken is taken back
+abbrev pub KeepsList : Bool → ItemsOf → ServiceOf → ServiceOf → Type 0
+KeepsList kept list old new =
+    (file : JournalOf) × Keeps kept list.lines old.file file
+    × (new ≡ record old { outbox = with_list old.outbox (list_if kept list); file = file })
+
+-- the items of entries that are taken could not be kept, and that is answered
+abbrev pub TakesNone : ItemsOf → ServiceOf → Response → ServiceOf → Type 0
+TakesNone list old response new = KeepsList false list old new × IsProblem problem.Busy response
+
+-- what `take` does: the entries are taken and kept, and the answer stays; or they could not be kept
+abbrev pub TakesFor : Bool → List Entry → ServiceOf → Response → ServiceOf → Response → Type 0
+TakesFor true entries old before new response =
+    (list : ItemsOf) × TakesAll old.outbox.list entries old.time list
+    × KeepsList true list old new × (response ≡ before)
+TakesFor false entries old before new response =
+    (list : ItemsOf) × TakesAll old.outbox.list entries old.time list
+    × TakesNone list old response new
+
+-- the entries are taken and kept, and the browser is sent on; or they could not be kept
+abbrev pub TakesThem : List Entry → Plan → ServiceOf → Response → ServiceOf → Type 0
+TakesThem entries plan old response new =
+    (list : ItemsOf) × TakesAll old.outbox.list entries old.time list
+    × (TakesNone list old response new
+    ⊎ (KeepsList true list old new × Writes plan.reply response))
+
+-- the item of an id counts as answered, where it may, and that is kept, or could not be kept
+pub record AnswersKept (of : ℕ) (old new : ServiceOf) : Type 0 where
+  pub told : Bool
+  pub after : OutboxOf
+  pub answers : AnswersItem old.mirroring.entries of told old.outbox after
+  pub kept : Bool
+  pub keeps : KeepsList kept after.list old new
+
+-- the same, unless memory was refused
+abbrev pub AnswersIt : ℕ → ServiceOf → ServiceOf → Type 0
+AnswersIt of old new = (new ≡ old) ⊎ AnswersKept of old new
+
+-- an entry is taken and kept, the ids of the page are used, and the item of an id counts as
+-- answered
+pub record IsTakenAgain (list : ItemsOf) (of : ℕ) (plan : Plan) (old : ServiceOf)
+    (response : Response) (new : ServiceOf) : Type 0 where
+  pub kept : ServiceOf
+  pub keeps : KeepsList true list old kept
+  pub answers : AnswersIt of (with_ids_used kept) new
+  pub writes : Writes plan.reply response
+
+-- what `take_again` does: the same, and the answer stays; or it could not be kept
+abbrev pub TakesAgainFor : Entry → ℕ → ServiceOf → Response → ServiceOf → Response → Type 0
+TakesAgainFor entry of old before new response =
+    (TakesFor false (entry ∷ []) old before new response)
+    ⊎ ((kept : ServiceOf) × TakesFor true (entry ∷ []) old before kept response
+    × AnswersIt of (with_ids_used kept) new)
+
+abbrev pub TakesAgain : Entry → ℕ → Plan → ServiceOf → Response → ServiceOf → Type 0
+TakesAgain entry of plan old response new =
+    (list : ItemsOf) × TakesAll old.outbox.list (entry ∷ []) old.time list
+    × (TakesNone list old response new ⊎ IsTakenAgain list of plan old response new)
 
 abbrev pub DoesAs : Effect → Plan → ServiceOf → Response → ServiceOf → Type 0
 DoesAs effect.Nothing plan old response new = (new ≡ old) × Writes plan.reply response
 DoesAs effect.Ids plan old response new = (new ≡ with_ids_used old) × Writes plan.reply response
-DoesAs (effect.Take one) plan old response new = Takes one plan old response new
+DoesAs (effect.Take entries) plan old response new = TakesThem entries.items plan old response new
+DoesAs (effect.Again entry of) plan old response new = TakesAgain entry of plan old response new
+DoesAs (effect.Answer of) plan old response new =
+    AnswersIt of old new × Writes plan.reply response
 
 abbrev pub Does : Plan → ServiceOf → Response → ServiceOf → Type 0
 Does plan old response new = DoesAs plan.effect plan old response new
@@ -117,31 +184,17 @@ pub record Answers (old : ServiceOf) (request : Request (List ℕ)) (response : 
 
 -- ---- what the other calls change
 
--- no ids are given, and no time is said
+-- no ids are given, and no time is said; what stands in no journal is no item
 pub record IsNew (title : List ℕ) (hosts : List (List ℕ)) (token : List ℕ) (mirroring : MirroringOf)
-    (queue : QueueOf) (kept : Option (List ℕ)) (s : ServiceOf) : Type 0 where
+    (outbox : OutboxOf) (file : JournalOf) (s : ServiceOf) : Type 0 where
   pub desks : Desks
-  pub is : s ≡ service title hosts token mirroring desks queue [] 0 kept
+  pub is : s ≡ service title hosts token mirroring desks
+      (with_list outbox (taken_back outbox.list)) [] 0 file
 
 -- nothing but the mirror
 abbrev pub IsKeptBut : ServiceOf → ServiceOf → Type 0
 IsKeptBut old new = new ≡ record old { mirroring = new.mirroring }
 
--- where an item is done, the line that says so is kept, or it was not kept; else nothing is
-abbrev pub KeepsEnd : Stepped → Option (List ℕ) → Option (List ℕ) → Type 0
-KeepsEnd (stepped.Ends id outcome) old new =
-    (new ≡ with_kept old (with_end (done_line id))) ⊎ (new ≡ old)
-KeepsEnd _ old new = new ≡ old
-
--- the queue takes a step by the mirror's log, and nothing else changes but what is kept of its end
-abbrev pub StepsQueue : ServiceOf → Stepped → ServiceOf → Type 0
-StepsQueue old stepped new =
-    Steps old.queue old.mirroring.entries old.time stepped new.queue
-    × KeepsEnd stepped old.kept new.kept
-    × (new ≡ record old { queue = new.queue; kept = new.kept })
-
--- the item is queued and kept, and the answer stays; or it was not kept, and that is answered
-abbrev pub AddsItem : Item → ServiceOf → Response → ServiceOf → Response → Type 0
-AddsItem one old before new response =
-    ((new ≡ old) × IsProblem problem.Busy response)
-    ⊎ ((new ≡ with_item old one) × (response ≡ before))
+-- nothing but what is under way
+abbrev pub IsSentBut : ServiceOf → ServiceOf → Type 0
+IsSentBut old new = new ≡ record old { outbox = new.outbox }

@@ -6,25 +6,25 @@ ghost use Rattle.table_service.specs.Pages.{IsCard, IsOrigin, IsOriginFor, numbe
 
 use acceptor::entry::Entry;
 use card_forms::number_of;
-use card_queue::CardQueue;
 use entry_views::{Draft, Origin, card_page};
 use learner::log::Log;
 use mirror::Mirror;
 use origins::last_change;
+use outbox::Outbox;
 use std::alloc::{AllocError, Global};
 use table_views::Around;
 use texts::RoundId;
 
 /// What an entry at a position of the log says of where it comes from.
-fn origin_at(queue: &CardQueue, log: &Log, position: u32) -> Option<Origin>
+fn origin_at(outbox: &Outbox, log: &Log, position: u32) -> Option<Origin>
     requires { position < length log.now.entries }
-    ensures { result ≡ origin_at queue.now log.now.entries position }
+    ensures { result ≡ origin_at outbox.now.list log.now.entries position }
 {
     let _most = log.len();
     match log.entry(position) {
         Some(entry) => Some(Origin {
             position: position + 1,
-            here: queue.has_card_of(entry.id()),
+            here: outbox.find(entry.id()).is_some(),
         }),
         None => None,
     }
@@ -33,15 +33,15 @@ fn origin_at(queue: &CardQueue, log: &Log, position: u32) -> Option<Origin>
 /// By which entry the attempts of a competitor in a round stand as they do, if by any.
 fn origin_of(
     alloc: Global,
-    queue: &CardQueue,
+    outbox: &Outbox,
     mirror: &Mirror,
     round: RoundId,
     number: u16,
 ) -> Result<Option<Origin>, AllocError>
-    ensures { IfOk result (IsOrigin queue.now mirror.now round number) }
+    ensures { IfOk result (IsOrigin outbox.now.list mirror.now round number) }
 {
     match last_change(alloc, mirror, round, number)? {
-        Some(position) => Ok(origin_at(queue, mirror.log(), position)),
+        Some(position) => Ok(origin_at(outbox, mirror.log(), position)),
         None => Ok(None),
     }
 }
@@ -49,15 +49,15 @@ fn origin_of(
 /// The same, if the competitor is known.
 fn origin_for(
     alloc: Global,
-    queue: &CardQueue,
+    outbox: &Outbox,
     mirror: &Mirror,
     round: RoundId,
     number: Option<u16>,
 ) -> Result<Option<Origin>, AllocError>
-    ensures { IfOk result (IsOriginFor queue.now mirror.now round number) }
+    ensures { IfOk result (IsOriginFor outbox.now.list mirror.now round number) }
 {
     match number {
-        Some(number) => origin_of(alloc, queue, mirror, round, number),
+        Some(number) => origin_of(alloc, outbox, mirror, round, number),
         None => Ok(None),
     }
 }
@@ -79,14 +79,14 @@ fn number_in(draft: Draft<'_>) -> Option<u16>
 /// The page of a card of a round. None where the round was not opened.
 pub(crate) fn card(
     alloc: Global,
-    queue: &CardQueue,
+    outbox: &Outbox,
     around: &Around<'_>,
     round: RoundId,
     draft: Draft<'_>,
 ) -> Result<Option<Vec<u8>>, AllocError>
-    ensures { IfOk result (λ page. IsCard queue.now around.entry.now round draft.entry
+    ensures { IfOk result (λ page. IsCard outbox.now.list around.entry.now round draft.entry
         (option_map (λ text. text.items) page)) }
 {
-    let origin = origin_for(alloc, queue, around.mirror, round, number_in(draft))?;
+    let origin = origin_for(alloc, outbox, around.mirror, round, number_in(draft))?;
     card_page(alloc, around, round, draft, origin)
 }

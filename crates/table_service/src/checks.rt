@@ -1,29 +1,32 @@
 //! What is said of a card before it is taken.
 
 ghost use Rattle.std.specs.Prelude.{◌≡◌, ◌++◌, ◌∷◌, [], ◌<◌, ◌≤◌, ◌^◌, IfOk, IfSome, OnOk};
-ghost use Rattle.std.specs.Prelude.{length, min, position, true};
+ghost use Rattle.std.specs.Prelude.{All, length};
+ghost use Rattle.texts.specs.Spelling.{IsEntered};
 ghost use Rattle.std.specs.List.{list_all, list_any};
-ghost use Rattle.derivation.specs.Cards.{count_filled, is_empty};
-ghost use Rattle.table_service.specs.Checks.{Checks, ChecksCard, change_at, change_notes, doubts};
-ghost use Rattle.table_service.specs.Checks.{field_note, field_notes, has_time, is_long, is_short};
-ghost use Rattle.table_service.specs.Checks.{is_unlike, is_unlike_those, number_notes};
-ghost use Rattle.table_service.specs.Checks.{struck_after, time_of, unlike_at, unlike_notes};
-ghost use Rattle.table_service.specs.Checks.{unread_notes};
+ghost use Rattle.commands.specs.Accepted.{is_solution, scramble_of};
+ghost use Rattle.table_service.specs.Checks.{best_elsewhere, best_here, bounds_of, change_at};
+ghost use Rattle.table_service.specs.Checks.{change_notes, doubts, enters, fast_at, field_note};
+ghost use Rattle.table_service.specs.Checks.{field_notes, half_at, has_time, is_again, is_entered};
+ghost use Rattle.table_service.specs.Checks.{is_failed, is_fast, is_half, is_half_of, is_left};
+ghost use Rattle.table_service.specs.Checks.{is_long, is_repeat, is_short, is_unlike};
+ghost use Rattle.table_service.specs.Checks.{is_unlike_those, left_notes, left_of, number_notes};
+ghost use Rattle.table_service.specs.Checks.{refused_notes, repeat_notes, single_beside, time_at};
+ghost use Rattle.table_service.specs.Checks.{time_notes, time_of, unlike_at, unread_notes};
+ghost use Rattle.table_service.specs.Checks.{unsolved_at, unsolved_notes};
 
-use card_forms::{CardForm, CardReading, NumberFault, Unread, card_of};
+use crate::refusing::{refusal_of, value_at, values_left};
+use attempts::Value;
+use card_forms::{NumberFault, Unread};
 use commands::Meet;
-use derivation::{Card, CardFault, derive};
-use entry_views::Note;
+use entry_views::{Note, best_in, floor_of, single_of};
+use round_counts::round_opened;
 use std::alloc::{AllocError, Global};
-use texts::{Command, Entered};
+use table_views::standing;
+use texts::{CardEntry, Code, Entered, RoundId};
 
-/// What is said of a card, and whether it is refused for it.
-#[derive(Drop)]
-pub struct Checked {
-    pub notes: Vec<Note>,
-    /// One of the notes is a fault.
-    pub refused: bool,
-}
+/// The rounds that an event may have.
+const ROUNDS: &[u8] = &[1, 2, 3, 4];
 
 /// Puts a note after the others.
 fn put(notes: &mut Vec<Note>, note: Note) -> Result<(), AllocError>
@@ -123,6 +126,87 @@ fn is_unlike(fields: &[Option<Entered>], place: usize) -> bool
     }
 }
 
+/// What the times of a card are compared with, in hundredths of a second.
+#[derive(Clone, Copy)]
+pub(crate) struct Bounds {
+    /// What nobody has ever been below in the event; 0 for none.
+    floor: u32,
+    /// The best single of the round.
+    here: Option<u32>,
+    /// The competitor's best single in the other rounds of the event.
+    elsewhere: Option<u32>,
+}
+
+/// Whether a field's time is below a floor.
+fn is_fast(floor: u32, field: &Option<Entered>) -> bool
+    ensures { result ≡ is_fast floor field.now }
+{
+    match time_of(field) {
+        Some(time) => time < u64::from(floor),
+        None => false,
+    }
+}
+
+/// Whether a time is less than half of a single, if there is one.
+fn is_half_of(time: u64, single: Option<u32>) -> bool
+    requires { time < 2 ^ 33 }
+    ensures { result ≡ is_half_of time single }
+{
+    match single {
+        Some(single) => 2 * time < u64::from(single),
+        None => false,
+    }
+}
+
+/// Whether a field's time is less than half of the best single of the round, or of the
+/// competitor's in another.
+fn is_half(bounds: Bounds, field: &Option<Entered>) -> bool
+    ensures { result ≡ is_half bounds field.now }
+{
+    match time_of(field) {
+        Some(time) => is_half_of(time, bounds.here) || is_half_of(time, bounds.elsewhere),
+        None => false,
+    }
+}
+
+/// Notes a time that nobody has ever been below.
+fn note_if_fast(
+    notes: &mut Vec<Note>,
+    bounds: Bounds,
+    fields: &[Option<Entered>],
+    place: usize,
+) -> Result<(), AllocError>
+    requires within { place < length fields.now }
+    requires few { place < 5 }
+    ensures { OnOk result (notes.new.items ≡ notes.old.items ++ fast_at bounds fields.now place) }
+{
+    if is_fast(bounds.floor, &fields[place]) {
+        let attempt = place as u8 + 1;
+        put(notes, Note::Fast { attempt })
+    } else {
+        Ok(())
+    }
+}
+
+/// Notes a time that is less than half of the singles before it.
+fn note_if_half(
+    notes: &mut Vec<Note>,
+    bounds: Bounds,
+    fields: &[Option<Entered>],
+    place: usize,
+) -> Result<(), AllocError>
+    requires within { place < length fields.now }
+    requires few { place < 5 }
+    ensures { OnOk result (notes.new.items ≡ notes.old.items ++ half_at bounds fields.now place) }
+{
+    if is_half(bounds, &fields[place]) {
+        let attempt = place as u8 + 1;
+        put(notes, Note::Half { attempt })
+    } else {
+        Ok(())
+    }
+}
+
 /// Notes a time that is unlike the others.
 fn note_if_unlike(
     notes: &mut Vec<Note>,
@@ -141,112 +225,294 @@ fn note_if_unlike(
     }
 }
 
-/// Notes the times that are unlike the others.
-fn note_unlike(notes: &mut Vec<Note>, fields: &[Option<Entered>]) -> Result<(), AllocError>
-    ensures { OnOk result (notes.new.items ≡ notes.old.items ++ unlike_notes fields.now) }
+/// Notes what is asked of the time at a place.
+fn note_time(
+    notes: &mut Vec<Note>,
+    bounds: Bounds,
+    fields: &[Option<Entered>],
+    place: usize,
+) -> Result<(), AllocError>
+    requires within { place < length fields.now }
+    requires few { place < 5 }
+    ensures { OnOk result (notes.new.items ≡ notes.old.items ++ time_at bounds fields.now place) }
+{
+    note_if_fast(notes, bounds, fields, place)?;
+    note_if_half(notes, bounds, fields, place)?;
+    note_if_unlike(notes, fields, place)?;
+    Ok(())
+}
+
+/// Notes what is asked of the times.
+fn note_times(
+    notes: &mut Vec<Note>,
+    bounds: Bounds,
+    fields: &[Option<Entered>],
+) -> Result<(), AllocError>
+    ensures { OnOk result (notes.new.items ≡ notes.old.items ++ time_notes bounds fields.now) }
 {
     for place in 0..fields.len().min(5) {
-        note_if_unlike(notes, fields, place)?;
+        note_time(notes, bounds, fields, place)?;
     }
     Ok(())
 }
 
-/// Whether a field is empty.
-fn is_empty(field: &Option<Entered>) -> bool
-    ensures { result ≡ is_empty field.now }
+/// The best single that stands in a round, if it was opened.
+fn best_here(meet: &Meet, id: RoundId) -> Result<Option<u32>, AllocError>
+    ensures { IfOk result (λ best. best ≡ best_here meet.now.accepted id) }
 {
-    match field {
-        Some(_) => false,
-        None => true,
+    match round_opened(meet, id) {
+        Some(round) => best_in(round.table),
+        None => Ok(None),
     }
 }
 
-/// Where the first empty field is.
-fn first_empty(fields: &[Option<Entered>]) -> Option<usize>
-    ensures { result ≡ position is_empty fields.now }
+/// The best single that stands of a competitor in a round of the event that is not this one.
+fn single_beside(meet: &Meet, id: RoundId, number: u16, round: u8) -> Option<u32>
+    ensures { result ≡ single_beside meet.now.accepted id number round }
 {
-    fields.iter().position(|field| is_empty(field))
+    if round == id.round {
+        return None;
+    }
+    let other = RoundId {
+        event: id.event,
+        round,
+    };
+    single_of(standing(meet, other, number))
 }
 
-/// How many fields are filled in, up to the first empty one, at most 5.
-fn count_filled(fields: &[Option<Entered>]) -> u8
-    ensures count { result ≡ min (count_filled fields.now) 5 }
-    ensures few { result ≤ 5 }
+/// The best single that stands of a competitor in the other rounds of the event.
+fn best_elsewhere(meet: &Meet, id: RoundId, number: u16) -> Option<u32>
+    ensures { result ≡ best_elsewhere meet.now.accepted id number }
 {
-    first_empty(fields).unwrap_or(fields.len()).min(5) as u8
+    ROUNDS
+        .iter()
+        .filter_map(|round| single_beside(meet, id, number, *round))
+        .min()
 }
 
-/// The number of the attempt that the next strike strikes out, after this command.
-fn struck_after(command: &Command, struck: u8) -> u8
-    ensures { result ≡ struck_after struck command.now }
+/// What the times of a card are compared with.
+fn bounds_of(meet: &Meet, card: &CardEntry) -> Result<Bounds, AllocError>
+    ensures { IfOk result (λ bounds. bounds ≡ bounds_of meet.now.accepted card.entry.now) }
 {
-    match command {
-        Command::Strike { .. } => struck.saturating_add(1),
-        _ => struck,
+    Ok(Bounds {
+        floor: floor_of(card.id.event),
+        here: best_here(meet, card.id)?,
+        elsewhere: best_elsewhere(meet, card.id, card.number),
+    })
+}
+
+/// Notes that a card would be refused with a code.
+fn note_refusal(notes: &mut Vec<Note>, code: Option<Code>) -> Result<(), AllocError>
+    ensures { OnOk result (notes.new.items ≡ notes.old.items ++ refused_notes code) }
+{
+    match code {
+        Some(code) => put(notes, Note::Refused(code)),
+        None => Ok(()),
     }
 }
 
-/// Notes the attempt that a command changes. A strike strikes out this one.
-fn note_change(notes: &mut Vec<Note>, command: &Command, struck: u8) -> Result<(), AllocError>
-    ensures { OnOk result (notes.new.items ≡ notes.old.items ++ change_at struck command.now) }
+/// Whether what stands for an attempt is what a card leaves there.
+pub(crate) fn is_left(was: Option<Value>, left: Option<Value>) -> bool
+    ensures { result ≡ is_left was left }
 {
-    match command {
-        Command::Correct(entry) => {
-            let attempt = entry.attempt;
-            put(notes, Note::Changes { attempt })
-        }
-        Command::Strike { .. } => put(notes, Note::Changes { attempt: struck }),
-        _ => Ok(()),
+    match (was, left) {
+        (Some(was), Some(left)) => was == left,
+        (None, None) => true,
+        _ => false,
     }
 }
 
-/// Notes the attempts that stand and would change. Attempts are struck out from this one on.
-fn note_changes(notes: &mut Vec<Note>, commands: &[Command], struck: u8) -> Result<(), AllocError>
-    ensures { OnOk result (notes.new.items ≡ notes.old.items ++ change_notes struck commands.now) }
+/// Notes an attempt that stands and would change, by its place, counted from 0.
+fn note_change(
+    notes: &mut Vec<Note>,
+    was: &[Value],
+    left: &[Value],
+    place: usize,
+) -> Result<(), AllocError>
+    requires { place < 5 }
+    ensures { OnOk result (notes.new.items
+        ≡ notes.old.items ++ change_at was.now left.now place) }
 {
-    let mut next = struck;
-    for command in commands {
-        note_change(notes, command, next)?;
-        next = struck_after(command, next);
+    if is_left(value_at(was, place), value_at(left, place)) {
+        return Ok(());
+    }
+    let attempt = place as u8 + 1;
+    put(notes, Note::Changes { attempt })
+}
+
+/// Notes each attempt that stands and would change: these stand, and the card leaves those.
+fn note_changes(notes: &mut Vec<Note>, was: &[Value], left: &[Value]) -> Result<(), AllocError>
+    ensures { OnOk result (notes.new.items
+        ≡ notes.old.items ++ change_notes was.now left.now) }
+{
+    for place in 0..was.len().min(5) {
+        note_change(notes, was, left, place)?;
     }
     Ok(())
 }
 
-/// What is to be confirmed of a card from which these commands are derived.
-fn doubts(alloc: Global, card: &Card, commands: &[Command]) -> Result<Vec<Note>, AllocError>
-    ensures { IfOk result (λ notes. notes.items ≡ doubts card.now commands.now) }
+/// Whether a solution is entered.
+fn enters_solution(field: &Option<Entered>) -> bool
+    ensures { result ≡ enters is_solution field.now }
+{
+    matches!(field, Some(Entered::Solution { .. }))
+}
+
+/// Whether a value is there, and is a DNF.
+fn is_failed(value: Option<Value>) -> bool
+    ensures { result ≡ is_failed value }
+{
+    match value {
+        Some(Value::Dnf) => true,
+        _ => false,
+    }
+}
+
+/// Notes a solution, at a place, that counts DNF under the scramble of its attempt.
+fn note_if_unsolved(
+    notes: &mut Vec<Note>,
+    meet: &Meet,
+    id: RoundId,
+    now: &[Option<Entered>],
+    left: &[Value],
+    at: usize,
+) -> Result<(), AllocError>
+    requires within { at < length now.now }
+    requires few { at < 5 }
+    ensures { OnOk result (notes.new.items ≡ notes.old.items
+        ++ unsolved_at (scramble_of meet.now.accepted id.event id.round) now.now left.now at) }
+{
+    let attempt = at as u8 + 1;
+    if enters_solution(&now[at])
+        && meet.scramble(id.event, id.round, attempt).is_some()
+        && is_failed(value_at(left, at))
+    {
+        put(notes, Note::Unsolved { attempt })
+    } else {
+        Ok(())
+    }
+}
+
+/// Notes the solutions that do not solve their scrambles, where a card leaves these values.
+fn note_unsolved(
+    notes: &mut Vec<Note>,
+    meet: &Meet,
+    id: RoundId,
+    now: &[Option<Entered>],
+    left: &[Value],
+) -> Result<(), AllocError>
+    ensures { OnOk result (notes.new.items ≡ notes.old.items
+        ++ unsolved_notes (scramble_of meet.now.accepted id.event id.round) now.now left.now) }
+{
+    for at in 0..now.len().min(5) {
+        note_if_unsolved(notes, meet, id, now, left, at)?;
+    }
+    Ok(())
+}
+
+/// Whether two attempts are results, and the same.
+fn is_again(first: Option<Value>, again: Option<Value>) -> bool
+    ensures { result ≡ is_again first again }
+{
+    match (first, again) {
+        (Some(Value::Number(first)), Some(Value::Number(again))) => first == again,
+        _ => false,
+    }
+}
+
+/// Whether something is entered for the attempt at a place, counted from 0.
+fn is_entered(now: &[Option<Entered>], at: usize) -> bool
+    ensures { result ≡ is_entered now.now at }
+{
+    match now.get(at) {
+        Some(field) => field.is_some(),
+        None => false,
+    }
+}
+
+/// Whether attempts 3 and 4, one of which is entered, are left as results, those of 1 and 2 again.
+fn is_repeat(now: &[Option<Entered>], left: &[Value]) -> bool
+    ensures { result ≡ is_repeat now.now left.now }
+{
+    (is_entered(now, 2) || is_entered(now, 3))
+        && is_again(value_at(left, 0), value_at(left, 2))
+        && is_again(value_at(left, 1), value_at(left, 3))
+}
+
+/// Notes that the first two results come again.
+fn note_repeats(
+    notes: &mut Vec<Note>,
+    now: &[Option<Entered>],
+    left: &[Value],
+) -> Result<(), AllocError>
+    ensures { OnOk result (notes.new.items
+        ≡ notes.old.items ++ repeat_notes now.now left.now) }
+{
+    if is_repeat(now, left) {
+        put(notes, Note::Repeats)
+    } else {
+        Ok(())
+    }
+}
+
+/// Notes what is asked of the values that a card leaves.
+fn note_left(
+    notes: &mut Vec<Note>,
+    meet: &Meet,
+    card: &CardEntry,
+    left: &[Value],
+) -> Result<(), AllocError>
+    ensures { OnOk result (notes.new.items ≡ notes.old.items
+        ++ left_notes (scramble_of meet.now.accepted card.entry.now.id.event
+        card.entry.now.id.round) card.entry.now left.now) }
+{
+    note_unsolved(notes, meet, card.id, card.now.as_slice(), left)?;
+    note_repeats(notes, card.now.as_slice(), left)?;
+    note_changes(notes, card.was.as_slice(), left)?;
+    Ok(())
+}
+
+/// The values that a card leaves in its round; none, where the round was not opened.
+fn left_of(alloc: Global, meet: &Meet, card: &CardEntry) -> Result<Vec<Value>, AllocError>
+    requires few { length card.now.now < 256 }
+    requires entered { All (λ o. IfSome o IsEntered) card.now.now }
+    ensures { IfOk result (λ left. left.items ≡ left_of meet.now.accepted card.entry.now) }
+{
+    match meet.settings(card.id.event, card.id.round) {
+        Some(settings) => values_left(alloc, meet, card, settings),
+        None => Ok(Vec::new(alloc)),
+    }
+}
+
+/// What is to be confirmed of a card, where the commands so far come to this meet: with which code
+/// it would be refused; each time that nobody has ever been below, that is less than half of the
+/// best single of the round or of the competitor's in another, or that is unlike the others; each
+/// solution that does not solve its scramble; the first two results again; and each attempt that
+/// stands and would change.
+pub(crate) fn doubts_of(
+    alloc: Global,
+    card: &CardEntry,
+    meet: &Meet,
+) -> Result<Vec<Note>, AllocError>
+    requires few { length card.now.now < 256 }
+    requires entered { All (λ o. IfSome o IsEntered) card.now.now }
+    ensures { IfOk result (λ notes. notes.items ≡ doubts meet.now.accepted card.entry.now) }
 {
     let mut notes = Vec::new(alloc);
-    note_unlike(&mut notes, &card.attempts)?;
-    let filled = count_filled(&card.attempts);
-    note_changes(&mut notes, commands, filled + 1)?;
+    note_refusal(&mut notes, refusal_of(alloc, meet, card)?)?;
+    note_times(&mut notes, bounds_of(meet, card)?, card.now.as_slice())?;
+    let left = left_of(alloc, meet, card)?;
+    note_left(&mut notes, meet, card, &left)?;
     Ok(notes)
 }
 
 /// A note alone.
-fn only(alloc: Global, note: Note) -> Result<Vec<Note>, AllocError>
+pub(crate) fn only(alloc: Global, note: Note) -> Result<Vec<Note>, AllocError>
     ensures { IfOk result (λ notes. notes.items ≡ note ∷ []) }
 {
     let mut notes = Vec::new(alloc);
     put(&mut notes, note)?;
     Ok(notes)
-}
-
-/// What is said of a card that was read.
-fn check_card(alloc: Global, card: &Card, meet: &Meet) -> Result<Checked, AllocError>
-    ensures { IfOk result (ChecksCard card.now meet.now.accepted) }
-{
-    match derive(alloc, meet, card) {
-        Ok(commands) => Ok(Checked {
-            notes: doubts(alloc, card, &commands)?,
-            refused: false,
-        }),
-        Err(CardFault::NoMemory) => Err(AllocError),
-        Err(fault) => Ok(Checked {
-            notes: only(alloc, Note::Card(fault))?,
-            refused: true,
-        }),
-    }
 }
 
 /// Notes what is wrong with the competitor's number.
@@ -288,28 +554,11 @@ fn note_fields(
 }
 
 /// What is said of a card that was not read.
-fn unread(alloc: Global, faults: &Unread) -> Result<Checked, AllocError>
-    ensures { IfOk result (λ checked. (checked.notes.items ≡ unread_notes faults.now)
-        × (checked.refused ≡ true)) }
+pub(crate) fn unread(alloc: Global, faults: &Unread) -> Result<Vec<Note>, AllocError>
+    ensures { IfOk result (λ notes. notes.items ≡ unread_notes faults.now) }
 {
     let mut notes = Vec::new(alloc);
     note_number(&mut notes, faults.number)?;
     note_fields(&mut notes, &faults.attempts)?;
-    Ok(Checked {
-        notes,
-        refused: true,
-    })
-}
-
-/// What is said of a card, where the commands so far come to this meet: what is wrong with each
-/// field that is not read; else why nothing is derived from it; else each time that is unlike the
-/// others, and each attempt that stands and would change.
-pub fn notes_of(alloc: Global, form: &CardForm, meet: &Meet) -> Result<Checked, AllocError>
-    ensures { IfOk result (Checks form.now meet.now.accepted) }
-{
-    match card_of(alloc, form) {
-        Ok(card) => check_card(alloc, &card, meet),
-        Err(CardReading::NoMemory) => Err(AllocError),
-        Err(CardReading::Unread(faults)) => unread(alloc, &faults),
-    }
+    Ok(notes)
 }

@@ -1,15 +1,21 @@
 //! A command that is sent.
 
-ghost use Rattle.std.specs.Prelude.{◌≡◌, IfOk};
-ghost use Rattle.card_queue.specs.Queues.{found_in, is_full};
-ghost use Rattle.table_service.specs.Plans.{IsWrong, PlansCommand, PlansText, RefusesWith};
-ghost use Rattle.table_service.specs.Plans.{has_forms, page_after};
+ghost use Rattle.std.specs.Prelude.{◌≡◌, ◌∷◌, [], IfOk};
+ghost use Rattle.card_forms.specs.Entries.{entry_with};
+ghost use Rattle.hall_views.specs.Refused.{faults_page};
+ghost use Rattle.table_service.specs.Plans.{IsWrong, PlansCommand, RefusesWith, has_forms};
+ghost use Rattle.table_service.specs.Plans.{page_after};
+ghost use Rattle.table_service.specs.Replying.{ShowsPage};
+ghost use Rattle.table_service.specs.Taking.{PlansEntries};
 
-use crate::plan::{Effect, Plan, Problem, Shown};
+use crate::entries::plan_entries;
+use crate::plan::{Plan, Problem, Shown};
 use crate::reading::{number_below, round_below};
-use card_forms::{CommandForm, CommandFormFault, CommandTexts, Item, Pairs, command_form};
-use card_queue::CardQueue;
-use hall_views::refused_page;
+use card_forms::{
+    CommandForm, CommandFormFault, CommandTexts, Pairs, command_entries, command_form,
+};
+use hall_views::{faults_page, refused_page};
+use outbox::Outbox;
 use std::alloc::{AllocError, Global};
 use table_views::Around;
 
@@ -21,6 +27,7 @@ fn has_forms(path: &[u8]) -> bool
         || path == b"/rounds".as_slice()
         || path == b"/import".as_slice()
         || round_below(path, b"/rounds?round=").is_some()
+        || round_below(path, b"/card/").is_some()
         || number_below(path, b"/person/").is_some()
 }
 
@@ -45,6 +52,20 @@ pub(crate) fn refuse(
     Ok(Plan::with_ids(Shown::Wrong, page))
 }
 
+/// The page that says in these lines why nothing is entered, with a link back to this page.
+pub(crate) fn tell(
+    alloc: Global,
+    around: &Around<'_>,
+    back: &[u8],
+    lines: &[u8],
+) -> Result<Plan, AllocError>
+    ensures { IfOk result
+        (ShowsPage Shown.Wrong (faults_page around.entry.now back.now lines.now)) }
+{
+    let page = faults_page(alloc, around, back, lines)?;
+    Ok(Plan::with_ids(Shown::Wrong, page))
+}
+
 /// The page that says what is wrong.
 fn wrong(
     alloc: Global,
@@ -61,36 +82,31 @@ fn wrong(
 /// What is to be done for a command that a form asks for.
 fn plan_text(
     alloc: Global,
-    queue: &CardQueue,
+    outbox: &Outbox,
+    around: &Around<'_>,
     form: CommandForm,
     back: &[u8],
 ) -> Result<Plan, AllocError>
-    ensures { IfOk result (PlansText form.id form.text back.now (found_in queue.now form.id)
-        (is_full queue.now)) }
+    ensures { IfOk result (PlansEntries outbox.now.list around.entry.now back.now
+        (entry_with form.id form.text ∷ [])) }
 {
-    let location = Vec::from_slice(alloc, back)?;
-    if queue.find(form.id).is_some() {
-        return Ok(Plan::see(location, Effect::Nothing));
-    }
-    if !queue.has_room() {
-        return Ok(Plan::problem(Problem::Busy));
-    }
+    let place = Vec::from_slice(alloc, back)?;
     let texts = CommandTexts::one(alloc, form.text)?;
-    let item = Item::Commands { id: form.id, texts };
-    Ok(Plan::see(location, Effect::Take(item)))
+    let entries = command_entries(alloc, form.id, &texts)?;
+    plan_entries(alloc, outbox, around, place, entries)
 }
 
 /// What is to be done for the pairs of a command's form.
 pub(crate) fn plan_command(
     alloc: Global,
-    queue: &CardQueue,
+    outbox: &Outbox,
     around: &Around<'_>,
     pairs: &Pairs,
 ) -> Result<Plan, AllocError>
-    ensures { IfOk result (PlansCommand around.entry.now queue.now pairs.now) }
+    ensures { IfOk result (PlansCommand around.entry.now outbox.now.list pairs.now) }
 {
     match command_form(alloc, pairs) {
-        Ok(form) => plan_text(alloc, queue, form, page_after(pairs)),
+        Ok(form) => plan_text(alloc, outbox, around, form, page_after(pairs)),
         Err(CommandFormFault::NoMemory) => Err(AllocError),
         Err(CommandFormFault::BadId) => Ok(Plan::problem(Problem::BadForm)),
         Err(fault) => wrong(alloc, around, pairs, fault),

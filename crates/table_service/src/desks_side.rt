@@ -1,20 +1,21 @@
 //! What is kept up with the desks of the hall.
 
-use crate::keeper::Keeper;
-use crate::sending::Sending;
+ghost use Rattle.wire.specs.Ranges.{IsDesk};
+
+use crate::disk::Disk;
 use crate::service::TableService;
-use card_queue::Stepped;
 use desk_sockets::{DeskStream, Kept};
 use hall_standings::{AskedDesks, Hall, count_desks, stream_to};
 use mio::Registry;
 use mirroring::Stage;
+use outbox::{State, state_of};
 use std::alloc::Global;
 use std::io;
 use std::io::Write;
 use std::net::Net;
 use std::random::RandomSource;
-use submitting::Submission;
 use table_views::Desks;
+use wire::ClientRefusal;
 
 /// The name of the program.
 pub const PROGRAM: &str = "scoretable";
@@ -22,26 +23,40 @@ pub const PROGRAM: &str = "scoretable";
 /// Milliseconds that sockets are waited for at most.
 const LONGEST_WAIT: u64 = 250;
 
-/// How long after the desk has taken the last entry it is asked for its log, and how often while
-/// entries wait, in milliseconds. Three desks on one machine have mostly decided by then.
+/// How often the desk is asked for its log while what it has taken waits to be decided, in
+/// milliseconds. Three desks on one machine have mostly decided by then.
 const HURRY: u64 = 10;
 
-/// How many steps the queue takes at once: more than there are items that wait, each with two.
-const MOST_STEPS: u32 = 2_500;
+/// How long entries wait at a desk until they are submitted at the next one, in milliseconds.
+const PATIENCE: u64 = 5_000;
 
-/// What is kept up with the desks of the hall, beside the mirror.
+/// The most items that are known.
+const MOST_ITEMS: u32 = 65_536;
+
+/// What is kept up with the desks of the hall, beside the mirror and what was entered.
 #[derive(Drop)]
 pub(crate) struct DesksSide<'a, R> {
     alloc: Global,
+    /// The connection of the mirror, and the one over which items are submitted.
     stream: DeskStream<'a, R>,
-    sending: Sending<'a, R>,
+    submits: DeskStream<'a, R>,
     asked: AskedDesks<'a, R>,
+    desks: u8,
     /// Whether the mirror had all that a desk's log had, since the start.
     caught_up: bool,
     /// When the desk that is followed answered last.
     answered_at: u64,
-    /// When the desk was asked at once for what comes next, or had not taken everything.
+    /// When the desk was asked at once for what comes next, or nothing waited to be decided.
     hurried_at: u64,
+    /// The desk that the mirror followed last.
+    followed: u8,
+    /// The desk that items are submitted at, and since when.
+    aim: u8,
+    aimed_at: u64,
+    /// The place of the first item that waits, and when the one before it was decided.
+    front: usize,
+    moved_at: u64,
+    ghost in_range: { IsDesk desks × IsDesk aim },
 }
 
 /// Does all that can be done now for the desks that are asked how they stand, and says what is
@@ -57,6 +72,19 @@ fn keep_asked<R: Net + RandomSource, F: Write>(
             one.tell(faults, PROGRAM);
         }
     }
+}
+
+/// Whether the item at a place waits; none where there is no such item.
+fn waits_at<D: Disk>(service: &TableService<D>, place: usize) -> Option<bool> {
+    let (_, item) = service.outbox().at(place)?;
+    Some(state_of(service.mirroring().mirror(), &item.entry) == State::Waits)
+}
+
+/// The item that the desk did not take when it was submitted last, and why.
+fn refused<D: Disk>(service: &TableService<D>) -> Option<(u64, ClientRefusal)> {
+    let why = service.outbox().refusal()?;
+    let (id, _) = service.outbox().at(service.outbox().next())?;
+    Some((*id, why))
 }
 
 impl<'a, R: Net + RandomSource> DesksSide<'a, R> {
@@ -75,89 +103,147 @@ impl<'a, R: Net + RandomSource> DesksSide<'a, R> {
         let asked = AskedDesks::new(runtime, alloc, registry, number, addresses, key)?;
         let stream = stream_to(runtime, alloc, registry, 0, addresses, key)?;
         let submits = stream_to(runtime, alloc, registry, 1, addresses, key)?;
-        let submission = Submission::new(alloc, number, 1);
         Ok(DesksSide {
             alloc,
             stream,
-            sending: Sending::new(submission, submits, count_desks(addresses)),
+            submits,
             asked,
+            desks: count_desks(addresses),
             caught_up: false,
             answered_at: 0,
             hurried_at: 0,
+            followed: 1,
+            aim: 1,
+            aimed_at: 0,
+            front: 0,
+            moved_at: 0,
         })
     }
 
-    /// Keeps the mirror up. False: the hall is broken.
-    fn keep_mirror<K: Keeper>(&mut self, service: &mut TableService<K>, now: u64) -> bool {
+    /// Goes on to the first item that waits.
+    fn pass<D: Disk>(&mut self, service: &TableService<D>, now: u64) {
+        for _item in 0..MOST_ITEMS {
+            if waits_at(service, self.front) != Some(false) {
+                return;
+            }
+            self.front = self.front.saturating_add(1);
+            self.moved_at = now;
+        }
+    }
+
+    /// Keeps the mirror up, and looks for what was decided. False: the hall is broken.
+    fn keep_mirror<D: Disk>(
+        &mut self,
+        service: &mut TableService<D>,
+        now: u64,
+    ) -> io::Result<bool> {
         if service.keep(&mut self.stream, now) == Kept::Broken {
-            return false;
+            return Ok(false);
         }
         if let Stage::Answered { last } = service.mirroring().stage() {
             self.answered_at = now;
             self.caught_up = self.caught_up || last.is_some();
         }
-        let log = service.mirroring().mirror().log();
-        self.sending.forget_decided(log, now);
-        true
+        service.look()?;
+        if self.caught_up {
+            self.pass(service, now);
+        }
+        Ok(true)
     }
 
-    /// Lets the queue do what it can now.
-    fn step<K: Keeper>(&mut self, service: &mut TableService<K>) -> io::Result<()> {
-        if !self.caught_up {
-            return Ok(());
-        }
-        for _step in 0..MOST_STEPS {
-            match service.step()? {
-                Stepped::Idle | Stepped::Waits => return Ok(()),
-                Stepped::Ends { .. } => {}
-                Stepped::Sends => self.sending.send(service.queue().sent())?,
-            }
-        }
-        Ok(())
+    /// Since when nothing was decided of what waits; none where nothing waits.
+    fn still_since<D: Disk>(&self, service: &TableService<D>) -> Option<u64> {
+        let (_, item) = service.outbox().at(self.front)?;
+        Some(item.since.max(self.moved_at))
     }
 
-    /// Says how the desks are doing.
-    fn tell<K: Keeper>(&self, service: &mut TableService<K>, now: u64) -> io::Result<()> {
-        let lengths = self.asked.desks.lengths(self.alloc)?;
-        let undecided = match service.queue().sent_since() {
-            Some(since) => Some(now.saturating_sub(self.sending.still_since(since))),
-            None => None,
+    /// Submits at this desk, 1 to 5, from now on.
+    fn aim_at<D: Disk>(&mut self, service: &mut TableService<D>, desk: u8, now: u64)
+        requires { IsDesk desk }
+    {
+        self.aim = desk;
+        self.aimed_at = now;
+        service.aim(desk);
+    }
+
+    /// Goes on to the desk that the mirror follows, where it is another one than before; and to the
+    /// next desk, where nothing was decided for five seconds.
+    fn follow<D: Disk>(&mut self, service: &mut TableService<D>, now: u64) {
+        let desk = service.mirroring().desk();
+        if desk != self.followed {
+            self.followed = desk;
+            return self.aim_at(service, desk, now);
+        }
+        let Some(since) = self.still_since(service) else {
+            return;
         };
-        let followed = service.mirroring().desk();
-        service.set_desks(Desks {
-            followed,
-            silent: Some(now.saturating_sub(self.answered_at)),
-            undecided,
-            lengths,
-        });
-        Ok(())
+        if now.saturating_sub(since.max(self.aimed_at)) >= PATIENCE {
+            let next = if self.aim >= self.desks {
+                1
+            } else {
+                self.aim + 1
+            };
+            self.aim_at(service, next, now);
+        }
     }
 
-    /// Does all that can be done now, and says what is wrong with the desks' keys. The desk is
-    /// asked at once for what comes next, where what it has taken waits to be decided. Not as soon
-    /// as it was taken: a desk takes few questions on one connection, and one that comes too early
-    /// may be its last. False: the hall is broken.
-    pub(crate) fn keep<K: Keeper, F: Write>(
-        &mut self,
-        service: &mut TableService<K>,
-        now: u64,
-        faults: &mut F,
-    ) -> io::Result<bool> {
-        keep_asked(&mut self.asked, now, faults);
-        if !self.keep_mirror(service, now) {
-            return Ok(false);
-        }
-        self.step(service)?;
-        let sent = service.queue().sent_since();
-        self.sending.follow(service.mirroring().desk(), sent, now);
-        self.sending.keep(now);
-        if !self.sending.is_taken() {
+    /// Whether something that a desk has taken waits to be decided.
+    fn is_taken<D: Disk>(&self, service: &TableService<D>) -> bool {
+        self.front < service.outbox().next()
+    }
+
+    /// Asks the desk at once for what comes next, where what it has taken waits to be decided. Not
+    /// as soon as it was taken: a desk takes few questions on one connection, and one that comes
+    /// too early may be its last.
+    fn hurry<D: Disk>(&mut self, service: &mut TableService<D>, now: u64) {
+        if !self.is_taken(service) {
             self.hurried_at = now;
         } else if now.saturating_sub(self.hurried_at) >= HURRY {
             self.hurried_at = now;
             service.hurry();
         }
-        if !self.keep_mirror(service, now) {
+    }
+
+    /// Says how the desks are doing.
+    fn tell<D: Disk>(&self, service: &mut TableService<D>, now: u64) -> io::Result<()> {
+        let lengths = self.asked.desks.lengths(self.alloc)?;
+        let away = self.asked.desks.away(self.alloc)?;
+        let undecided = match self.still_since(service) {
+            Some(since) => Some(now.saturating_sub(since)),
+            None => None,
+        };
+        let desks = Desks {
+            followed: service.mirroring().desk(),
+            silent: Some(now.saturating_sub(self.answered_at)),
+            undecided,
+            refused: refused(service),
+            lengths,
+            away,
+            trouble: self.stream.trouble(),
+        };
+        service.set_desks(desks);
+        Ok(())
+    }
+
+    /// Does all that can be done now, and says what is wrong with the desks' keys. What was taken
+    /// is submitted once the mirror had all that a desk's log had, so that nothing is submitted
+    /// after a start that was decided before it. False: the hall is broken.
+    pub(crate) fn keep<D: Disk, F: Write>(
+        &mut self,
+        service: &mut TableService<D>,
+        now: u64,
+        faults: &mut F,
+    ) -> io::Result<bool> {
+        keep_asked(&mut self.asked, now, faults);
+        if !self.keep_mirror(service, now)? {
+            return Ok(false);
+        }
+        if self.caught_up {
+            self.follow(service, now);
+            let _kept = service.submit(&mut self.submits, now);
+        }
+        self.hurry(service, now);
+        if !self.keep_mirror(service, now)? {
             return Ok(false);
         }
         self.tell(service, now)?;
@@ -165,16 +251,20 @@ impl<'a, R: Net + RandomSource> DesksSide<'a, R> {
     }
 
     /// How long browsers may be waited for.
-    pub(crate) fn wait<K: Keeper>(&self, service: &TableService<K>, now: u64) -> u64 {
+    pub(crate) fn wait<D: Disk>(&self, service: &TableService<D>, now: u64) -> u64 {
         let wait = service
             .mirroring()
             .wait(now)
-            .min(self.sending.wait(now))
-            .min(self.asked.desks.wait(now));
-        if self.sending.is_taken() {
+            .min(self.asked.desks.wait(now))
+            .min(LONGEST_WAIT);
+        if !self.caught_up {
+            return wait;
+        }
+        let wait = wait.min(service.outbox().wait(now));
+        if self.is_taken(service) {
             wait.min(HURRY)
         } else {
-            wait.min(LONGEST_WAIT)
+            wait
         }
     }
 }

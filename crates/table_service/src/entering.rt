@@ -1,126 +1,238 @@
 //! A card that is sent.
 
-ghost use Rattle.std.specs.Prelude.{◌≡◌, IfOk};
-ghost use Rattle.card_queue.specs.Queues.{found_in, is_full};
-ghost use Rattle.table_service.specs.Plans.{HoldsCard, PlansCard, PlansKnown, PlansNew};
-ghost use Rattle.table_service.specs.Plans.{card_place, held_as, is_held, is_sure};
+ghost use Rattle.std.specs.Prelude.{◌≡◌, IfOk, Ok, Some};
+ghost use Rattle.card_forms.specs.Readings.{IsReadAs};
+ghost use Rattle.table_service.specs.Plans.{HoldsCard, PlansCard, PlansCardAs, PlansCardEntry};
+ghost use Rattle.table_service.specs.Plans.{PlansForm, PlansReadCard, PlansSpelled, are_confirmed};
+ghost use Rattle.table_service.specs.Plans.{card_place, cards_place, has_word, is_confirmed};
+ghost use Rattle.table_service.specs.Plans.{is_entered};
+ghost use Rattle.table_service.specs.Taking.{IsFitCard};
 
 use crate::cards::card;
-use crate::checks::{Checked, notes_of};
-use crate::plan::{Effect, Plan, Problem, Shown};
-use card_forms::{CardForm, CardFormFault, Item, Pairs, card_form};
-use card_queue::CardQueue;
-use entry_views::Draft;
+use crate::checks::{doubts_of, only, unread};
+use crate::commanding::refuse;
+use crate::entries::{fit_card, plan_entries};
+use crate::plan::{Plan, Problem, Shown};
+use acceptor::entry::Entry;
+use card_forms::{
+    CardFault, CardForm, CardFormFault, CardReading, Pairs, card_entry, card_form, card_of,
+};
+use entry_views::{Draft, Note, note_word};
 use itoa::Buffer;
+use outbox::Outbox;
 use std::alloc::{AllocError, Global};
-use table_views::Around;
+use table_views::{Around, is_latest};
+use texts::{CardEntry, RoundId};
+
+/// What is said of a card in a hall of an earlier edition.
+const EARLIER: &[u8] =
+    b"an earlier edition of the commands holds: this table takes no card under it";
+
+/// Where the page of a round's cards stands.
+pub(crate) fn cards_place(alloc: Global, id: RoundId) -> Result<Vec<u8>, AllocError>
+    ensures { IfOk result (λ place. place.items ≡ cards_place id) }
+{
+    let mut place = Vec::from_slice(alloc, b"/card/")?;
+    place.extend_from_slice(id.event.name().as_bytes())?;
+    place.extend_from_slice(b"-")?;
+    place.extend_from_slice(Buffer::new().format(id.round).as_bytes())?;
+    Ok(place)
+}
 
 /// Where the page of a card stands that was sent.
 fn place_of(alloc: Global, form: &CardForm) -> Result<Vec<u8>, AllocError>
     ensures { IfOk result (λ place. place.items ≡ card_place form.now) }
 {
-    let mut place = Vec::from_slice(alloc, b"/card/")?;
-    place.extend_from_slice(form.round.event.name().as_bytes())?;
-    place.extend_from_slice(b"-")?;
-    place.extend_from_slice(Buffer::new().format(form.round.round).as_bytes())?;
+    let mut place = cards_place(alloc, form.round)?;
     place.extend_from_slice(b"?sent=")?;
     place.extend_from_slice(Buffer::new().format(form.id.number()).as_bytes())?;
     Ok(place)
 }
 
-/// Whether the scoretaker is sure.
-fn is_sure(pairs: &Pairs) -> bool
-    ensures { result ≡ is_sure pairs.now }
+/// Whether a word is among these, with a space between two.
+fn has_word(words: &[u8], word: &[u8]) -> bool
+    ensures { result ≡ has_word word.now words.now }
 {
-    pairs.value("sure") == b"1".as_slice()
+    words.split(|byte| *byte == b' ').any(|part| part == word)
 }
 
-/// Whether a card is not taken: it is wrong, or it is to be confirmed and was not.
-fn is_held(sure: bool, checked: &Checked) -> bool
-    ensures { result ≡ is_held sure checked.now }
+/// Whether the scoretaker has confirmed a note: its word is among these, with a space between two.
+fn is_confirmed(alloc: Global, sure: &[u8], note: Note) -> Result<bool, AllocError>
+    ensures { IfOk result (λ is. is ≡ is_confirmed sure.now note) }
 {
-    checked.refused || (!sure && checked.notes.len() > 0)
+    let word = note_word(alloc, note)?;
+    Ok(has_word(sure, &word))
 }
 
-/// What the page of a card is sent as that is not taken.
-fn held_as(refused: bool) -> Shown
-    ensures { result ≡ held_as refused }
+/// Whether the scoretaker has confirmed all notes.
+fn are_confirmed(alloc: Global, sure: &[u8], notes: &[Note]) -> Result<bool, AllocError>
+    ensures { IfOk result (λ are. are ≡ are_confirmed sure.now notes.now) }
 {
-    if refused { Shown::Wrong } else { Shown::Asked }
+    for note in notes {
+        if !is_confirmed(alloc, sure, *note)? {
+            return Ok(false);
+        }
+    }
+    Ok(true)
+}
+
+/// Whether a card is entered: it was taken already, or all its notes are confirmed.
+fn is_entered(
+    alloc: Global,
+    outbox: &Outbox,
+    id: u64,
+    sure: &[u8],
+    notes: &[Note],
+) -> Result<bool, AllocError>
+    ensures { IfOk result (λ is. is ≡ is_entered outbox.now.list id sure.now notes.now) }
+{
+    if outbox.find(id).is_some() {
+        return Ok(true);
+    }
+    are_confirmed(alloc, sure, notes)
 }
 
 /// The card's page, with what was typed and what is said of it.
 fn hold(
     alloc: Global,
-    queue: &CardQueue,
+    outbox: &Outbox,
     around: &Around<'_>,
     form: &CardForm,
-    checked: &Checked,
+    notes: &[Note],
+    status: Shown,
 ) -> Result<Plan, AllocError>
-    ensures { IfOk result (HoldsCard queue.now around.entry.now form.now checked.now) }
+    ensures { IfOk result (HoldsCard outbox.now.list around.entry.now form.now notes.now status) }
 {
-    let draft = Draft::Typed {
-        form,
-        notes: &checked.notes,
-    };
-    match card(alloc, queue, around, form.round, draft)? {
-        Some(page) => Ok(Plan::with_ids(held_as(checked.refused), page)),
+    let draft = Draft::Typed { form, notes };
+    match card(alloc, outbox, around, form.round, draft)? {
+        Some(page) => Ok(Plan::with_ids(status, page)),
         None => Ok(Plan::problem(Problem::NotFound)),
     }
 }
 
-/// What is to be done for a card that is new, and for which there is room.
-fn plan_new(
+/// What is to be done for the entry of a card: it is taken, unless something is to be confirmed.
+fn plan_entry(
     alloc: Global,
-    queue: &CardQueue,
+    outbox: &Outbox,
     around: &Around<'_>,
-    form: CardForm,
-    sure: bool,
+    form: &CardForm,
+    notes: &[Note],
+    entry: Entry,
+    enters: bool,
 ) -> Result<Plan, AllocError>
-    ensures { IfOk result (PlansNew queue.now around.entry.now form sure) }
+    ensures { IfOk result
+        (PlansCardEntry outbox.now.list around.entry.now form.now notes.now entry enters) }
 {
-    let checked = notes_of(alloc, &form, around.mirror.meet())?;
-    if is_held(sure, &checked) {
-        return hold(alloc, queue, around, &form, &checked);
+    if !enters {
+        return hold(alloc, outbox, around, form, notes, Shown::Asked);
     }
-    let place = place_of(alloc, &form)?;
-    Ok(Plan::see(place, Effect::Take(Item::Card(form))))
+    let place = place_of(alloc, form)?;
+    let mut entries = Vec::new(alloc);
+    entries.push(entry)?;
+    plan_entries(alloc, outbox, around, place, entries)
+}
+
+/// What is to be done for an entry that spells this card: what is to be confirmed of the card is
+/// asked first.
+fn plan_noted(
+    alloc: Global,
+    outbox: &Outbox,
+    around: &Around<'_>,
+    form: &CardForm,
+    sure: &[u8],
+    entry: Entry,
+    card: &CardEntry,
+) -> Result<Plan, AllocError>
+    requires { IsFitCard card.now }
+    ensures { IfOk result (PlansSpelled outbox.now.list around.entry.now form.now sure.now entry
+        (Some card.entry.now)) }
+{
+    let notes = doubts_of(alloc, card, around.mirror.meet())?;
+    let enters = is_entered(alloc, outbox, entry.id(), sure, &notes)?;
+    plan_entry(alloc, outbox, around, form, &notes, entry, enters)
+}
+
+/// What is to be done for a card that has this entry.
+fn plan_spelled(
+    alloc: Global,
+    outbox: &Outbox,
+    around: &Around<'_>,
+    form: &CardForm,
+    sure: &[u8],
+    entry: Entry,
+) -> Result<Plan, AllocError>
+    ensures { IfOk result
+        (PlansCardAs outbox.now.list around.entry.now form.now sure.now (Some entry)) }
+{
+    match fit_card(alloc, entry.text())? {
+        Some(card) => plan_noted(alloc, outbox, around, form, sure, entry, &card),
+        None => Ok(Plan::problem(Problem::BadForm)),
+    }
+}
+
+/// What is to be done for a card that was read.
+fn plan_read(
+    alloc: Global,
+    outbox: &Outbox,
+    around: &Around<'_>,
+    form: &CardForm,
+    sure: &[u8],
+    read: CardEntry,
+) -> Result<Plan, AllocError>
+    requires { IsReadAs form.now read }
+    ensures { IfOk result
+        (PlansReadCard outbox.now.list around.entry.now form.now sure.now) }
+{
+    match card_entry(alloc, form.id, read)? {
+        Some(entry) => plan_spelled(alloc, outbox, around, form, sure, entry),
+        None => {
+            let notes = only(alloc, Note::Card(CardFault::TooLong))?;
+            hold(alloc, outbox, around, form, &notes, Shown::Wrong)
+        }
+    }
 }
 
 /// What is to be done for a card.
 fn plan_form(
     alloc: Global,
-    queue: &CardQueue,
+    outbox: &Outbox,
     around: &Around<'_>,
-    form: CardForm,
-    sure: bool,
+    form: &CardForm,
+    sure: &[u8],
 ) -> Result<Plan, AllocError>
-    ensures { IfOk result (PlansKnown queue.now around.entry.now form sure
-        (found_in queue.now form.id) (is_full queue.now)) }
+    ensures { IfOk result (PlansForm outbox.now.list around.entry.now sure.now (Ok form.now)) }
 {
-    if queue.find(form.id).is_some() {
-        let place = place_of(alloc, &form)?;
-        return Ok(Plan::see(place, Effect::Nothing));
+    match card_of(alloc, form) {
+        Ok(read) => plan_read(alloc, outbox, around, form, sure, read),
+        Err(CardReading::NoMemory) => Err(AllocError),
+        Err(CardReading::Unread(faults)) => {
+            let notes = unread(alloc, &faults)?;
+            hold(alloc, outbox, around, form, &notes, Shown::Wrong)
+        }
+        Err(CardReading::Unfit(fault)) => {
+            let notes = only(alloc, Note::Card(fault))?;
+            hold(alloc, outbox, around, form, &notes, Shown::Wrong)
+        }
     }
-    if !queue.has_room() {
-        return Ok(Plan::problem(Problem::Busy));
-    }
-    plan_new(alloc, queue, around, form, sure)
 }
 
 /// What is to be done for the pairs of a card's form.
 pub(crate) fn plan_card(
     alloc: Global,
-    queue: &CardQueue,
+    outbox: &Outbox,
     around: &Around<'_>,
     pairs: &Pairs,
 ) -> Result<Plan, AllocError>
-    ensures { IfOk result (PlansCard around.entry.now queue.now pairs.now) }
+    ensures { IfOk result (PlansCard around.entry.now outbox.now.list pairs.now) }
 {
+    if !is_latest(around.mirror.meet()) {
+        return refuse(alloc, around, b"/", EARLIER);
+    }
     match card_form(alloc, pairs) {
-        Ok(form) => plan_form(alloc, queue, around, form, is_sure(pairs)),
+        Ok(form) => plan_form(alloc, outbox, around, &form, pairs.value("sure")),
         Err(CardFormFault::NoMemory) => Err(AllocError),
-        Err(CardFormFault::BadId) => Ok(Plan::problem(Problem::BadForm)),
-        Err(CardFormFault::BadRound) => Ok(Plan::problem(Problem::BadForm)),
+        Err(CardFormFault::BadId | CardFormFault::BadRound | CardFormFault::BadWas) => {
+            Ok(Plan::problem(Problem::BadForm))
+        }
     }
 }

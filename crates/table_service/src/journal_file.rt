@@ -1,15 +1,22 @@
 //! The journal's file.
 
-use crate::keeper::Keeper;
-use card_queue::{Journal, JournalFault, read_journal};
+ghost use Rattle.std.specs.Prelude.{◌≡◌};
+ghost use Rattle.table_service.specs.Disks.{CutsBack, Keeps, Puts};
+
+use crate::disk::{Disk, SystemFile};
+use outbox::{HallName, Journal, JournalFault, read_journal};
 use std::alloc::Global;
 use std::fs::{File, OpenOptions, TryLockError};
 use std::io;
-use std::io::{ErrorKind, Read, Write};
+use std::io::{ErrorKind, Read};
+use std::marker::Model;
 use thiserror::Error;
 
 /// The most bytes that a journal may have when it is read: those of more than 200,000 cards.
 const MOST_BYTES: u64 = 67_108_864;
+
+/// The desk that is asked first.
+const FIRST_DESK: u8 = 1;
 
 /// Why a journal can't be used.
 #[derive(Clone, Copy, Debug, PartialEq, Eq, Error)]
@@ -23,7 +30,7 @@ pub enum FileFault {
     /// It has more bytes than may be read.
     #[error("it is too long")]
     TooLong,
-    /// It is no journal.
+    /// It is no journal of the hall.
     #[error("{0}")]
     Unread(JournalFault),
 }
@@ -47,21 +54,78 @@ fn fault_of(error: &io::Error) -> FileFault {
     }
 }
 
-/// The file into which the lines of the journal are put.
+/// The file into which the lines of the journal are put. A contract sees the file, the bytes of its
+/// lines, and whether something may stand after them that could not be taken away.
 #[derive(Drop)]
-pub struct JournalFile {
-    file: File,
+pub struct JournalFile<D: Disk> {
+    disk: D,
     /// The bytes of its lines.
     length: u64,
     /// Whether it may end with a part of a line, which can't be taken away.
     is_broken: bool,
 }
 
+impl<D: Disk> Model for JournalFile<D> {
+    ghost use Rattle.std.specs.Prelude.{◌≡◌, false};
+    ghost use Rattle.table_service.specs.Disks.{IsSyncedIn, IsWholeIn, JournalOf, journal};
+
+    ghost Value = { JournalOf };
+
+    ghost view = { λ j. journal (D.holds j.disk) j.length j.is_broken };
+
+    ghost invariant = { λ j. (j.is_broken ≡ false → IsWholeIn j.length (D.holds j.disk))
+        × IsSyncedIn j.length (D.holds j.disk) };
+}
+
+/// Puts bytes after the others, so that they are there after a crash. False where that fails; then
+/// a front part of them may be there.
+fn put<D: Disk>(disk: &mut D, bytes: &[u8]) -> bool
+    ensures { Puts result bytes.now (D.holds disk.old) (D.holds disk.new) }
+{
+    if !disk.append(bytes) {
+        return false;
+    }
+    disk.sync()
+}
+
+/// Takes away what stands after so many bytes, so that it is not there after a crash. False where
+/// that fails.
+fn cut_back<D: Disk>(disk: &mut D, length: u64) -> bool
+    ensures { CutsBack result length (D.holds disk.old) (D.holds disk.new) }
+{
+    if !disk.cut(length) {
+        return false;
+    }
+    disk.sync()
+}
+
+impl<D: Disk> JournalFile<D> {
+    /// Puts lines, with their ends, after the others, so that they are there after a crash. False
+    /// where that fails; then what stands after the others is taken away, and nothing more is put
+    /// there where that fails too.
+    pub(crate) fn keep(&mut self, lines: &[u8]) -> bool
+        ensures { Keeps result lines.now self.old self.new }
+    {
+        let Some(length) = self.length.checked_add(lines.len() as u64) else {
+            return false;
+        };
+        if self.is_broken {
+            return false;
+        }
+        if put(&mut self.disk, lines) {
+            self.length = length;
+            return true;
+        }
+        self.is_broken = !cut_back(&mut self.disk, self.length);
+        false
+    }
+}
+
 /// What is in a journal's file, and the file.
 #[derive(Drop)]
 pub struct Opened {
     pub journal: Journal,
-    pub file: JournalFile,
+    pub file: JournalFile<SystemFile>,
 }
 
 /// The file at a path, which is made where there is none, and which nobody else uses.
@@ -96,45 +160,50 @@ fn bytes_of(alloc: Global, file: &File) -> Result<Vec<u8>, FileFault> {
     Ok(bytes)
 }
 
-/// Opens the journal at a path, or begins it there, and reads what it says. A line that was not
-/// written to its end is taken out of the file.
-pub fn open_journal(rt: &HostRuntime, path: &str, now: u64) -> Result<Opened, FileFault> {
-    let file = opened_file(rt, path)?;
-    let bytes = bytes_of(rt.alloc(), &file)?;
-    let journal = read_journal(rt.alloc(), &bytes, now)?;
-    let mut file = JournalFile {
-        file,
-        length: journal.whole as u64,
-        is_broken: false,
-    };
-    if journal.cut && !file.cut_back() {
+/// The journal that a file has, whose last line is taken out of it where it was not written to its
+/// end.
+fn opened_over(disk: SystemFile, journal: Journal) -> Result<Opened, FileFault> {
+    let mut disk = disk;
+    let length = journal.whole as u64;
+    if journal.cut && !cut_back(&mut disk, length) {
         return Err(FileFault::System);
     }
+    let file = JournalFile {
+        disk,
+        length,
+        is_broken: false,
+    };
     Ok(Opened { journal, file })
 }
 
-impl JournalFile {
-    /// Takes away what stands after the lines. False: it can't be done.
-    fn cut_back(&mut self) -> bool {
-        self.file.set_len(self.length).is_ok() && self.file.sync_all().is_ok()
+/// A journal that is begun: its first line names the hall.
+fn begun(alloc: Global, disk: SystemFile, hall: &HallName, now: u64) -> Result<Opened, FileFault> {
+    let Ok(line) = hall.first_line(alloc) else {
+        return Err(FileFault::Unread(JournalFault::NoMemory));
+    };
+    let mut disk = disk;
+    if !(disk.cut(0) && disk.append(&line) && disk.sync()) {
+        return Err(FileFault::System);
     }
+    let journal = read_journal(alloc, hall, FIRST_DESK, &line, now)?;
+    opened_over(disk, journal)
 }
 
-impl Keeper for JournalFile {
-    ghost use Rattle.std.specs.Prelude.{None};
-
-    // What stands in a file no contract can say.
-    ghost kept = { λ _. None };
-
-    fn keep(&mut self, line: &str) -> bool {
-        if self.is_broken {
-            return false;
-        }
-        if self.file.write_all(line.as_bytes()).is_ok() && self.file.sync_data().is_ok() {
-            self.length = self.length.saturating_add(line.len() as u64);
-            return true;
-        }
-        self.is_broken = !self.cut_back();
-        false
+/// Opens the journal of a hall at a path, or begins it there, and reads what it says. A line that
+/// was not written to its end is taken out of the file. A journal of another hall, or of the
+/// program that knows no edition 4, is refused.
+pub fn open_journal(
+    rt: &HostRuntime,
+    path: &str,
+    hall: &HallName,
+    now: u64,
+) -> Result<Opened, FileFault> {
+    let file = opened_file(rt, path)?;
+    let bytes = bytes_of(rt.alloc(), &file)?;
+    let disk = SystemFile { file };
+    match read_journal(rt.alloc(), hall, FIRST_DESK, &bytes, now) {
+        Ok(journal) => opened_over(disk, journal),
+        Err(JournalFault::Empty) => begun(rt.alloc(), disk, hall, now),
+        Err(fault) => Err(FileFault::Unread(fault)),
     }
 }

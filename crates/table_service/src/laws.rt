@@ -1,14 +1,15 @@
 //! What holds of each answer and of the journal, whatever is asked.
 
-ghost use Rattle.table_service.specs.Journal.{JournalIsOfQueue, JournalLosesNothing};
-ghost use Rattle.table_service.specs.Journal.{JournalReadsBack};
-ghost use Rattle.table_service.specs.Laws.{QueuesForForms, RefusesForeign, SecuresAll};
+ghost use Rattle.table_service.specs.Laws.{CallsAreOfTheOutbox, RefusesForeign, SavedIsTheCard};
+ghost use Rattle.table_service.specs.Laws.{SecuresAll, TakesForForms};
 
-/// A law: nothing is queued, or kept in the journal, but what a form asks for that names no foreign
-/// host or origin, comes by POST and carries the token; under the id of that form, where the id is
-/// not known yet. Where it is queued its line is kept.
-pub fn forms_alone_are_queued()
-    ensures { QueuesForForms }
+use outbox::laws::{saved_is_entered, told_by_the_log};
+
+/// A law: nothing is taken but what a form asks for that names no foreign host or origin, comes by
+/// POST and carries the token: a card is the one command that its form is read as, under the id of
+/// that form. It is answered that it is taken only where its line is kept.
+pub fn forms_alone_are_taken()
+    ensures { TakesForForms }
 {}
 
 /// A law: each answer has the fields by which a page loads nothing but the program's own.
@@ -21,12 +22,19 @@ pub fn foreign_requests_are_refused()
     ensures { RefusesForeign }
 {}
 
-/// A law: whatever a service is asked, what it keeps in the journal is what the calls of its queue
-/// write, where the lines of some endings may be missing. So what is kept comes to the same items
-/// that wait and the same that are done when it is read again after a crash; or where such lines
-/// are missing, no item that waits is lost, and the same are known.
-pub fn journal_is_of_queue()
-    ensures of_queue { JournalIsOfQueue }
-    ensures reads_back { JournalReadsBack }
-    ensures nothing_lost { JournalLosesNothing }
+/// A law: whatever a service is asked, what becomes of its items and of the lines of its journal is
+/// what calls of the outbox make of them. So the laws of `outbox` are of the service: what is
+/// submitted is what the journal has, and nothing that was answered to be taken is lost.
+pub fn calls_are_of_the_outbox()
+    ensures { CallsAreOfTheOutbox }
 {}
+
+/// A law: a card that is told to be saved at a position stands there, in every log that long: just
+/// before it the competitor's attempts were those that the card's page showed, and just after it
+/// they are the card's.
+pub fn saved_is_the_card()
+    ensures { SavedIsTheCard }
+{
+    told_by_the_log();
+    saved_is_entered();
+}

@@ -1,37 +1,41 @@
 //! What the score table answers to browsers: the pages of a mirror of a hall's log, and what is
-//! sent from their forms, which goes into a queue; and what it does between the answers: it keeps
-//! up with the desks of the hall, submits what was queued, and keeps the journal's file.
+//! sent from their forms, which is put into the journal and then goes to the desks; and what it
+//! does between the answers: it keeps up with the desks of the hall, and submits what was taken.
 #![tactic(auto)]
 
+mod answering;
 mod cards;
 mod checks;
 mod commanding;
 mod desks_side;
+mod disk;
 mod drawing;
 mod entering;
+mod entries;
 mod gate;
 mod journal_file;
-mod keeper;
 mod laws;
 mod listing;
 mod looking;
 mod plan;
 mod posting;
 mod reading;
+mod recents;
+mod refusing;
 mod replies;
-mod sending;
 mod service;
 mod serving;
 mod setup;
 mod showing;
+mod undoing;
 
-pub use checks::{Checked, notes_of};
 pub use desks_side::PROGRAM;
+pub use disk::{Disk, SystemFile};
 pub use journal_file::{FileFault, JournalFile, Opened, open_journal};
-pub use keeper::Keeper;
 pub use laws::{
-    answers_are_secured, foreign_requests_are_refused, forms_alone_are_queued, journal_is_of_queue,
+    answers_are_secured, calls_are_of_the_outbox, foreign_requests_are_refused,
+    forms_alone_are_taken, saved_is_the_card,
 };
 pub use service::TableService;
-pub use serving::{End, serve};
+pub use serving::{End, hall_name, serve};
 pub use setup::Setup;

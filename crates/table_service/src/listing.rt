@@ -1,89 +1,84 @@
 //! Several commands that are sent together, one a line.
 
-ghost use Rattle.std.specs.Prelude.{◌≡◌, IfOk};
-ghost use Rattle.card_queue.specs.Queues.{found_in, is_full};
-ghost use Rattle.table_service.specs.Lists.{PlansAsked, PlansLines, PlansList, PlansListFor};
+ghost use Rattle.std.specs.Prelude.{◌≡◌, ◌||◌, IfOk};
+ghost use Rattle.std.specs.List.{list_all};
+ghost use Rattle.command_lists.specs.Answered.{is_done};
+ghost use Rattle.table_service.specs.Lists.{PlansAsked, PlansLines, PlansList, is_known};
 ghost use Rattle.table_service.specs.Lists.{would_be_done};
 
 use crate::commanding::{page_after, refuse};
-use crate::plan::{Effect, Plan, Problem};
-use card_forms::{CommandTexts, FormId, Item, Pairs, form_id_of};
-use card_queue::CardQueue;
+use crate::entries::plan_entries;
+use crate::plan::{Plan, Problem};
+use card_forms::{CommandTexts, FormId, Pairs, command_entries, form_id_of};
 use command_lists::{all_done, answers_to, first_refusal, texts_in};
+use outbox::Outbox;
 use std::alloc::{AllocError, Global};
 use table_views::Around;
+use texts::Answer;
 
 /// What is said of lines that have no commands which can be sent together.
 pub(crate) const UNFIT: &[u8] =
     b"1 to 16,384 commands are sent together, each of at most 600 bytes";
 
-/// Goes on where all commands would be accepted; else says which would not.
-fn plan_texts(
-    alloc: Global,
-    around: &Around<'_>,
-    pairs: &Pairs,
-    id: FormId,
-    texts: CommandTexts,
-) -> Result<Plan, AllocError>
-    ensures { IfOk result (PlansAsked around.entry.now pairs.now id texts
-        (would_be_done around.entry.now.mirror.now id texts)) }
+/// Whether commands go on that would be answered so: all would be accepted, or their form was sent
+/// before.
+fn goes_on(outbox: &Outbox, id: FormId, answers: &[Answer]) -> bool
+    ensures { result ≡ (is_known outbox.now.list id || list_all is_done answers.now) }
 {
-    let answers = answers_to(alloc, around.mirror.log(), id, &texts)?;
-    if !all_done(&answers) {
-        let why = first_refusal(alloc, texts.as_slice(), &answers)?;
-        return refuse(alloc, around, page_after(pairs), why.as_bytes());
-    }
-    let location = Vec::from_slice(alloc, page_after(pairs))?;
-    Ok(Plan::see(location, Effect::Take(Item::Commands { id, texts })))
+    outbox.find(id.number()).is_some() || all_done(answers)
 }
 
-/// What is to be done for new commands, for which there is room.
-fn plan_lines(
+/// Goes on where all commands would be accepted; else says which would not. The second time that a
+/// form is sent its commands are known, and nobody is asked.
+fn plan_texts(
     alloc: Global,
+    outbox: &Outbox,
     around: &Around<'_>,
     pairs: &Pairs,
     id: FormId,
+    texts: &CommandTexts,
 ) -> Result<Plan, AllocError>
-    ensures { IfOk result (PlansLines around.entry.now pairs.now id) }
+    ensures { IfOk result (PlansAsked around.entry.now outbox.now.list pairs.now id texts.now
+        (is_known outbox.now.list id || would_be_done around.entry.now.mirror.now id texts.now)) }
 {
-    match texts_in(alloc, pairs.value("lines"))? {
-        Some(texts) => plan_texts(alloc, around, pairs, id, texts),
-        None => refuse(alloc, around, page_after(pairs), UNFIT),
+    let back = page_after(pairs);
+    let entries = command_entries(alloc, id, texts)?;
+    let answers = answers_to(alloc, around.mirror.log(), id, texts)?;
+    if !goes_on(outbox, id, &answers) {
+        let why = first_refusal(alloc, texts.as_slice(), &answers)?;
+        return refuse(alloc, around, back, why.as_bytes());
     }
+    let place = Vec::from_slice(alloc, back)?;
+    plan_entries(alloc, outbox, around, place, entries)
 }
 
 /// What is to be done for commands of a form with this id.
 fn plan_form(
     alloc: Global,
-    queue: &CardQueue,
+    outbox: &Outbox,
     around: &Around<'_>,
     pairs: &Pairs,
     id: FormId,
 ) -> Result<Plan, AllocError>
-    ensures { IfOk result (PlansListFor around.entry.now pairs.now id
-        (found_in queue.now id) (is_full queue.now)) }
+    ensures { IfOk result (PlansLines around.entry.now outbox.now.list pairs.now id) }
 {
-    if queue.find(id).is_some() {
-        let location = Vec::from_slice(alloc, page_after(pairs))?;
-        return Ok(Plan::see(location, Effect::Nothing));
+    match texts_in(alloc, pairs.value("lines"))? {
+        Some(texts) => plan_texts(alloc, outbox, around, pairs, id, &texts),
+        None => refuse(alloc, around, page_after(pairs), UNFIT),
     }
-    if !queue.has_room() {
-        return Ok(Plan::problem(Problem::Busy));
-    }
-    plan_lines(alloc, around, pairs, id)
 }
 
 /// What is to be done for the pairs of a form of several commands.
 pub(crate) fn plan_list(
     alloc: Global,
-    queue: &CardQueue,
+    outbox: &Outbox,
     around: &Around<'_>,
     pairs: &Pairs,
 ) -> Result<Plan, AllocError>
-    ensures { IfOk result (PlansList around.entry.now queue.now pairs.now) }
+    ensures { IfOk result (PlansList around.entry.now outbox.now.list pairs.now) }
 {
     match form_id_of(pairs.value("id")) {
-        Some(id) => plan_form(alloc, queue, around, pairs, id),
+        Some(id) => plan_form(alloc, outbox, around, pairs, id),
         None => Ok(Plan::problem(Problem::BadForm)),
     }
 }

@@ -43,7 +43,7 @@ fn tried_of<'a>(
 }
 
 /// The first of the ids of a page's forms.
-fn first_id(ids: &[FormId; 32]) -> FormId
+pub(crate) fn first_id(ids: &[FormId; 32]) -> FormId
     ensures { result ≡ get_or ids.now 0 0 }
 {
     ids[0]

@@ -1,6 +1,6 @@
 //! What is to be done for a request.
 
-use card_forms::Item;
+use acceptor::entry::Entry;
 
 /// What is answered.
 #[derive(Drop)]
@@ -48,8 +48,13 @@ pub(crate) enum Effect {
     Nothing,
     /// The ids of a page are used.
     Ids,
-    /// The item is queued.
-    Take(Item),
+    /// These entries are taken, in order.
+    Take(Vec<Entry>),
+    /// This entry is taken, under the first of the ids of a page, which are used; and the item of
+    /// this id counts as answered.
+    Again { entry: Entry, of: u64 },
+    /// The item of this id counts as answered.
+    Answer { of: u64 },
 }
 
 /// What is to be done for a request.

@@ -4,16 +4,18 @@ ghost use Rattle.std.specs.Prelude.{◌≡◌, IfOk};
 ghost use Rattle.table_service.specs.Sent.{PlansOwn, PlansPost, PlansSent};
 ghost use Rattle.table_service.specs.Requests.{is_post, is_read};
 
+use crate::answering::{plan_again, plan_answered};
 use crate::commanding::plan_command;
 use crate::entering::plan_card;
 use crate::listing::plan_list;
 use crate::looking::{look, plan_import};
 use crate::plan::{Plan, Problem};
 use crate::showing::plan_read;
+use crate::undoing::plan_undo;
 use bytes::Bytes;
 use card_forms::Pairs;
-use card_queue::CardQueue;
 use http::Request;
+use outbox::Outbox;
 use std::alloc::{AllocError, Global};
 use table_views::Around;
 
@@ -34,21 +36,27 @@ fn is_post(request: &Request<Bytes>) -> bool
 /// What is to be done for the pairs that are sent to a path.
 fn plan_sent(
     alloc: Global,
-    queue: &CardQueue,
+    outbox: &Outbox,
     around: &Around<'_>,
     path: &str,
     pairs: &Pairs,
 ) -> Result<Plan, AllocError>
-    ensures { IfOk result (PlansSent around.entry.now queue.now path.now pairs.now) }
+    ensures { IfOk result (PlansSent around.entry.now outbox.now.list path.now pairs.now) }
 {
     if path == "/card" {
-        plan_card(alloc, queue, around, pairs)
+        plan_card(alloc, outbox, around, pairs)
     } else if path == "/command" {
-        plan_command(alloc, queue, around, pairs)
+        plan_command(alloc, outbox, around, pairs)
     } else if path == "/commands" {
-        plan_list(alloc, queue, around, pairs)
+        plan_list(alloc, outbox, around, pairs)
     } else if path == "/lines" {
         look(alloc, around, pairs.value("lines"))
+    } else if path == "/again" {
+        plan_again(alloc, outbox, around, pairs)
+    } else if path == "/answered" {
+        plan_answered(alloc, outbox, around, pairs)
+    } else if path == "/undo" {
+        plan_undo(alloc, outbox, around, pairs)
     } else {
         Ok(Plan::problem(Problem::Method))
     }
@@ -57,11 +65,11 @@ fn plan_sent(
 /// What is to be done for a form that is sent.
 fn plan_post(
     alloc: Global,
-    queue: &CardQueue,
+    outbox: &Outbox,
     around: &Around<'_>,
     request: &Request<Bytes>,
 ) -> Result<Plan, AllocError>
-    ensures { IfOk result (PlansPost around.entry.now queue.now request.now) }
+    ensures { IfOk result (PlansPost around.entry.now outbox.now.list request.now) }
 {
     let path = request.uri().path();
     if path == "/import" {
@@ -69,7 +77,7 @@ fn plan_post(
     }
     let pairs = Pairs::read(alloc, request.body())?;
     if pairs.value("token") == around.token {
-        plan_sent(alloc, queue, around, path, &pairs)
+        plan_sent(alloc, outbox, around, path, &pairs)
     } else {
         Ok(Plan::problem(Problem::Foreign))
     }
@@ -78,17 +86,17 @@ fn plan_post(
 /// What is to be done for a request of one of the program's own pages.
 pub(crate) fn plan_own(
     alloc: Global,
-    queue: &CardQueue,
+    outbox: &Outbox,
     title: &[u8],
     around: &Around<'_>,
     request: &Request<Bytes>,
 ) -> Result<Plan, AllocError>
-    ensures { IfOk result (PlansOwn around.entry.now title.now queue.now request.now) }
+    ensures { IfOk result (PlansOwn around.entry.now title.now outbox.now.list request.now) }
 {
     if is_read(request) {
-        plan_read(alloc, queue, title, around, request)
+        plan_read(alloc, outbox, title, around, request)
     } else if is_post(request) {
-        plan_post(alloc, queue, around, request)
+        plan_post(alloc, outbox, around, request)
     } else {
         Ok(Plan::problem(Problem::Method))
     }

@@ -3,7 +3,7 @@
 ghost use Rattle.std.specs.Prelude.{◌≡◌, ◌++◌, ◌∷◌, [], IsTrue, OnOk};
 ghost use Rattle.http_header.specs.FieldValue.{is_visible_text};
 ghost use Rattle.http_server.specs.Response.{IsBlank, fields_of};
-ghost use Rattle.table_service.specs.Replies.{IsProblem, Writes, kind, line_of, security};
+ghost use Rattle.table_service.specs.Replies.{IsProblem, Writes, kind, kind_of, line_of, security};
 ghost use Rattle.table_service.specs.Replies.{status_of};
 
 use crate::plan::{Problem, Reply, Shown};
@@ -17,6 +17,19 @@ use table_views::{script, style};
 /// What pages may load and where forms may go.
 const POLICY: &str = "default-src 'none'; script-src 'self'; style-src 'self'; \
     connect-src 'self'; form-action 'self'; base-uri 'none'; frame-ancestors 'none'";
+
+/// The page that stands where no page does: it leads back.
+const NOT_FOUND: &[u8] = b"\
+<!DOCTYPE html>
+<html lang=\"en\"><head><meta charset=\"utf-8\">
+<meta name=\"viewport\" content=\"width=device-width, initial-scale=1\">
+<title>No such page</title><link rel=\"stylesheet\" href=\"/table.css\"></head>
+<body class=\"hall\">
+<main><h1>No such page</h1>
+<p>No page has this address, its round was not opened, or nobody has its number.</p>
+<p><a href=\"/\">all rounds</a></p>
+</main></body></html>
+";
 
 /// Adds a field after the others.
 fn add(response: &mut Response, name: HeaderName, text: &'static str) -> Result<(), AllocError>
@@ -54,7 +67,8 @@ fn tell(response: &mut Response, text: &'static str, body: Bytes) -> Result<(), 
     response.body.push(body)
 }
 
-/// The status and the line of a problem.
+/// The status and the text of a problem.
+#[tactic(auto, unfolding(crate::specs::Replies::not_found))]
 fn status_of(problem: Problem) -> (StatusCode, &'static [u8])
     ensures status { result.0 ≡ status_of problem }
     ensures line { result.1.now ≡ line_of problem }
@@ -66,7 +80,7 @@ fn status_of(problem: Problem) -> (StatusCode, &'static [u8])
             b"Not taken: the page is not of this score table, or was loaded before its last start. \
 Go back, load the page again, and send it again.\n",
         ),
-        Problem::NotFound => (StatusCode::NOT_FOUND, b"404 Not Found\n"),
+        Problem::NotFound => (StatusCode::NOT_FOUND, NOT_FOUND),
         Problem::Method => (StatusCode::METHOD_NOT_ALLOWED, b"405 Method Not Allowed\n"),
         Problem::Busy => (
             StatusCode::SERVICE_UNAVAILABLE,
@@ -75,18 +89,25 @@ Go back, load the page again, and send it again.\n",
     }
 }
 
-/// A line of text.
+/// What the text of a problem is: the page that leads back, or a line.
+fn kind_of(problem: Problem) -> &'static str
+    ensures plain { IsTrue (is_visible_text result.now) }
+    ensures is { result.now ≡ kind_of problem }
+{
+    match problem {
+        Problem::NotFound => "text/html; charset=utf-8",
+        _ => "text/plain; charset=utf-8",
+    }
+}
+
+/// A line of text, or the page that leads back.
 pub(crate) fn tell_problem(response: &mut Response, problem: Problem) -> Result<(), AllocError>
     requires { IsBlank response.old }
     ensures { OnOk result (IsProblem problem response.new) }
 {
     let (status, line) = status_of(problem);
     response.status = status;
-    tell(
-        response,
-        "text/plain; charset=utf-8",
-        Bytes::from_static(line),
-    )
+    tell(response, kind_of(problem), Bytes::from_static(line))
 }
 
 /// Fills a response.

@@ -1,22 +1,28 @@
 //! The service of the score table.
 
-ghost use Rattle.std.specs.Prelude.{◌≡◌, slice_get};
+ghost use Rattle.std.specs.Prelude.{◌≡◌, ◌≤◌, ◌∷◌, [], IfOk, OnOk, length, slice_get};
 ghost use Rattle.std.specs.Option.{option_copied};
-ghost use Rattle.table_service.specs.Services.{KeepsEnd};
+ghost use Rattle.outbox.specs.Items.{taken_back};
+ghost use Rattle.outbox.specs.Outboxes.{with_list};
+ghost use Rattle.table_service.specs.Services.{TakesAll};
 
+use crate::disk::Disk;
 use crate::gate::is_own;
-use crate::keeper::Keeper;
+use crate::journal_file::JournalFile;
 use crate::plan::{Effect, Plan, Problem};
 use crate::posting::plan_own;
+use crate::recents::recents_of;
 use crate::replies::{tell_problem, write};
 use crate::setup::Setup;
+use acceptor::NoMemory;
+use acceptor::entry::Entry;
 use bytes::Bytes;
-use card_forms::{FormId, Item};
-use card_queue::{CardQueue, Stepped, Taken, done_line, line_of};
+use card_forms::FormId;
 use desk_sockets::{DeskStream, Kept};
 use http::Request;
 use http_server::{Response, Service};
 use mirroring::Mirroring;
+use outbox::Outbox;
 use std::alloc::{AllocError, Global};
 use std::collections::VecDeque;
 use std::marker::Model;
@@ -27,30 +33,32 @@ use table_views::{Around, Desks};
 /// The most sets of ids that are kept.
 const MOST_SETS: usize = 64;
 
-/// Answers browsers with the pages of a mirror of a hall's log, and queues what they send.
+/// Answers browsers with the pages of a mirror of a hall's log, and takes what they send: it stands
+/// in the journal, and will after a crash, before it is answered.
 #[derive(Drop)]
-pub struct TableService<K: Keeper> {
+pub struct TableService<D: Disk> {
     alloc: Global,
     setup: Setup,
     mirroring: Mirroring,
     desks: Desks,
-    queue: CardQueue,
+    outbox: Outbox,
     /// Ids for the forms of pages, a set for each page.
     ids: VecDeque<[FormId; 32]>,
     /// The milliseconds of the clock.
     time: u64,
-    keeper: K,
+    file: JournalFile<D>,
 }
 
-impl<K: Keeper> Model for TableService<K> {
+impl<D: Disk> Model for TableService<D> {
     ghost use Rattle.std.specs.Prelude.{map, string_bytes};
-    ghost use Rattle.table_service.specs.Services.{ServiceOf, service};
+    ghost use Rattle.table_service.specs.Services.{IsKept, ServiceOf, service};
 
     ghost Value = { ServiceOf };
 
     ghost view = { λ s. service (string_bytes s.setup.title) (map string_bytes s.setup.hosts.items)
-        (string_bytes s.setup.token) s.mirroring s.desks s.queue s.ids.items s.time
-        (K.kept s.keeper) };
+        (string_bytes s.setup.token) s.mirroring s.desks s.outbox s.ids.items s.time s.file };
+
+    ghost invariant = { λ s. IsKept s.outbox };
 }
 
 /// What is known of the desks at first.
@@ -59,7 +67,10 @@ fn unknown_desks(alloc: Global) -> Desks {
         followed: 1,
         silent: None,
         undecided: None,
+        refused: None,
         lengths: Vec::new(alloc),
+        away: Vec::new(alloc),
+        trouble: None,
     }
 }
 
@@ -70,47 +81,62 @@ fn first_set(ids: &VecDeque<[FormId; 32]>) -> Option<&[FormId; 32]>
     ids.front()
 }
 
-/// Keeps the line of an item that a step ended, if it ended one.
-fn keep_end<K: Keeper>(alloc: Global, keeper: &mut K, stepped: &Stepped)
-    ensures { KeepsEnd stepped.now (K.kept keeper.old) (K.kept keeper.new) }
+/// Takes entries, one after the other. At NoMemory the first of them were taken.
+fn take_all(outbox: &mut Outbox, entries: &[Entry], now: u64) -> Result<(), NoMemory>
+    ensures ok { OnOk result (TakesAll outbox.old.list entries.now now outbox.new.list) }
+    ensures same { outbox.old.list.kept ≤ length outbox.old.list.items
+        → taken_back outbox.new.list ≡ taken_back outbox.old.list }
+    ensures others { outbox.new ≡ with_list outbox.old outbox.new.list }
 {
-    let Stepped::Ends { id, .. } = stepped else {
-        return;
-    };
-    if let Ok(line) = done_line(alloc, *id) {
-        let _ = keeper.keep(line.as_str());
+    for entry in entries {
+        let copy = entry.copy()?;
+        let _came = outbox.take(copy, now)?;
     }
+    Ok(())
 }
 
-impl<K: Keeper> TableService<K> {
-    ghost use Rattle.std.specs.Prelude.{◌++◌, ◌-◌, ◌∷◌, [], false, length, map, string_bytes, IfOk};
-    ghost use Rattle.std.specs.Prelude.{None, OnErr, OnOk};
-    ghost use Rattle.card_forms.specs.Items.{id_of};
-    ghost use Rattle.card_queue.specs.Queues.{found_in, is_full};
-    ghost use Rattle.table_service.specs.Services.{AddsItem, IsKeptBut, IsNew, Plans};
-    ghost use Rattle.table_service.specs.Services.{PlansAround, StepsQueue};
+/// A list of one entry.
+fn list_of(alloc: Global, entry: Entry) -> Result<Vec<Entry>, NoMemory>
+    ensures { IfOk result (λ entries. entries.items ≡ entry ∷ []) }
+{
+    let mut entries = Vec::new(alloc);
+    entries.push(entry)?;
+    Ok(entries)
+}
 
-    /// A service over a mirror and a queue. Ids have to be given before it shows a page with a
-    /// form.
+impl<D: Disk> TableService<D> {
+    ghost use Rattle.std.specs.Prelude.{◌++◌, ◌-◌, ◌∷◌, [], length, map, string_bytes, IfOk};
+    ghost use Rattle.std.specs.Prelude.{OnErr, OnOk};
+    ghost use Rattle.table_service.specs.Services.{AnswersIt, IsKeptBut, IsNew, IsSentBut};
+    ghost use Rattle.table_service.specs.Services.{Plans, PlansAround, TakesAgainFor, TakesFor};
+    ghost use Rattle.table_service.specs.Services.{with_ids_used};
+    ghost use Rattle.desk_talks.specs.Dialogues.{Reaches};
+    ghost use Rattle.outbox.specs.Outboxes.{DialogueLeads, aimed, looked};
+    ghost use Rattle.wire.specs.Ranges.{IsDesk};
+
+    /// A service over a mirror and what was entered. What does not stand in the journal is left
+    /// out. Ids have to be given before it shows a page with a form.
     pub fn new(
         alloc: Global,
         setup: Setup,
         mirroring: Mirroring,
-        queue: CardQueue,
-        keeper: K,
-    ) -> TableService<K>
+        outbox: Outbox,
+        file: JournalFile<D>,
+    ) -> TableService<D>
         ensures { IsNew (string_bytes setup.title) (map string_bytes setup.hosts.items)
-            (string_bytes setup.token) mirroring queue (K.kept keeper) result }
+            (string_bytes setup.token) mirroring outbox file result }
     {
+        let mut outbox = outbox;
+        outbox.not_kept();
         TableService {
             alloc,
             setup,
             mirroring,
             desks: unknown_desks(alloc),
-            queue,
+            outbox,
             ids: VecDeque::new(alloc),
             time: 0,
-            keeper,
+            file,
         }
     }
 
@@ -121,11 +147,11 @@ impl<K: Keeper> TableService<K> {
         &self.mirroring
     }
 
-    /// What was sent, and what has become of it.
-    pub fn queue(&self) -> &CardQueue
-        ensures { result.now ≡ self.now.queue }
+    /// What was entered, and is under way.
+    pub fn outbox(&self) -> &Outbox
+        ensures { result.now ≡ self.now.outbox }
     {
-        &self.queue
+        &self.outbox
     }
 
     /// How many sets of ids there is room for, 0 to 64.
@@ -158,6 +184,8 @@ impl<K: Keeper> TableService<K> {
         self.desks = desks;
     }
 
+    // ---- the desks
+
     /// Does all for the mirror that can be done now over a connection to a desk, as
     /// `DeskStream::keep` does it.
     pub fn keep<R: Net + RandomSource>(&mut self, stream: &mut DeskStream<'_, R>, now: u64) -> Kept
@@ -176,16 +204,53 @@ impl<K: Keeper> TableService<K> {
         self.mirroring.hurry();
     }
 
-    /// Does the next thing for the item in front, as `CardQueue::step` does it. That an item is
-    /// done is put into the journal; where that fails, the item is sent again after the next start,
-    /// and counts once.
-    pub fn step(&mut self) -> Result<Stepped, AllocError>
-        ensures ok { IfOk result (λ stepped. StepsQueue self.old stepped self.new) }
-        ensures err { OnErr result (self.new ≡ self.old) }
+    /// Looks through what the mirror's log has got, for entries that were sent from here. Where
+    /// memory was refused the same call then goes on.
+    pub fn look(&mut self) -> Result<(), AllocError>
+        ensures ok { OnOk result (self.new ≡ record self.old {
+          outbox = looked self.old.outbox self.old.mirroring.entries;
+        }) }
+        ensures others { IsSentBut self.old self.new }
     {
-        let stepped = self.queue.step(self.mirroring.mirror(), self.time)?;
-        keep_end(self.alloc, &mut self.keeper, &stepped);
-        Ok(stepped)
+        self.outbox.look(self.mirroring.mirror().log())
+    }
+
+    /// Submits at the desk with this number, 1 to 5, from now on.
+    pub fn aim(&mut self, desk: u8)
+        requires { IsDesk desk }
+        ensures { self.new ≡ record self.old { outbox = aimed self.old.outbox desk } }
+    {
+        self.outbox.aim(desk);
+    }
+
+    /// Does all that can be done now for what is to be submitted, over a connection to a desk: what
+    /// goes over it is what the outbox hands out. The items stay as they are.
+    pub fn submit<R: Net + RandomSource>(
+        &mut self,
+        stream: &mut DeskStream<'_, R>,
+        now: u64,
+    ) -> Kept
+        ensures others { IsSentBut self.old self.new }
+        ensures went { Reaches DialogueLeads self.old.outbox self.new.outbox }
+        ensures list { self.new.outbox.list ≡ self.old.outbox.list }
+    {
+        stream.keep(&mut self.outbox, now)
+    }
+
+    // ---- the browsers
+
+    /// A list of one entry.
+    fn one(&self, entry: Entry) -> Result<Vec<Entry>, AllocError>
+        ensures { IfOk result (λ entries. entries.items ≡ entry ∷ []) }
+    {
+        list_of(self.alloc, entry)
+    }
+
+    /// Uses the front set of ids.
+    fn use_ids(&mut self)
+        ensures { self.new ≡ with_ids_used self.old }
+    {
+        let _used = self.ids.pop_front();
     }
 
     /// What is to be done for a request of one of the program's own pages, where a page has these
@@ -193,7 +258,7 @@ impl<K: Keeper> TableService<K> {
     fn plan_with(&self, ids: &[FormId; 32], request: &Request<Bytes>) -> Result<Plan, AllocError>
         ensures { IfOk result (PlansAround self.now ids.now request.now) }
     {
-        let recent = self.queue.recent(self.alloc)?;
+        let recent = recents_of(self.alloc, &self.outbox, self.mirroring.mirror())?;
         let around = Around {
             mirror: self.mirroring.mirror(),
             desks: &self.desks,
@@ -203,7 +268,7 @@ impl<K: Keeper> TableService<K> {
             now: self.time,
         };
         let title = self.setup.title.as_bytes();
-        plan_own(self.alloc, &self.queue, title, &around, request)
+        plan_own(self.alloc, &self.outbox, title, &around, request)
     }
 
     /// What is to be done for a request. Nothing changes yet.
@@ -219,31 +284,66 @@ impl<K: Keeper> TableService<K> {
         }
     }
 
-    /// Queues an item and keeps its line in the journal. Where the line is not kept, the item is
-    /// taken back, and that is answered. Memory for the queue may be refused, and a line that was
-    /// kept can't be taken back: so the item is queued first.
-    fn take(&mut self, item: Item, response: &mut Response) -> Result<(), AllocError>
-        requires unknown { found_in self.old.queue (id_of item) ≡ None }
-        requires room { is_full self.old.queue ≡ false }
-        ensures ok { OnOk result
-            (AddsItem item self.old response.old self.new response.new) }
+    /// Takes entries, and puts their lines into the journal, or says that it couldn't be done:
+    /// then none is taken. Whether they are taken. That answer is made first: memory may be refused
+    /// for it, and what was tried with the file can't be undone.
+    fn take(&mut self, entries: &[Entry], response: &mut Response) -> Result<bool, AllocError>
+        ensures ok { IfOk result (λ kept.
+            TakesFor kept entries.now self.old response.old self.new response.new) }
         ensures err { OnErr result (self.new ≡ self.old) }
     {
-        let line = line_of(self.alloc, &item)?;
-        match self.queue.take(item, self.time)? {
-            Taken::Queued => {}
-            Taken::Known(_) | Taken::Full => unreachable!(),
+        let mut busy = Response::new(self.alloc);
+        tell_problem(&mut busy, Problem::Busy)?;
+        if let Err(fault) = take_all(&mut self.outbox, entries, self.time) {
+            self.outbox.not_kept();
+            return Err(fault);
         }
-        if self.keeper.keep(line.as_str()) {
-            return Ok(());
+        if self.file.keep(self.outbox.lines()) {
+            self.outbox.kept();
+            return Ok(true);
         }
-        let _item = self.queue.take_back();
-        response.clear();
-        tell_problem(response, Problem::Busy)
+        self.outbox.not_kept();
+        *response = busy;
+        Ok(false)
+    }
+
+    /// Notes that a scoretaker has answered an item, and puts that into the journal. Where that
+    /// fails, or memory is refused, the item is shown again after the next start, or now.
+    fn answer(&mut self, of: u64)
+        ensures { AnswersIt of self.old self.new }
+    {
+        if self.outbox.answer(self.mirroring.mirror(), of).is_err() {
+            return;
+        }
+        if self.file.keep(self.outbox.lines()) {
+            self.outbox.kept();
+        } else {
+            self.outbox.not_kept();
+        }
+    }
+
+    /// Takes an entry under the first of a page's ids, and notes that a scoretaker has answered the
+    /// item that it stands for.
+    fn take_again(
+        &mut self,
+        entry: Entry,
+        of: u64,
+        response: &mut Response,
+    ) -> Result<(), AllocError>
+        ensures ok { OnOk result (TakesAgainFor entry of self.old response.old self.new
+            response.new) }
+        ensures err { OnErr result (self.new ≡ self.old) }
+    {
+        let entries = self.one(entry)?;
+        if self.take(&entries, response)? {
+            self.use_ids();
+            self.answer(of);
+        }
+        Ok(())
     }
 }
 
-impl<K: Keeper> Service for TableService<K> {
+impl<D: Disk> Service for TableService<D> {
     ghost use Rattle.table_service.specs.Services.{Answers};
 
     // What is planned for the request is done, and nothing else changes.
@@ -259,10 +359,18 @@ impl<K: Keeper> Service for TableService<K> {
         match effect {
             Effect::Nothing => Ok(()),
             Effect::Ids => {
-                let _used = self.ids.pop_front();
+                self.use_ids();
                 Ok(())
             }
-            Effect::Take(item) => self.take(item, response),
+            Effect::Take(entries) => {
+                self.take(&entries, response)?;
+                Ok(())
+            }
+            Effect::Again { entry, of } => self.take_again(entry, of, response),
+            Effect::Answer { of } => {
+                self.answer(of);
+                Ok(())
+            }
         }
     }
 }

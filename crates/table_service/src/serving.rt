@@ -2,16 +2,17 @@
 //! sockets become ready.
 
 use crate::desks_side::{DesksSide, PROGRAM};
+use crate::disk::{Disk, SystemFile};
 use crate::drawing::drawn_ids;
-use crate::journal_file::{JournalFile, Opened};
-use crate::keeper::Keeper;
+use crate::journal_file::Opened;
 use crate::service::TableService;
 use crate::setup::Setup;
 use hall_standings::{Hall, count_desks};
 use mirroring::Mirroring;
+use outbox::HallName;
 use page_sockets::{BrowserSockets, address_of, registry_of, round, say_where};
 use pages::Browsers;
-use std::alloc::Global;
+use std::alloc::{AllocError, Global};
 use std::io;
 use std::io::Write;
 use std::net::{Net, SocketAddr};
@@ -29,10 +30,10 @@ pub enum End {
 
 /// Says where it listens, and serves until it can't go on. Pages are given ids for their forms as
 /// they use them up.
-fn serve_on<K: Keeper, R: Net + RandomSource + Clock + Drop, W: Write, F: Write>(
+fn serve_on<D: Disk, R: Net + RandomSource + Clock + Drop, W: Write, F: Write>(
     runtime: &R,
     browsers: &mut Browsers<BrowserSockets<'_, R>>,
-    service: &mut TableService<K>,
+    service: &mut TableService<D>,
     side: &mut DesksSide<'_, R>,
     writer: &mut W,
     faults: &mut F,
@@ -57,20 +58,55 @@ fn serve_on<K: Keeper, R: Net + RandomSource + Clock + Drop, W: Write, F: Write>
     Ok(End::Failed)
 }
 
-/// The service of the pages of a hall under this title, over a journal.
-fn service_of<R: RandomSource>(
+/// Where a desk is, as the journal names it: `-` where that is not known.
+fn address_text(alloc: Global, address: &Option<SocketAddr>) -> Result<String, AllocError> {
+    match address {
+        Some(address) => format!(in alloc; "{address}"),
+        None => String::from_str(alloc, "-"),
+    }
+}
+
+/// A hall, as its journals name it.
+pub fn hall_name(
+    alloc: Global,
+    number: u32,
+    addresses: &[Option<SocketAddr>],
+) -> Result<HallName, AllocError> {
+    let mut named = Vec::new(alloc);
+    for address in addresses {
+        named.push(address_text(alloc, address)?)?;
+    }
+    Ok(HallName::new(number, named))
+}
+
+/// The service of the pages of a hall under this title, over a journal. It is lent for as long as
+/// the program runs, and is never dropped.
+fn service_of<'a, R: RandomSource>(
     runtime: &R,
     alloc: Global,
     hall: Hall<'_>,
     address: SocketAddr,
     title: String,
     opened: Opened,
-) -> io::Result<TableService<JournalFile>> {
+) -> io::Result<&'a mut TableService<SystemFile>> {
     let setup = Setup::new(runtime, alloc, address, title)?;
     let mirroring = Mirroring::new(alloc, hall.number, count_desks(hall.addresses))?;
     let Opened { journal, file } = opened;
-    let queue = journal.queue;
-    Ok(TableService::new(alloc, setup, mirroring, queue, file))
+    let service = TableService::new(alloc, setup, mirroring, journal.outbox, file);
+    let kept = Box::new(alloc, service)?;
+    Ok(Box::leak(kept))
+}
+
+/// What is kept up with the desks of a hall, lent in the same way.
+fn side_of<'a, R: Net + RandomSource + Clock + Drop>(
+    runtime: &'a R,
+    alloc: Global,
+    hall: Hall<'_>,
+    browsers: &Browsers<BrowserSockets<'a, R>>,
+) -> io::Result<&'a mut DesksSide<'a, R>> {
+    let side = DesksSide::new(runtime, alloc, &registry_of(browsers)?, hall)?;
+    let kept = Box::new(alloc, side)?;
+    Ok(Box::leak(kept))
 }
 
 /// Says where it listens, and serves the pages of a hall under this title, over this journal, to
@@ -87,7 +123,7 @@ pub fn serve<'a, R: Net + RandomSource + Clock + Drop, W: Write, F: Write>(
     faults: &mut F,
 ) -> io::Result<End> {
     let address = address_of(browsers)?;
-    let mut service = service_of(runtime, alloc, hall, address, title, opened)?;
-    let mut side = DesksSide::new(runtime, alloc, &registry_of(browsers)?, hall)?;
-    serve_on(runtime, browsers, &mut service, &mut side, writer, faults)
+    let service = service_of(runtime, alloc, hall, address, title, opened)?;
+    let side = side_of(runtime, alloc, hall, browsers)?;
+    serve_on(runtime, browsers, service, side, writer, faults)
 }

@@ -1,20 +1,21 @@
 //! The pages that are made of the mirror.
 
-ghost use Rattle.std.specs.Prelude.{◌≡◌, IfOk, codes};
+ghost use Rattle.std.specs.Prelude.{◌≡◌, IfOk};
 ghost use Rattle.std.specs.Option.{option_map};
 ghost use Rattle.table_service.specs.Pages.{IsPage, draft_of};
-ghost use Rattle.table_service.specs.Plans.{PlansRead, ShowsIf};
+ghost use Rattle.table_service.specs.Plans.{PlansRead};
+ghost use Rattle.table_service.specs.Replying.{ShowsIf};
 ghost use Rattle.table_service.specs.Requests.{query_of};
 
 use crate::cards::card;
 use crate::plan::{Plan, Problem, Reply, Shown};
 use crate::reading::{Asked, View, asked_at};
 use bytes::Bytes;
-use card_queue::CardQueue;
 use entry_views::Draft;
 use entry_views::paper::{scorecards, wall_sheet};
 use hall_views::{import_page, overview, people_page, person_page, rounds_page};
 use http::Request;
+use outbox::Outbox;
 use std::alloc::{AllocError, Global};
 use table_views::Around;
 
@@ -31,12 +32,12 @@ fn draft_of<'a>(number: Option<u16>) -> Draft<'a>
 /// A page. None where its round was not opened, or where nobody has its number.
 fn page_of(
     alloc: Global,
-    queue: &CardQueue,
+    outbox: &Outbox,
     title: &[u8],
     around: &Around<'_>,
     view: View,
 ) -> Result<Option<Vec<u8>>, AllocError>
-    ensures { IfOk result (λ page. IsPage queue.now around.entry.now title.now view
+    ensures { IfOk result (λ page. IsPage outbox.now.list around.entry.now title.now view
         (option_map (λ text. text.items) page)) }
 {
     match view {
@@ -45,7 +46,7 @@ fn page_of(
         View::Person(number) => person_page(alloc, around, number),
         View::Import => Ok(Some(import_page(alloc, around)?)),
         View::Rounds(round) => Ok(Some(rounds_page(alloc, around, round)?)),
-        View::Card { round, number } => card(alloc, queue, around, round, draft_of(number)),
+        View::Card { round, number } => card(alloc, outbox, around, round, draft_of(number)),
         View::Wall(round) => wall_sheet(alloc, around.mirror, title, round),
         View::Scorecards(round) => scorecards(alloc, around.mirror, title, round),
     }
@@ -74,12 +75,12 @@ fn query_of(request: &Request<Bytes>) -> &[u8]
 /// What is to be done for a request that only reads.
 pub(crate) fn plan_read(
     alloc: Global,
-    queue: &CardQueue,
+    outbox: &Outbox,
     title: &[u8],
     around: &Around<'_>,
     request: &Request<Bytes>,
 ) -> Result<Plan, AllocError>
-    ensures { IfOk result (PlansRead queue.now around.entry.now title.now request.now) }
+    ensures { IfOk result (PlansRead outbox.now.list around.entry.now title.now request.now) }
 {
     let path = request.uri().path().as_bytes();
     match asked_at(alloc, path, query_of(request))? {
@@ -87,7 +88,7 @@ pub(crate) fn plan_read(
         Some(Asked::Style) => Ok(Plan::shown(Reply::Style)),
         Some(Asked::Script) => Ok(Plan::shown(Reply::Script)),
         Some(Asked::Page(view)) => {
-            let page = page_of(alloc, queue, title, around, view)?;
+            let page = page_of(alloc, outbox, title, around, view)?;
             Ok(plan_page(page))
         }
     }

@@ -1,43 +1,150 @@
 -- The bar of every page: how the desks are doing.
-use Rattle.std.specs.Prelude.{ℕ, ◌/◌, List, [], ◌∷◌, codes, decimal, Option, None, Some, nat_le}
-use Rattle.std.specs.Prelude.{if◌then◌else◌}
+use Rattle.std.specs.Prelude.{ℕ, ◌/◌, Bool, true, false, List, [], ◌∷◌, ◌++◌, codes, decimal}
+use Rattle.std.specs.Prelude.{flat_map, length, Option, None, Some, nat_le, if◌then◌else◌}
 use Rattle.markup.specs.Pieces.{joined}
+use Rattle.sealed.specs.declared.ends.trouble.CallTrouble.{CallTrouble}
+use Rattle.sealed.specs.declared.ends.trouble.CallTrouble.TheVariants as trouble
+use Rattle.wire.specs.declared.values.ClientRefusal.{ClientRefusal}
+use Rattle.wire.specs.declared.values.ClientRefusal.TheVariants as refusal
+use Rattle.table_views.specs.declared.bar.Doing.{Doing}
+use Rattle.table_views.specs.declared.bar.Doing.TheVariants as doing
 use Rattle.table_views.specs.declared.desks.Desks.{Desks}
+use Rattle.table_views.specs.Counts.{are_away, number_start, number_word}
+use Rattle.table_views.specs.Desks.{is_everywhere, too_few}
 
-abbrev pub silent_bar : ℕ → ℕ → List ℕ
-silent_bar desk milliseconds = joined (
-    codes "<p id=\"bar\" class=\"lost\" role=\"status\">Desk " ∷ decimal desk
-    ∷ codes " has not answered for " ∷ decimal (milliseconds / 1000)
-    ∷ codes " s. Go on: cards are kept here, and sent once a desk answers.</p>\n" ∷ []
-    )
-
-abbrev pub undecided_bar : ℕ → List ℕ
-undecided_bar milliseconds = joined (
-    codes "<p id=\"bar\" class=\"lost\" role=\"status\">The desks have not decided for "
-    ∷ decimal (milliseconds / 1000)
-    ∷ codes " s. Go on: cards are kept here, and sent again.</p>\n" ∷ []
-    )
-
-abbrev pub well_bar : ℕ → ℕ → List ℕ
-well_bar desk position = joined (
-    codes "<p id=\"bar\" class=\"well\" role=\"status\">desk " ∷ decimal desk
-    ∷ codes ", position " ∷ decimal position ∷ codes "</p>\n" ∷ []
-    )
+-- ---- how they are doing
 
 -- two seconds or longer
 abbrev pub too_long : Option ℕ → Option ℕ
 too_long None = None
 too_long (Some milliseconds) = if nat_le 2000 milliseconds then Some milliseconds else None
 
-abbrev pub undecided_or_well : Option ℕ → ℕ → ℕ → List ℕ
-undecided_or_well (Some milliseconds) desk position = undecided_bar milliseconds
-undecided_or_well None desk position = well_bar desk position
+-- a desk that does not allow it lets look whoever has no key
+abbrev pub refused_key : ClientRefusal → Option CallTrouble
+refused_key refusal.NotAllowed = Some trouble.HasKey
+refused_key refusal.Busy = None
+refused_key refusal.LogFull = None
+refused_key refusal.BallotsSpent = None
+refused_key refusal.NoMemory = None
+refused_key refusal.Down = None
+refused_key refusal.NotThere = None
+refused_key refusal.NoSuchRound = None
+refused_key refusal.Foreign = None
 
-abbrev pub bar_of : Option ℕ → Option ℕ → ℕ → ℕ → List ℕ
-bar_of (Some milliseconds) undecided desk position = silent_bar desk milliseconds
-bar_of None undecided desk position = undecided_or_well undecided desk position
+abbrev pub key_by : Option CallTrouble → Option (ℕ × ClientRefusal) → Option CallTrouble
+key_by (Some wrong) refused = Some wrong
+key_by None (Some refused) = refused_key refused.1
+key_by None None = None
 
--- that the followed desk does not answer; else that nothing is decided; else all is well
+-- what is wrong with the key of this table
+abbrev pub key_trouble : Desks → Option CallTrouble
+key_trouble desks = key_by desks.trouble desks.refused
+
+abbrev pub calm_of : Desks → List ℕ → Doing
+calm_of desks [] = if is_everywhere desks 0 then doing.Well else doing.Asked
+calm_of desks (desk ∷ others) = doing.Away
+
+abbrev pub slow_or : Option ℕ → Option ℕ → Desks → Doing
+slow_or (Some silent) undecided desks = doing.Silent silent
+slow_or None (Some undecided) desks = doing.Undecided undecided
+slow_or None None desks = calm_of desks desks.away.items
+
+abbrev pub few_or : Bool → Desks → Doing
+few_or true desks = doing.Few
+few_or false desks = slow_or (too_long desks.silent) (too_long desks.undecided) desks
+
+abbrev pub locked_or : Option CallTrouble → Desks → Doing
+locked_or (Some wrong) desks = doing.Locked wrong
+locked_or None desks = few_or (too_few desks) desks
+
+-- that the key is wrong; else that no majority answers; else that the machine that is followed does
+-- not, or that nothing is decided; else which machines are away; else all is well
+abbrev pub doing_of : Desks → Doing
+doing_of desks = locked_or (key_trouble desks) desks
+
+-- ---- in words
+
+abbrev pub class_of : Doing → List ℕ
+class_of (doing.Locked wrong) = codes "lost"
+class_of doing.Few = codes "lost"
+class_of (doing.Silent milliseconds) = codes "lost"
+class_of (doing.Undecided milliseconds) = codes "lost"
+class_of doing.Away = codes "away"
+class_of doing.Asked = codes "away"
+class_of doing.Well = codes "well"
+
+abbrev pub key_words : CallTrouble → List ℕ
+key_words trouble.HasKey =
+    codes "This table cannot enter: it has no key. Name its file in hall.toml, and start again."
+key_words trouble.OtherKey =
+    codes "This table cannot enter: the desks have another key. Copy it again, and start again."
+key_words trouble.NoKey =
+    codes "This table cannot enter: it has a key, and the desks have none. Start them with the key."
+
+-- how many machines are away
+abbrev pub away_words : List ℕ → List ℕ
+away_words away =
+    joined (number_start (length away) ∷ are_away (length away) ∷ codes "." ∷ [])
+
+abbrev pub and_machine : ℕ → List ℕ
+and_machine desk = joined (codes " and machine " ∷ decimal desk ∷ [])
+
+unfoldable pub look_at : ℕ → List ℕ → List ℕ
+look_at desk others =
+    joined (codes " Look after machine " ∷ decimal desk ∷ []) ++ flat_map and_machine others
+    ++ codes "."
+
+-- which machines somebody has to look after
+abbrev pub look_words : List ℕ → List ℕ
+look_words [] = codes ""
+look_words (desk ∷ others) = look_at desk others
+
+abbrev pub few_words : List ℕ → List ℕ
+few_words away =
+    away_words away
+    ++ codes " Go on: cards are kept here, and sent once more than half of the machines answer."
+    ++ look_words away
+
+abbrev pub silent_words : ℕ → ℕ → List ℕ
+silent_words desk milliseconds = joined (
+    codes "The machine that this table asks has not answered for " ∷ decimal (milliseconds / 1000)
+    ∷ codes " s. Go on: cards are kept here, and sent once one answers."
+    ∷ codes " Look after machine " ∷ decimal desk ∷ codes "." ∷ []
+    )
+
+abbrev pub undecided_words : ℕ → List ℕ
+undecided_words milliseconds = joined (
+    codes "The machines have decided nothing for " ∷ decimal (milliseconds / 1000)
+    ∷ codes " s. Go on: cards are kept here, and sent again." ∷ []
+    )
+
+abbrev pub well_words : ℕ → List ℕ
+well_words machines =
+    joined (codes "All " ∷ number_word machines ∷ codes " machines answer." ∷ [])
+
+abbrev pub words_of : Desks → Doing → List ℕ
+words_of desks (doing.Locked wrong) = key_words wrong
+words_of desks doing.Few = few_words desks.away.items
+words_of desks (doing.Silent milliseconds) = silent_words desks.followed milliseconds
+words_of desks (doing.Undecided milliseconds) = undecided_words milliseconds
+words_of desks doing.Away = away_words desks.away.items ++ look_words desks.away.items
+words_of desks doing.Asked = codes "The machines are asked."
+words_of desks doing.Well = well_words (length desks.lengths.items)
+
+-- ---- the bar
+
+abbrev pub bar_start : Doing → List ℕ
+bar_start doing = joined (
+    codes "<p id=\"bar\" class=\"" ∷ class_of doing ∷ codes "\"><span role=\"status\">" ∷ []
+    )
+
+abbrev pub bar_end : ℕ → List ℕ
+bar_end position =
+    joined (codes "</span> <small>position " ∷ decimal position ∷ codes "</small></p>\n" ∷ [])
+
+unfoldable pub bar_of : Desks → Doing → ℕ → List ℕ
+bar_of desks doing position = bar_start doing ++ words_of desks doing ++ bar_end position
+
+-- what is read aloud is how the desks are doing, and not each position
 abbrev pub bar : Desks → ℕ → List ℕ
-bar desks position =
-    bar_of (too_long desks.silent) (too_long desks.undecided) desks.followed position
+bar desks position = bar_of desks (doing_of desks) position

@@ -1,7 +1,23 @@
 -- What is known of the desks.
-use Rattle.std.specs.Prelude.{ℕ, Bool, false, Option, None, Some, nat_le}
+use Rattle.std.specs.Prelude.{ℕ, ◌/◌, ◌==◌, ◌&&◌, Bool, false, Option, None, Some}
+use Rattle.std.specs.Prelude.{nat_le, nat_lt, count_by, length}
+use Rattle.table_views.specs.declared.desks.Desks.{Desks}
 
 -- a log of this length, where it is known, has so many entries
 abbrev pub holds : ℕ → Option ℕ → Bool
 holds position None = false
 holds position (Some length) = nat_le position length
+
+-- how many desks are known to have so many entries
+abbrev pub holding : Desks → ℕ → ℕ
+holding desks position = count_by (holds position) desks.lengths.items
+
+-- all desks of the hall are known to have so many entries
+abbrev pub is_everywhere : Desks → ℕ → Bool
+is_everywhere desks position =
+    nat_lt 0 (length desks.lengths.items)
+    && holding desks position == length desks.lengths.items
+
+-- no majority of the desks answers
+abbrev pub too_few : Desks → Bool
+too_few desks = nat_lt (length desks.lengths.items / 2) (length desks.away.items)

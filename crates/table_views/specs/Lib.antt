@@ -1,10 +1,14 @@
+pub mod Counts
 pub mod Desks
 pub mod Hidden
 pub mod Leaving
 pub mod Bar
 pub mod Frame
 pub mod People
+pub mod Standing
+pub mod Typed
 pub mod Reasons
+pub mod Editions
 pub mod Recent
 pub mod Looks
 pub mod Logs

@@ -1,38 +1,45 @@
--- Why something was refused, in words.
-use Rattle.std.specs.Prelude.{ℕ, List, [], ◌∷◌, codes, decimal}
-use Rattle.texts.specs.meanings.Meanings.{meaning_of}
-use Rattle.derivation.specs.declared.fault.CardFault.{CardFault}
-use Rattle.derivation.specs.declared.fault.CardFault.TheVariants as fault
-use Rattle.markup.specs.Pieces.{joined}
-use Rattle.card_forms.specs.declared.items.Reason.{Reason}
-use Rattle.card_forms.specs.declared.items.Reason.TheVariants as reason
+-- Why something waits, in words.
+use Rattle.std.specs.Prelude.{ℕ, ◌==◌, if◌then◌else◌, List, codes, Option, None, Some}
+use Rattle.wire.specs.declared.values.ClientRefusal.{ClientRefusal}
+use Rattle.wire.specs.declared.values.ClientRefusal.TheVariants as refusal
+use Rattle.table_views.specs.declared.bar.Doing.{Doing}
+use Rattle.table_views.specs.declared.bar.Doing.TheVariants as doing
+use Rattle.table_views.specs.declared.desks.Desks.{Desks}
+use Rattle.table_views.specs.Bar.{doing_of}
 
-abbrev pub with_field : List ℕ → ℕ → List ℕ → List ℕ
-with_field before field after = joined (before ∷ decimal field ∷ after ∷ [])
+-- why a desk did not take what was submitted
+abbrev pub refusal_words : ClientRefusal → List ℕ
+refusal_words refusal.Busy = codes ": the desk is full, it is sent again"
+refusal_words refusal.LogFull = codes ": the log is full, the desks take no more"
+refusal_words refusal.BallotsSpent = codes ": the desk is down, it is sent to another one"
+refusal_words refusal.NoMemory = codes ": the desk is down, it is sent to another one"
+refusal_words refusal.Down = codes ": the desk is down, it is sent to another one"
+refusal_words refusal.NotThere = codes ": the desk is down, it is sent to another one"
+refusal_words refusal.NoSuchRound = codes ": the desk is down, it is sent to another one"
+refusal_words refusal.Foreign = codes ": the desk is of another hall"
+refusal_words refusal.NotAllowed =
+    codes ": the desk does not take it, since this table has no key, or another one"
 
--- why no commands come of a card
-abbrev pub card_words : CardFault → List ℕ
-card_words fault.UnknownCompetitor = codes "nobody has this number"
-card_words fault.RoundUnknown = codes "the round is not open"
-card_words fault.Closed = codes "the round is closed"
-card_words fault.NotEntered = codes "the competitor is not in this round"
-card_words (fault.TooMany field) = with_field (codes "there is no attempt ") field (codes "")
-card_words (fault.Gap field) = with_field (codes "attempt ") field (codes " is empty")
-card_words (fault.OutOfRange field) =
-    with_field (codes "attempt ") field (codes " is out of range")
-card_words (fault.WrongOutcome field) =
-    with_field (codes "attempt ") field (codes " is no result of this event")
-card_words (fault.NoScramble field) =
-    with_field (codes "attempt ") field (codes " has no scramble yet")
-card_words (fault.TooLong field) =
-    with_field (codes "the solution of attempt ") field (codes " is too long")
-card_words (fault.CutoffNotMet field) =
-    with_field (codes "the cutoff is not met: attempt ") field (codes " stays empty")
-card_words fault.NoMemory = codes "memory ran out"
+-- why the desk did not take the item of an id, if it is the one that it did not take
+abbrev pub refusal_if : Option (ℕ × ClientRefusal) → ℕ → Option ClientRefusal
+refusal_if None id = None
+refusal_if (Some refused) id = if refused.0 == id then Some refused.1 else None
 
--- why something was refused
-abbrev pub reason_words : Reason → List ℕ
-reason_words (reason.Card why) = card_words why
-reason_words (reason.Code code) = meaning_of code
-reason_words reason.Unread = codes "a field is not read"
-reason_words reason.OtherText = codes "its id was used for something else"
+-- why items wait that no desk refused, as the desks are doing
+abbrev pub delay_words : Doing → List ℕ
+delay_words (doing.Locked wrong) = codes ": this table has no key, or another one than the desks"
+delay_words doing.Few = codes ": less than a majority of the machines answers"
+delay_words (doing.Silent milliseconds) =
+    codes ": the machine that this table asks does not answer"
+delay_words (doing.Undecided milliseconds) = codes ": the machines have not decided it yet"
+delay_words doing.Away = codes ""
+delay_words doing.Asked = codes ""
+delay_words doing.Well = codes ""
+
+abbrev pub why_by : Option ClientRefusal → Desks → List ℕ
+why_by (Some why) desks = refusal_words why
+why_by None desks = delay_words (doing_of desks)
+
+-- why the item of an id waits
+abbrev pub why_words : Desks → ℕ → List ℕ
+why_words desks id = why_by (refusal_if desks.refused id) desks

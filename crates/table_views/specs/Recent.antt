@@ -1,101 +1,211 @@
 -- The cards and the commands of late, and what became of each.
-use Rattle.std.specs.Prelude.{ℕ, zero, suc, ◌-◌, ◌/◌, List, [], ◌∷◌, ◌++◌, codes, decimal}
-use Rattle.std.specs.Prelude.{flat_map, length}
-use Rattle.std.specs.Prelude.{count_by, Option, None, Some}
+use Rattle.std.specs.Prelude.{ℕ, zero, suc, ◌+◌, ◌-◌, ◌/◌, ◌==◌, ◌&&◌, List, [], ◌∷◌, ◌++◌}
+use Rattle.std.specs.Prelude.{Bool, true, false, codes, decimal, flat_map, length}
+use Rattle.std.specs.Prelude.{Option, None, Some, is_some, if◌then◌else◌}
+use Rattle.attempts.specs.Texts.{value_text}
+use Rattle.attempts.specs.declared.Unit.{Unit as Measure}
+use Rattle.attempts.specs.declared.Value.{Value}
+use Rattle.formats.specs.Events.{unit_of}
 use Rattle.markup.specs.board_page.Escaped.{escaped}
-use Rattle.card_forms.specs.declared.cards.CardForm.{CardForm}
-use Rattle.card_forms.specs.declared.items.Item.{Item}
-use Rattle.card_forms.specs.declared.items.Item.TheVariants as item
-use Rattle.card_forms.specs.declared.items.Outcome.{Outcome}
-use Rattle.card_forms.specs.declared.items.Outcome.TheVariants.{Saved, Refused, Before}
-use Rattle.card_forms.specs.declared.items.Recent.{Recent}
-use Rattle.card_forms.specs.declared.items.State.{State}
-use Rattle.card_forms.specs.declared.items.State.TheVariants.{Waits, Done}
 use Rattle.markup.specs.Pieces.{joined}
+use Rattle.card_forms.specs.Entries.{card_in}
+use Rattle.outbox.specs.declared.state.State.{State}
+use Rattle.outbox.specs.declared.state.State.TheVariants as state
 use Rattle.round_words.specs.Words.{round_name}
+use Rattle.texts.specs.Fields.{enters_later}
+use Rattle.texts.specs.Spelling.{was_text}
+use Rattle.texts.specs.declared.command.CardEntry.{CardEntry}
 use Rattle.texts.specs.declared.command.Command.{Command}
+use Rattle.texts.specs.meanings.Meanings.{meaning_of}
+use Rattle.table_views.specs.declared.around.Around.{Around}
+use Rattle.table_views.specs.declared.around.Recent.{Recent}
 use Rattle.table_views.specs.declared.desks.Desks.{Desks}
-use Rattle.table_views.specs.Desks.{holds}
-use Rattle.table_views.specs.People.{number_in, name_in}
-use Rattle.table_views.specs.Reasons.{reason_words}
+use Rattle.table_views.specs.Counts.{are_away, number_word}
+use Rattle.table_views.specs.Desks.{is_everywhere}
+use Rattle.table_views.specs.Hidden.{hidden}
+use Rattle.table_views.specs.Logs.{accepted_in}
+use Rattle.table_views.specs.People.{name_in}
+use Rattle.table_views.specs.Reasons.{why_words}
+use Rattle.table_views.specs.Standing.{standing}
+use Rattle.table_views.specs.Typed.{typed_from}
+
+-- ---- what was sent
+
+-- the number and the name of a competitor, to which a link leads
+abbrev pub competitor : List Command → ℕ → List ℕ
+competitor accepted number = joined (
+    codes "?number=" ∷ decimal number ∷ codes "\"><b>" ∷ decimal number ∷ codes "</b> <bdi>"
+    ∷ escaped (name_in accepted number) ∷ codes "</bdi></a>" ∷ []
+    )
+
+-- a link that opens the card again, to what stands of the competitor
+abbrev pub card_link : List Command → CardEntry → List ℕ
+card_link accepted card =
+    codes "<a href=\"/card/" ++ round_name card.id ++ competitor accepted card.number
+
+-- a card as it was typed
+abbrev pub card_line : List Command → CardEntry → List ℕ
+card_line accepted card =
+    card_link accepted card ++ codes " <small>" ++ round_name card.id
+    ++ codes "</small> <span class=\"typed\">"
+    ++ typed_from (unit_of card.id.event) card.was 0 card.now ++ codes "</span>"
+
+abbrev pub command_line : List ℕ → List ℕ
+command_line text = joined (codes "<code>" ∷ escaped text ∷ codes "</code>" ∷ [])
+
+abbrev pub item_line : List Command → List ℕ → Option CardEntry → List ℕ
+item_line accepted text None = command_line text
+item_line accepted text (Some card) = card_line accepted card
 
 -- ---- what became of it
 
 abbrev pub class_of : State → List ℕ
-class_of (Waits since) = codes "waits"
-class_of (Done (Saved position)) = codes "saved"
-class_of (Done (Refused reason)) = codes "refused"
-class_of (Done Before) = codes "saved"
-
--- that it is saved is said with how many desks are known to have it
-abbrev pub outcome_words : Desks → Outcome → List ℕ
-outcome_words desks (Saved position) = joined (
-    codes "saved at " ∷ decimal (count_by (holds position) desks.lengths.items)
-    ∷ codes " of " ∷ decimal (length desks.lengths.items) ∷ codes " desks" ∷ []
-    )
-outcome_words desks (Refused reason) = codes "not entered: " ++ reason_words reason
-outcome_words desks Before = codes "entered before the last start"
+class_of state.Waits = codes "waits"
+class_of (state.Saved position) = codes "saved"
+class_of (state.Changed position) = codes "changed"
+class_of (state.Refused position why) = codes "refused"
+class_of (state.OtherText position) = codes "refused"
 
 abbrev pub waits_words : ℕ → List ℕ
 waits_words milliseconds =
     joined (codes "waiting, " ∷ decimal (milliseconds / 1000) ∷ codes " s" ∷ [])
 
-abbrev pub state_words : Desks → ℕ → State → List ℕ
-state_words desks now (Waits since) = waits_words (now - since)
-state_words desks now (Done outcome) = outcome_words desks outcome
+-- saved, while so many machines are away
+abbrev pub saved_but : ℕ → List ℕ
+saved_but zero = codes "saved"
+saved_but (suc count) =
+    joined (codes "saved; " ∷ number_word (suc count) ∷ are_away (suc count) ∷ [])
 
--- ---- what was sent
+abbrev pub saved_everywhere : ℕ → List ℕ
+saved_everywhere machines =
+    joined (codes "saved on all " ∷ number_word machines ∷ codes " machines" ∷ [])
 
-abbrev pub attempt_typed : List ℕ → List ℕ
-attempt_typed text = joined (codes "<span>" ∷ escaped text ∷ codes "</span>" ∷ [])
+-- where the entry at a position stands: on all machines, if they are known to have it
+abbrev pub saved_words : Desks → ℕ → List ℕ
+saved_words desks position =
+    if is_everywhere desks (position + 1) then saved_everywhere (length desks.lengths.items)
+    else saved_but (length desks.away.items)
 
--- a link that opens the card again, to what stands of a competitor
-abbrev pub competitor : List Command → List ℕ → Option ℕ → List ℕ
-competitor accepted typed None = joined (codes "\"><b>" ∷ escaped typed ∷ codes "</b></a>" ∷ [])
-competitor accepted typed (Some number) =
-    joined (codes "?number=" ∷ decimal number ∷ codes "\"><b>" ∷ decimal number
-    ∷ codes "</b> <bdi>" ∷ [])
-    ++ escaped (name_in accepted number) ++ codes "</bdi></a>"
+abbrev pub value_words : Measure → Value → List ℕ
+value_words unit value = value_text unit value ++ codes " "
 
-abbrev pub card_link : List Command → CardForm → List ℕ
-card_link accepted form =
-    codes "<a href=\"/card/" ++ round_name form.round
-    ++ competitor accepted form.number (number_in form.number)
+-- what stands now
+abbrev pub standing_words : Measure → List Value → List ℕ
+standing_words unit [] = codes "nothing stands now"
+standing_words unit (value ∷ values) =
+    flat_map (value_words unit) (value ∷ values) ++ codes "stands now"
 
--- a card as it was typed
-abbrev pub card_line : List Command → CardForm → List ℕ
-card_line accepted form =
-    card_link accepted form ++ codes " <small>" ++ round_name form.round
-    ++ codes "</small> <span class=\"typed\">" ++ flat_map attempt_typed form.attempts
-    ++ codes "</span>"
+abbrev pub standing_of : List Command → CardEntry → List Value
+standing_of accepted card = standing accepted card.id card.number
 
-abbrev pub command_line : List ℕ → List ℕ
-command_line text = joined (codes "<code>" ∷ escaped text ∷ codes "</code>" ∷ [])
+-- what stands now of the competitor of a card
+abbrev pub stands_words : List Command → Option CardEntry → List ℕ
+stands_words accepted None = []
+stands_words accepted (Some card) =
+    codes ": " ++ standing_words (unit_of card.id.event) (standing_of accepted card)
 
-abbrev pub more_line : ℕ → List ℕ
-more_line zero = []
-more_line (suc more) = joined (codes " and " ∷ decimal (suc more) ∷ codes " more" ∷ [])
+-- by which entry of the log
+abbrev pub by_words : Option ℕ → List ℕ
+by_words None = []
+by_words (Some position) = joined (codes ", by entry " ∷ decimal (position + 1) ∷ [])
 
--- the first of some commands, and how many more there are
-abbrev pub commands_line : List (List ℕ) → List ℕ
-commands_line [] = []
-commands_line (text ∷ texts) = command_line text ++ more_line (length texts)
+-- what became of an item of this card, if it is one
+abbrev pub state_words : Around → Recent → Option CardEntry → State → List ℕ
+state_words around recent card state.Waits =
+    waits_words (around.now - recent.item.now.since)
+    ++ why_words around.desks.now recent.item.now.entry.id
+state_words around recent card (state.Saved position) = saved_words around.desks.now position
+state_words around recent card (state.Changed position) =
+    codes "not entered, it was changed meanwhile"
+    ++ stands_words (accepted_in around.mirror.now) card ++ by_words recent.by
+state_words around recent card (state.Refused position why) =
+    codes "not entered: " ++ meaning_of why
+state_words around recent card (state.OtherText position) =
+    codes "not entered: its id was used for something else"
 
-abbrev pub item_line : List Command → Item → List ℕ
-item_line accepted (item.Card form) = card_line accepted form
-item_line accepted (item.Commands id texts) = commands_line texts
+-- ---- what a scoretaker may answer
+
+-- the form takes what was typed over what stands now, as the page shows it
+abbrev pub again_form : List ℕ → ℕ → List Value → List ℕ
+again_form token id values =
+    codes "<form method=\"post\" action=\"/again\">" ++ hidden token id
+    ++ codes "<input type=\"hidden\" name=\"was\" value=\"" ++ was_text values
+    ++ codes "\"><button>Enter it over what stands now</button></form>\n"
+
+-- where a card over these values has a spelling: where what was to stay stands
+abbrev pub again_if : Bool → List ℕ → ℕ → List Value → List ℕ
+again_if false token id values = []
+again_if true token id values = again_form token id values
+
+abbrev pub again_of : Around → ℕ → Option CardEntry → List ℕ
+again_of around id None = []
+again_of around id (Some card) =
+    again_if (enters_later (length (standing_of (accepted_in around.mirror.now) card)) card.now)
+    around.token.now id (standing_of (accepted_in around.mirror.now) card)
+
+-- the form leaves it
+abbrev pub leave_form : List ℕ → ℕ → List ℕ
+leave_form token id =
+    codes "<form method=\"post\" action=\"/answered\">" ++ hidden token id
+    ++ codes "<button>Leave it</button></form>\n"
+
+-- ---- what a scoretaker may take back
+
+abbrev pub is_saved : State → Bool
+is_saved state.Waits = false
+is_saved (state.Saved position) = true
+is_saved (state.Changed position) = false
+is_saved (state.Refused position why) = false
+is_saved (state.OtherText position) = false
+
+abbrev pub is_saved_card : Recent → Bool
+is_saved_card recent = is_saved recent.state && is_some (card_in recent.item.now.entry.text)
+
+-- the id of the first of these that is a card and is saved: of the newest, where they begin with it
+abbrev pub newest_saved : List Recent → Option ℕ
+newest_saved [] = None
+newest_saved (recent ∷ others) =
+    if is_saved_card recent then Some recent.item.now.entry.id else newest_saved others
+
+-- the form takes back the card of an id
+abbrev pub undo_form : List ℕ → ℕ → List ℕ
+undo_form token id =
+    codes "<form method=\"post\" action=\"/undo\">" ++ hidden token id
+    ++ joined (codes "<input type=\"hidden\" name=\"of\" value=\"" ∷ decimal id
+    ∷ codes "\"><button>Take back</button></form>\n" ∷ [])
+
+abbrev pub undo_of : List ℕ → Option ℕ → ℕ → List ℕ
+undo_of token None id = []
+undo_of token (Some newest) id = if newest == id then undo_form token id else []
+
+-- the forms of an item: of all that are saved the newest card alone can be taken back
+abbrev pub forms_of : Around → Option ℕ → ℕ → Option CardEntry → State → List ℕ
+forms_of around newest id card state.Waits = []
+forms_of around newest id card (state.Saved position) = undo_of around.token.now newest id
+forms_of around newest id card (state.Changed position) =
+    again_of around id card ++ leave_form around.token.now id
+forms_of around newest id card (state.Refused position why) = leave_form around.token.now id
+forms_of around newest id card (state.OtherText position) = leave_form around.token.now id
 
 -- ---- the section
 
 abbrev pub line_start : State → List ℕ
-line_start state = joined (codes "<li class=\"" ∷ class_of state ∷ codes "\">" ∷ [])
+line_start became = joined (codes "<li class=\"" ∷ class_of became ∷ codes "\">" ∷ [])
 
-abbrev pub recent_line : List Command → Desks → ℕ → Recent → List ℕ
-recent_line accepted desks now recent =
-    line_start recent.state ++ item_line accepted recent.item.now ++ codes " <em>"
-    ++ state_words desks now recent.state ++ codes "</em></li>\n"
+abbrev pub line_of : Around → Option ℕ → Recent → Option CardEntry → List ℕ
+line_of around newest recent card =
+    line_start recent.state
+    ++ item_line (accepted_in around.mirror.now) recent.item.now.entry.text card
+    ++ codes " <em>" ++ state_words around recent card recent.state ++ codes "</em>"
+    ++ forms_of around newest recent.item.now.entry.id card recent.state ++ codes "</li>\n"
 
-abbrev pub recent_section : List Command → Desks → ℕ → List Recent → List ℕ
-recent_section accepted desks now recents =
-    codes "<section id=\"recent\"><h2>Last entered</h2>\n<ol>\n"
-    ++ flat_map (recent_line accepted desks now) recents ++ codes "</ol></section>\n"
+abbrev pub recent_line : Around → Option ℕ → Recent → List ℕ
+recent_line around newest recent =
+    line_of around newest recent (card_in recent.item.now.entry.text)
+
+-- the list says aloud what became of what was sent
+abbrev pub recent_section : Around → List ℕ
+recent_section around =
+    codes "<section id=\"recent\"><h2>Last entered</h2>\n<ol aria-live=\"polite\">\n"
+    ++ flat_map (recent_line around (newest_saved around.recent.now)) around.recent.now
+    ++ codes "</ol></section>\n"

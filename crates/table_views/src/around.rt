@@ -1,8 +1,19 @@
 //! What every page is made from.
 
 use crate::desks::Desks;
-use card_forms::{FormId, Recent};
+use card_forms::FormId;
 use mirror::Mirror;
+use outbox::{Item, State};
+
+/// An item, and what became of it.
+#[derive(Clone, Copy)]
+pub struct Recent<'a> {
+    pub item: &'a Item,
+    pub state: State,
+    /// The position of the entry by which the competitor's attempts stand as they do, where the
+    /// item is a card that was refused since they were changed meanwhile.
+    pub by: Option<u32>,
+}
 
 /// What a page is made from, besides what it is of.
 #[derive(Clone, Copy)]
@@ -15,8 +26,9 @@ pub struct Around<'a> {
     /// Ids for the forms of the page. The form of a card has the first one, and the others are
     /// spare.
     pub ids: &'a [FormId; 32],
-    /// What was sent of late, newest first.
+    /// What was sent of late, newest first, and all that was sent before and is not saved, until
+    /// a scoretaker has answered it.
     pub recent: &'a [Recent<'a>],
-    /// The milliseconds of the clock by which `recent` says since when something waits.
+    /// The milliseconds of the clock by which the items say since when they wait.
     pub now: u64,
 }

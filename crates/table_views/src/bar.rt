@@ -1,59 +1,42 @@
 //! The bar of every page: how the desks are doing.
 
-ghost use Rattle.std.specs.Prelude.{◌≡◌, ◌++◌, OnOk};
-ghost use Rattle.table_views.specs.Bar.{bar, silent_bar, too_long, undecided_bar, well_bar};
+ghost use Rattle.std.specs.Prelude.{◌≡◌, ◌++◌, OnOk, flat_map};
+ghost use Rattle.table_views.specs.Bar.{and_machine, away_words, bar, bar_end, bar_of, bar_start};
+ghost use Rattle.table_views.specs.Bar.{calm_of, class_of, doing_of, few_or, few_words, key_by};
+ghost use Rattle.table_views.specs.Bar.{key_trouble, key_words, look_at, look_words, refused_key};
+ghost use Rattle.table_views.specs.Bar.{silent_words, slow_or, too_long, undecided_words};
+ghost use Rattle.table_views.specs.Bar.{well_words, words_of};
 
+use crate::counts::{are_away, number_start, number_word};
 use crate::desks::Desks;
 use acceptor::NoMemory;
 use markup::{Piece, push_pieces};
+use sealed::ends::CallTrouble;
+use wire::ClientRefusal;
 
-/// The milliseconds after which a bar says that a desk does not answer.
+/// The milliseconds after which a bar says that something takes long.
 const PATIENCE: u64 = 2_000;
 
-fn push_silent(out: &mut Vec<u8>, desk: u8, milliseconds: u64) -> Result<(), NoMemory>
-    ensures { OnOk result (out.new.items ≡ out.old.items ++ silent_bar desk milliseconds) }
-{
-    push_pieces(
-        out,
-        &[
-            Piece::Html(b"<p id=\"bar\" class=\"lost\" role=\"status\">Desk "),
-            Piece::Number(desk as u64),
-            Piece::Html(b" has not answered for "),
-            Piece::Number(milliseconds / 1_000),
-            Piece::Html(b" s. Go on: cards are kept here, and sent once a desk answers.</p>\n"),
-        ],
-    )
+/// How the desks are doing, or what is worst of it.
+#[derive(Clone, Copy)]
+pub(crate) enum Doing {
+    /// Nothing can be entered here: something is wrong with the table's key.
+    Locked(CallTrouble),
+    /// No majority of the machines answers.
+    Few,
+    /// The machine that is followed has not answered for so many milliseconds.
+    Silent(u64),
+    /// For so many milliseconds nothing was decided of what was entered.
+    Undecided(u64),
+    /// A minority of the machines does not answer.
+    Away,
+    /// Not every machine has said yet how it stands.
+    Asked,
+    /// All machines answer.
+    Well,
 }
 
-fn push_undecided(out: &mut Vec<u8>, milliseconds: u64) -> Result<(), NoMemory>
-    ensures { OnOk result (out.new.items ≡ out.old.items ++ undecided_bar milliseconds) }
-{
-    push_pieces(
-        out,
-        &[
-            Piece::Html(
-                b"<p id=\"bar\" class=\"lost\" role=\"status\">The desks have not decided for ",
-            ),
-            Piece::Number(milliseconds / 1_000),
-            Piece::Html(b" s. Go on: cards are kept here, and sent again.</p>\n"),
-        ],
-    )
-}
-
-fn push_well(out: &mut Vec<u8>, desk: u8, position: u32) -> Result<(), NoMemory>
-    ensures { OnOk result (out.new.items ≡ out.old.items ++ well_bar desk position) }
-{
-    push_pieces(
-        out,
-        &[
-            Piece::Html(b"<p id=\"bar\" class=\"well\" role=\"status\">desk "),
-            Piece::Number(desk as u64),
-            Piece::Html(b", position "),
-            Piece::Number(position as u64),
-            Piece::Html(b"</p>\n"),
-        ],
-    )
-}
+// ---- how they are doing
 
 /// How long something has lasted, where that is too long.
 fn too_long(milliseconds: Option<u64>) -> Option<u64>
@@ -65,17 +48,268 @@ fn too_long(milliseconds: Option<u64>) -> Option<u64>
     }
 }
 
-/// Adds the bar: that the followed desk has not answered for two seconds or longer; else that the
-/// desks have not decided for two seconds or longer what was entered; else which desk is followed,
-/// and how long the log is.
+/// What is wrong with the table's key where a desk took nothing, and said this.
+fn refused_key(why: ClientRefusal) -> Option<CallTrouble>
+    ensures { result ≡ refused_key why }
+{
+    match why {
+        ClientRefusal::NotAllowed => Some(CallTrouble::HasKey),
+        ClientRefusal::Busy
+        | ClientRefusal::LogFull
+        | ClientRefusal::BallotsSpent
+        | ClientRefusal::NoMemory
+        | ClientRefusal::Down
+        | ClientRefusal::NotThere
+        | ClientRefusal::NoSuchRound
+        | ClientRefusal::Foreign => None,
+    }
+}
+
+/// What is wrong with the key of this table.
+fn key_trouble(desks: &Desks) -> Option<CallTrouble>
+    ensures { result ≡ key_trouble desks.now }
+{
+    match (desks.trouble, desks.refused) {
+        (Some(trouble), _) => Some(trouble),
+        (None, Some((_, why))) => refused_key(why),
+        (None, None) => None,
+    }
+}
+
+/// How the desks are doing that answer soon enough.
+fn calm_of(desks: &Desks) -> Doing
+    ensures { result ≡ calm_of desks.now desks.now.away.items }
+{
+    if !desks.away.is_empty() {
+        Doing::Away
+    } else if desks.is_everywhere(0) {
+        Doing::Well
+    } else {
+        Doing::Asked
+    }
+}
+
+/// How the desks are doing: that the table's key is wrong; else that no majority of them answers;
+/// else that the one that is followed does not, or that nothing is decided; else which are away.
+pub(crate) fn doing_of(desks: &Desks) -> Doing
+    ensures { result ≡ doing_of desks.now }
+{
+    if let Some(trouble) = key_trouble(desks) {
+        Doing::Locked(trouble)
+    } else if desks.too_few() {
+        Doing::Few
+    } else if let Some(milliseconds) = too_long(desks.silent) {
+        Doing::Silent(milliseconds)
+    } else if let Some(milliseconds) = too_long(desks.undecided) {
+        Doing::Undecided(milliseconds)
+    } else {
+        calm_of(desks)
+    }
+}
+
+// ---- in words
+
+fn class_of(doing: Doing) -> &'static [u8]
+    ensures { result.now ≡ class_of doing }
+{
+    match doing {
+        Doing::Locked(_) | Doing::Few | Doing::Silent(_) | Doing::Undecided(_) => b"lost",
+        Doing::Away | Doing::Asked => b"away",
+        Doing::Well => b"well",
+    }
+}
+
+/// What is said of the key, and what is to be done.
+fn key_words(trouble: CallTrouble) -> &'static [u8]
+    ensures { result.now ≡ key_words trouble }
+{
+    match trouble {
+        CallTrouble::HasKey => {
+            b"This table cannot enter: it has no key. Name its file in hall.toml, and start again."
+        }
+        CallTrouble::OtherKey => {
+            b"This table cannot enter: the desks have another key. Copy it again, and start again."
+        }
+        CallTrouble::NoKey => {
+            b"This table cannot enter: it has a key, and the desks have none. Start them with the \
+            key."
+        }
+    }
+}
+
+/// Adds how many machines are away.
+fn push_away(out: &mut Vec<u8>, away: &[u8]) -> Result<(), NoMemory>
+    ensures { OnOk result (out.new.items ≡ out.old.items ++ away_words away.now) }
+{
+    push_pieces(
+        out,
+        &[
+            Piece::Html(number_start(away.len())),
+            Piece::Html(are_away(away.len())),
+            Piece::Html(b"."),
+        ],
+    )
+}
+
+fn push_and(out: &mut Vec<u8>, desk: u8) -> Result<(), NoMemory>
+    ensures { OnOk result (out.new.items ≡ out.old.items ++ and_machine desk) }
+{
+    push_pieces(
+        out,
+        &[Piece::Html(b" and machine "), Piece::Number(desk as u64)],
+    )
+}
+
+fn push_others(out: &mut Vec<u8>, desks: &[u8]) -> Result<(), NoMemory>
+    ensures { OnOk result (out.new.items ≡ out.old.items ++ flat_map and_machine desks.now) }
+{
+    for desk in desks {
+        push_and(out, *desk)?;
+    }
+    Ok(())
+}
+
+/// Adds that somebody has to look after these machines.
+fn push_look_at(out: &mut Vec<u8>, desk: u8, others: &[u8]) -> Result<(), NoMemory>
+    ensures { OnOk result (out.new.items ≡ out.old.items ++ look_at desk others.now) }
+{
+    push_pieces(
+        out,
+        &[
+            Piece::Html(b" Look after machine "),
+            Piece::Number(desk as u64),
+        ],
+    )?;
+    push_others(out, others)?;
+    out.extend_from_slice(b".")
+}
+
+/// Adds which machines somebody has to look after.
+fn push_look(out: &mut Vec<u8>, away: &[u8]) -> Result<(), NoMemory>
+    ensures { OnOk result (out.new.items ≡ out.old.items ++ look_words away.now) }
+{
+    match away.split_first() {
+        Some((first, others)) => push_look_at(out, *first, others),
+        None => Ok(()),
+    }
+}
+
+fn push_few(out: &mut Vec<u8>, away: &[u8]) -> Result<(), NoMemory>
+    ensures { OnOk result (out.new.items ≡ out.old.items ++ few_words away.now) }
+{
+    push_away(out, away)?;
+    out.extend_from_slice(
+        b" Go on: cards are kept here, and sent once more than half of the machines answer.",
+    )?;
+    push_look(out, away)
+}
+
+fn push_silent(out: &mut Vec<u8>, desk: u8, milliseconds: u64) -> Result<(), NoMemory>
+    ensures { OnOk result (out.new.items ≡ out.old.items ++ silent_words desk milliseconds) }
+{
+    push_pieces(
+        out,
+        &[
+            Piece::Html(b"The machine that this table asks has not answered for "),
+            Piece::Number(milliseconds / 1_000),
+            Piece::Html(b" s. Go on: cards are kept here, and sent once one answers."),
+            Piece::Html(b" Look after machine "),
+            Piece::Number(desk as u64),
+            Piece::Html(b"."),
+        ],
+    )
+}
+
+fn push_undecided(out: &mut Vec<u8>, milliseconds: u64) -> Result<(), NoMemory>
+    ensures { OnOk result (out.new.items ≡ out.old.items ++ undecided_words milliseconds) }
+{
+    push_pieces(
+        out,
+        &[
+            Piece::Html(b"The machines have decided nothing for "),
+            Piece::Number(milliseconds / 1_000),
+            Piece::Html(b" s. Go on: cards are kept here, and sent again."),
+        ],
+    )
+}
+
+fn push_well(out: &mut Vec<u8>, machines: usize) -> Result<(), NoMemory>
+    ensures { OnOk result (out.new.items ≡ out.old.items ++ well_words machines) }
+{
+    push_pieces(
+        out,
+        &[
+            Piece::Html(b"All "),
+            Piece::Html(number_word(machines)),
+            Piece::Html(b" machines answer."),
+        ],
+    )
+}
+
+/// Adds how the desks are doing, and what is to be done.
+fn push_words(out: &mut Vec<u8>, desks: &Desks, doing: Doing) -> Result<(), NoMemory>
+    ensures { OnOk result (out.new.items ≡ out.old.items ++ words_of desks.now doing) }
+{
+    match doing {
+        Doing::Locked(trouble) => out.extend_from_slice(key_words(trouble)),
+        Doing::Few => push_few(out, &desks.away),
+        Doing::Silent(milliseconds) => push_silent(out, desks.followed, milliseconds),
+        Doing::Undecided(milliseconds) => push_undecided(out, milliseconds),
+        Doing::Away => {
+            push_away(out, &desks.away)?;
+            push_look(out, &desks.away)
+        }
+        Doing::Asked => out.extend_from_slice(b"The machines are asked."),
+        Doing::Well => push_well(out, desks.lengths.len()),
+    }
+}
+
+// ---- the bar
+
+fn push_bar_start(out: &mut Vec<u8>, doing: Doing) -> Result<(), NoMemory>
+    ensures { OnOk result (out.new.items ≡ out.old.items ++ bar_start doing) }
+{
+    push_pieces(
+        out,
+        &[
+            Piece::Html(b"<p id=\"bar\" class=\""),
+            Piece::Html(class_of(doing)),
+            Piece::Html(b"\"><span role=\"status\">"),
+        ],
+    )
+}
+
+fn push_bar_end(out: &mut Vec<u8>, position: u32) -> Result<(), NoMemory>
+    ensures { OnOk result (out.new.items ≡ out.old.items ++ bar_end position) }
+{
+    push_pieces(
+        out,
+        &[
+            Piece::Html(b"</span> <small>position "),
+            Piece::Number(position as u64),
+            Piece::Html(b"</small></p>\n"),
+        ],
+    )
+}
+
+/// Adds the bar of desks that are doing so.
+fn push_bar_of(
+    out: &mut Vec<u8>,
+    desks: &Desks,
+    doing: Doing,
+    position: u32,
+) -> Result<(), NoMemory>
+    ensures { OnOk result (out.new.items ≡ out.old.items ++ bar_of desks.now doing position) }
+{
+    push_bar_start(out, doing)?;
+    push_words(out, desks, doing)?;
+    push_bar_end(out, position)
+}
+
+/// Adds the bar: how the desks are doing, which a screen reader says when it changes, and how long
+/// the log is.
 pub(crate) fn push_bar(out: &mut Vec<u8>, desks: &Desks, position: u32) -> Result<(), NoMemory>
     ensures { OnOk result (out.new.items ≡ out.old.items ++ bar desks.now position) }
 {
-    if let Some(milliseconds) = too_long(desks.silent) {
-        push_silent(out, desks.followed, milliseconds)
-    } else if let Some(milliseconds) = too_long(desks.undecided) {
-        push_undecided(out, milliseconds)
-    } else {
-        push_well(out, desks.followed, position)
-    }
+    push_bar_of(out, desks, doing_of(desks), position)
 }

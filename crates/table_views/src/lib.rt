@@ -4,7 +4,9 @@
 
 mod around;
 mod bar;
+mod counts;
 mod desks;
+mod editions;
 mod frame;
 mod hidden;
 mod leaving;
@@ -12,13 +14,16 @@ mod looks;
 mod people;
 mod reasons;
 mod recent;
+mod typed;
+mod values;
 
-pub use around::Around;
+pub use around::{Around, Recent};
 pub use desks::Desks;
+pub use editions::{is_latest, push_edition_form};
 pub use frame::{push_bottom, push_top};
 pub use hidden::push_hidden;
 pub use leaving::may_leave;
 pub use looks::{script, style};
 pub use people::{number_of, push_name};
-pub use reasons::push_card_fault;
 pub use recent::push_recent;
+pub use values::{standing, values_of};

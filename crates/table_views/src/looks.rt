@@ -19,6 +19,8 @@ nav { display: flex; flex-wrap: wrap; gap: 1rem; padding: .4rem .8rem;
   border-bottom: 1px solid var(--line); }
 #bar { margin: 0; padding: .3rem .8rem; min-height: 2rem; color: var(--good); }
 #bar.lost { background: var(--bad); color: var(--paper); font-weight: bold; }
+#bar.away { color: var(--wait); }
+#bar small { color: inherit; opacity: .7; }
 main { padding: .4rem .8rem; }
 h1 { font-size: 1.4rem; margin: .2rem 0; }
 h2 { font-size: 1.05rem; margin: .8rem 0 .3rem; }
@@ -42,10 +44,14 @@ body:has(#blind:checked) #round { visibility: hidden; }
 .field label { text-align: right; }
 .field .stands:not(:empty)::before { content: \"stands \"; }
 .field .stands { color: var(--wait); }
+.field .stands.changed { background: var(--mark); }
 .field output { font-size: 1.2rem; overflow-wrap: anywhere; }
 .field strong, .told, .wrong, #unsent { color: var(--bad); font-weight: bold; }
 .field strong { grid-column: 2 / 5; }
 .field input:disabled { background: var(--soft); border-style: dashed; }
+.keys { font-size: .85rem; margin: .3rem 0; }
+kbd { padding: 0 .25rem; border: 1px solid var(--line); border-radius: .2rem; }
+#spoken { position: absolute; width: 1px; height: 1px; overflow: hidden; clip-path: inset(50%); }
 .results { display: flex; gap: 2rem; font-size: 1.3rem; min-height: 1.8rem; margin: .3rem 0; }
 #found { grid-column: 2 / 5; list-style: none; margin: 0; padding: 0; }
 #found li { padding: .2rem .4rem; }
@@ -57,9 +63,11 @@ body:has(#blind:checked) #round { visibility: hidden; }
 #recent .typed span { margin-right: .7rem; font-variant-numeric: tabular-nums; }
 #recent .typed span:empty { display: none; }
 #recent em, #back em { display: block; font-style: normal; }
+#recent form { display: inline-block; margin: .2rem .6rem .2rem 0; }
 .saved em { color: var(--good); }
 .waits em { color: var(--wait); }
-.refused em, #back em { color: var(--bad); font-weight: bold; }
+.changed em, .refused em, #back em { color: var(--bad); font-weight: bold; }
+caption { text-align: left; font-size: .85rem; padding: .15rem 0; }
 table { border-collapse: collapse; width: 100%; font-variant-numeric: tabular-nums; }
 th, td { padding: .15rem .4rem; border-bottom: 1px solid var(--line); text-align: right; }
 #round th { position: sticky; top: 0; background: var(--paper); }
@@ -73,6 +81,7 @@ tr.done td:first-child { border-left: .3rem solid var(--good); }
 td.changed { animation: changed 5s; }
 @keyframes changed { from, 80% { background: var(--mark); } }
 tr.hidden { display: none; }
+tr.read td:nth-child(2)::after { content: \" \\2713\"; color: var(--good); }
 tr.current td { border-top: 2px solid var(--link); border-bottom: 2px solid var(--link); }
 body.hall form { display: flex; flex-wrap: wrap; gap: .6rem; align-items: end; }
 body.hall td { overflow-wrap: anywhere; }
@@ -118,11 +127,13 @@ const SCRIPT: &str = "\
 'use strict'; // What a script adds to the pages of the score table. Each page works without it.
 const $ = (id) => document.getElementById(id);
 const all = (selector, root = document) => [...root.querySelectorAll(selector)];
-const form = document.querySelector('#card form'), rules = form ? form.dataset : {};
+const form = document.querySelector('#card form[data-unit]'), rules = form ? form.dataset : {};
 const fields = form ? all('input[id^=a]', form) : [];
 const beside = (field, selector) => field.parentNode.querySelector(selector);
 const make = (tag, text) => Object.assign(document.createElement(tag), { textContent: text });
 const pageOf = (text) => new DOMParser().parseFromString(text, 'text/html');
+const say = (it, textContent, wrong) =>
+  Object.assign(it, { textContent, className: wrong ? 'wrong' : '' });
 // ---- what is typed, read as the program reads it
 const two = (number) => String(number).padStart(2, '0');
 const clock = (n) => (n < 6000 ? Math.floor(n / 100)
@@ -139,10 +150,10 @@ function readTime(text) {
   const measured = 6000 * minutes + 100 * seconds + rest, sum = measured + 200 * penalty;
   if (measured < 1 || measured > 999999) return { wrong: 'a time is 0.01 to 166:39.99' };
   const late = clock(measured) + ' is at or above the limit: DNF';
-  if (measured >= Number(rules.limit)) return { value: 'DNF', words: late };
+  if (measured >= Number(rules.limit)) return { value: 'DNF', time: sum, words: late };
   const value = sum <= 60000 ? sum : Math.floor((sum + 50) / 100) * 100, result = clock(value);
   const added = penalty ? clock(measured) + ' + ' + 2 * penalty + ' = ' : '';
-  return { value, result, words: added + result };
+  return { value, time: sum, result, words: added + result };
 }
 function readMulti(text) {
   const found = /^([0-9]{1,2})[/]([0-9]{1,2}) (?:([0-9]{1,2}):(?=..$))?([0-9]{1,4})$/.exec(text);
@@ -155,13 +166,68 @@ function readMulti(text) {
   if (solved < 2 || points < 0) return { value: 'DNF', words: result + ' is DNF' };
   return { value: (99 - points) * 1e7 + 100 * seconds + unsolved, result, words: result };
 }
-function read(text) {
+// A turn of a sticker's place, which is right, up and to the front.
+const turn = { x: ([a, b, c]) => [a, c, -b], y: ([a, b, c]) => [-c, b, a],
+  z: ([a, b, c]) => [b, -a, c] };
+const axisOf = { R: 'x', L: 'x', U: 'y', D: 'y', F: 'z', B: 'z' };
+// Each sticker of a cube: of which side it is, where it is, and where it looks.
+function solvedCube() {
+  const three = [-1, 0, 1], sides = [0, 1, 2].flatMap((axis) => [[axis, -1], [axis, 1]]);
+  return sides.flatMap(([axis, side], of) => three.flatMap((a) => three.map((b) => {
+    const [at, looks] = [[a, b], [0, 0]];
+    return { of, at: at.toSpliced(axis, 0, side), looks: looks.toSpliced(axis, 0, side) };
+  })));
+}
+function turned(cube, move) {
+  const [side, wide] = move, axis = axisOf[side] || side, back = 'LDB'.includes(side);
+  const least = wide === 'w' ? -0.5 : axis === side ? -2 : 0.5;
+  const quarters = move.endsWith('2') ? 2 : move.endsWith(\"'\") === back ? 1 : 3;
+  const go = (it) => [1, 2, 3].slice(0, quarters).reduce(turn[axis], it);
+  return cube.map(({ of, at, looks }) => (back ? -1 : 1) * at['xyz'.indexOf(axis)] < least
+    ? { of, at, looks } : { of, at: go(at), looks: go(looks) });
+}
+const isSolved = (cube) => new Set(cube.map((it) => it.of + ' ' + it.looks)).size === 6;
+const scrambles = {};
+function readMoves(text, place) {
+  const moves = text.split(/ +/), scramble = scrambles[place + 1];
+  const count = moves.filter((it) => !/^[xyz]/.test(it)).length, result = String(count);
+  if (/^[0-9]+$/.test(text)) return { wrong: 'a number of moves alone is no solution' };
+  if (!moves.every((it) => /^([RLUDFB]w?|[xyz])[2']?$/.test(it)) || moves.length > 400) {
+    return { wrong: \"moves are like R U' F2 Rw x\" };
+  }
+  const all = scramble ? [...scramble.split(' '), ...moves] : [];
+  const unsolved = !isSolved(all.reduce(turned, solvedCube()));
+  const fails = 'does not solve scramble ' + (place + 1) + ': DNF';
+  if (unsolved) return { value: 'DNF', unsolved, words: fails };
+  if (count > 80) return { value: 'DNF', unsolved: true, words: 'more than 80 moves: DNF' };
+  return { value: count, result, words: result + (count === 1 ? ' move' : ' moves') };
+}
+function read(text, place) {
   const plain = text.trim().toLowerCase(), short = rules.unit !== 'moves';
   if (plain === '') return null;
   if (/^(dnf|[/])$/.test(plain) || (short && plain === 'd')) return { value: 'DNF', words: 'DNF' };
   if (/^(dns|[*])$/.test(plain) || (short && plain === 's')) return { value: 'DNS', words: 'DNS' };
-  if (!short) return { words: plain.split(/ +/).length + ' moves and rotations' };
+  if (!short) return readMoves(text.trim(), place);
   return rules.unit === 'time' ? readTime(plain) : readMulti(plain);
+}
+// What stands for an attempt, as the form carries it: its value, and its text.
+function standing(place) {
+  const text = beside(fields[place], '.stands').textContent;
+  const value = form.elements.was.value.split(',')[place];
+  return text && { value: isNaN(value) ? value : Number(value), result: text, words: '' };
+}
+// What was typed into a field; null where it is as it stands.
+const touched = (field) =>
+  field.value.trim() === beside(field, '.stands').textContent ? null : field.value;
+const readAt = (field, place) =>
+  touched(field) === null ? standing(place) || null : read(field.value, place);
+// Digits and signs of an input method become those of the keyboard.
+function narrow(event) {
+  const field = event.target;
+  if (event.isComposing || !field.matches('#card input, [data-unit], [name=number]')) return;
+  const plain = field.value.normalize('NFKC').replaceAll('\\u3002', '.');
+  const text = plain.replace(/[\\u2018\\u2019\\u2032]/g, \"'\");
+  if (field.value !== text) field.value = text;
 }
 // ---- best and average as they would be
 const third = (n) => n <= 180000 ? Math.floor((2 * n + 3) / 6) : Math.floor((n + 150) / 300) * 100;
@@ -177,15 +243,18 @@ function bestOf(readings) {
   const [best] = done.sort((a, b) => a.value - b.value);
   return best ? 'best ' + best.result : '';
 }
-// ---- the card
-let touched = false, warned = null, sure = false, chosen = 0;
+// ---- the card. It is open for the number `whose`; times on it were typed for the number `moved`.
+let whose = '', moved = '', warned = null, sure = '', chosen = 0;
 const rows = () => all('#round tbody tr');
 const cell = (row, place) => row.cells[place].textContent;
 const rowOf = (text) => rows().find((row) => cell(row, 1) === String(Number(text)));
 const nameOf = (row) => cell(row, 1) + ' ' + cell(row, 2);
-const folded = (text) => text.normalize('NFD').replace(/\\p{M}/gu, '').toLowerCase();
-const say = (it, textContent, wrong) =>
-  Object.assign(it, { textContent, className: wrong ? 'wrong' : '' });
+const textsOf = (row) => fields.map((field, place) => cell(row, 5 + place).replace(/^-$/, ''));
+const enter = (field) => { field.focus(); field.select(); };
+const isBlind = () => $('blind').checked;
+const isTyped = () => fields.some((field) => touched(field) !== null);
+const mayLeave = () => !isTyped() || confirm('Typed and not entered: '
+  + fields.map(touched).filter((text) => text !== null).join(' ') + '. Leave it?');
 function beep() {
   if (!$('sound').checked) return;
   const audio = new AudioContext(), tone = new OscillatorNode(audio);
@@ -196,7 +265,7 @@ function beep() {
 // Shows what each field reads, and closes the fields after a cutoff that is not met.
 function update() {
   const [after, border] = rules.cutoff.split(':').map(Number);
-  const readings = fields.map((field) => read(field.value));
+  const readings = fields.map(readAt);
   const below = (reading) => !reading || reading.value === undefined || reading.value < border;
   const missed = after > 0 && !readings.slice(0, after).some(below);
   fields.forEach((field, place) => {
@@ -204,123 +273,252 @@ function update() {
     if (field.disabled) readings[place] = null;
     const { wrong, words = '' } = readings[place] || {};
     say(beside(field, 'output'), field.disabled ? 'the cutoff is not met' : wrong || words, wrong);
+    field.ariaInvalid = wrong ? 'true' : 'false';
   });
   say($('average'), averageOf(readings.filter(Boolean).map((reading) => reading.value)));
   say($('best'), bestOf(readings));
   return readings;
 }
-function show(number, name, standing, typed) {
+// Shows a card over what stands: `was` as the log has it, and its texts. What was typed is null
+// where it was not touched.
+function show(number, name, was, texts, typed) {
   for (const old of all('strong, .told, .origin, [name=sure]', form)) old.remove();
-  $('number').value = number;
+  $('number').value = whose = number;
   say($('who'), name);
+  form.elements.was.value = was;
   fields.forEach((field, place) => {
-    const stands = standing[place] && standing[place] !== '-' ? standing[place] : '';
-    beside(field, '.stands').textContent = stands;
-    if (typed) field.value = typed[place] || '';
-    else if (!touched) field.value = rules.unit === 'moves' ? '' : stands;
+    const stands = texts[place] || '';
+    Object.assign(beside(field, '.stands'), { textContent: stands, className: 'stands' });
+    field.value = !typed ? stands : place in typed ? typed[place] ?? stands : '';
   });
-  [touched, warned] = [Boolean(typed), null];
-  $('found').replaceChildren();
+  warned = null;
+  suggest([]);
   update(), mark();
 }
-const enter = (field) => { field.focus(); field.select(); };
+// What stands changed while the card is open: fields that were typed in stay as they are.
+function keepUp() {
+  const row = rowOf(whose), was = form.elements.was.value;
+  if (!whose || !row || isBlind() || row.dataset.was === was) return;
+  textsOf(row).forEach((text, place) => {
+    const field = fields[place], stands = beside(field, '.stands'), typed = touched(field);
+    if (stands.textContent === text) return;
+    const here = field === document.activeElement, { result } = read(field.value, place) || {};
+    if (typed === null || (result === text && !here)) field.value = text;
+    if (typed === null && here) field.select();
+    stands.textContent = text;
+    stands.classList.add('changed');
+  });
+  form.elements.was.value = row.dataset.was;
+  [warned, sure] = [null, ''];
+  update();
+}
 function empty() {
-  touched = sure = false;
-  show('', '', []);
+  sure = moved = '';
+  show('', '', '-', []);
   $('number').focus();
 }
-function open(row, typed) {
-  const standing = $('blind').checked ? [] : fields.map((field, place) => cell(row, 5 + place));
-  show(cell(row, 1), cell(row, 2), standing, typed);
+function open(row, typed = waitingOf(row), from = '') {
+  const blind = isBlind();
+  [sure, moved] = ['', from];
+  show(cell(row, 1), cell(row, 2), blind ? '-' : row.dataset.was, blind ? [] : textsOf(row), typed);
   tell(row);
-  enter(fields.find((field) => !field.disabled && field.value === '') || fields[0]);
+  enter(fields[0]);
 }
+// What was typed on a card of a competitor that waits, here or at the table; none where none does.
+function waitingOf(row) {
+  const here = [...sent, ...sending].findLast((it) => it.body.get('number') === cell(row, 1));
+  const end = location.pathname + '?number=' + cell(row, 1);
+  const waits = all('#recent li.waits a').find((it) => it.href.endsWith(end));
+  return isBlind() ? undefined : here ? here.typed : waits && typedIn(waits.closest('li'));
+}
+const typedIn = (line) =>
+  all('.typed span', line).map((it) => it.className === 'kept' ? null : it.textContent);
 // Says by which entry of the log a card stands so, and where one without attempts is withdrawn.
 async function tell(row) {
   const answer = await fetch(location.pathname + '?number=' + cell(row, 1)).catch(() => null);
   const said = answer ? all('.origin', pageOf(await answer.text())) : [];
-  if ($('number').value === cell(row, 1) && !$('blind').checked) form.prepend(...said);
+  if (whose === cell(row, 1) && !isBlind()) form.prepend(...said);
 }
-// Those of whose name one part begins so.
+// ---- whose card it is
+const letters = { '\\u0142': 'l', '\\u00f8': 'o', '\\u0111': 'd', '\\u0131': 'i', '\\u00df': 'ss',
+  '\\u00e6': 'ae', '\\u0153': 'oe', '\\u00fe': 'th', '\\u00f0': 'd' };
+const folded = (text) => text.normalize('NFKD').toLowerCase().replace(/\\p{M}|['\\u2019`]/gu, '')
+  .replace(/[^\\0-\\x7f]/gu, (letter) => letters[letter] || letter);
+const wordsOf = (text) => ' ' + folded(text).split(/[^\\p{L}\\p{N}]+/u).filter(Boolean).join(' ');
+// Those of whose name a part begins so.
 function candidates() {
-  const text = folded($('number').value.trim());
-  const fits = (row) => folded(' ' + cell(row, 2).replaceAll('-', ' ')).includes(' ' + text);
-  return text === '' || /^[0-9]/.test(text) ? [] : rows().filter(fits).slice(0, 8);
+  const text = wordsOf($('number').value);
+  const fits = (name) => wordsOf(name) + wordsOf(name.replace(/['\\u2019`]/g, ' '));
+  const found = rows().filter((row) => fits(cell(row, 2)).includes(text));
+  return text === ' ' || /^ [0-9]/.test(text) ? [] : found.slice(0, 8);
 }
-function suggest() {
-  const found = candidates();
+function suggest(found) {
   chosen = Math.max(0, Math.min(chosen, found.length - 1));
   $('found').replaceChildren(...found.map((row, place) => {
-    const line = make('li', nameOf(row));
-    line.className = place === chosen ? 'chosen' : '';
-    line.addEventListener('click', () => open(row));
+    const line = make('li', nameOf(row)), is = place === chosen;
+    Object.assign(line, { id: 'found' + place, role: 'option', ariaSelected: String(is) });
+    line.className = is ? 'chosen' : '';
+    line.addEventListener('click', () => take(row));
     return line;
   }));
+  $('number').ariaExpanded = String(found.length > 0);
+  $('number').setAttribute('aria-activedescendant', found.length > 0 ? 'found' + chosen : '');
+}
+// The name beside a number is that number's.
+function nameIt() {
+  const row = rowOf($('number').value || '-');
+  chosen = 0;
+  say($('who'), row ? cell(row, 2) : '');
+  suggest(candidates()), mark();
+}
+// Opens the card of a row. What was typed for another number comes along, and is asked about.
+function take(row) {
+  const from = moved || whose;
+  if (!isTyped()) return open(row);
+  open(row, fields.map(touched), from === cell(row, 1) ? '' : from);
 }
 function choose() {
   const text = $('number').value.trim();
   const row = /^[0-9]+$/.test(text) ? rowOf(text) : candidates()[chosen];
-  if (row) return open(row);
+  if (row) return take(row);
+  if (text === '' && ($('eye').checked || isBlind())) return next();
   say($('who'), text === '' ? 'whose card is it?' : 'nobody in this round: ' + text, true);
+  if (/^[0-9]+$/.test(text)) who(text);
   return enter($('number')), beep();
 }
-// What is to be confirmed of a field.
-function warning(readings, place) {
-  const { value, result = value } = readings[place] || {};
+// Says who has a number that is not in the round, and offers to enter them, where it is the first.
+async function who(number) {
+  const answer = await fetch('/person/' + Number(number)).catch(() => ({}));
+  const page = answer.ok ? pageOf(await answer.text()) : null, it = $('who');
+  const [event, round] = form.elements.round.value.split('-');
+  const button = Object.assign(make('button', 'enter in this round'), { type: 'button' });
+  if (!page || $('number').value.trim() !== number || !it.className) return;
+  it.append(' ' + page.querySelector('h1').textContent
+    + page.querySelector('h1 + p').textContent.replace(/^Number [0-9]+/, ''));
+  button.addEventListener('click', () => enterIn(event, number));
+  if (round === '1') it.append(' ', button);
+}
+async function enterIn(event, number) {
+  const pairs = { command: 'ENT', event, number: Number(number), back: location.pathname };
+  const why = await post('/command', { ...pairs, id: spare.shift() });
+  say($('who'), why || 'entered: Enter opens the card', why);
+  enter($('number'));
+}
+// ---- what is to be confirmed of a card
+// Of each attempt: the word of each question, and what is asked.
+function doubts(readings, place) {
+  const { value, result = value, unsolved, time } = readings[place] || {}, found = [];
   const stands = beside(fields[place], '.stands').textContent;
   const without = stands ? 'stands, and would be struck out?' : 'left empty?';
-  if (!readings[place]) return fields[place].disabled && !stands ? '' : without;
-  if (stands && result !== stands) return 'in place of ' + stands + '?';
-  const others = readings.filter((it, at) => it && at !== place && Number.isFinite(it.value));
-  if (!Number.isFinite(value) || rules.unit !== 'time' || others.length === 0) return '';
-  if (others.every((other) => value > 2 * other.value)) return 'more than twice the others?';
-  return others.every((other) => 2 * value < other.value) ? 'less than half of the others?' : '';
+  if (!readings[place] && !(fields[place].disabled && !stands)) found.push(['changes', without]);
+  if (!readings[place]) return found;
+  if (stands && result !== stands) found.push(['changes', 'in place of ' + stands + '?']);
+  if (unsolved) found.push(['unsolved', 'is it so?']);
+  return time === undefined ? found : [...found, ...tooFast(time), ...unlike(readings, place)];
+}
+function tooFast(time) {
+  if (time < Number(rules.floor)) return [['fast', 'faster than anybody has ever been?']];
+  const half = 2 * time < Number(rules.best);
+  return half ? [['half', 'less than half of the best of the round?']] : [];
+}
+// A time is looked at beside the others that are typed, and beside all others.
+function unlike(readings, place) {
+  const { time } = readings[place], rest = readings.filter((it, at) => it && at !== place);
+  const typed = rest.map((it) => it.time).filter(Number.isFinite);
+  const both = [typed, rest.map((it) => it.time ?? it.value).filter(Number.isFinite)];
+  const some = (is) => both.some((others) => others.length > 0 && others.every(is));
+  const asks = some((other) => time > 2 * other) ? 'more than twice the others?'
+    : some((other) => 2 * time < other) ? 'less than half of the others?' : '';
+  return asks ? [['unlike', asks]] : [];
+}
+// Whether the third and the fourth result are the first two again.
+function repeats(readings) {
+  const [a, b, c, d] = readings.map((it) => it && Number.isFinite(it.value) ? it.value : null);
+  const typed = fields.slice(2, 4).some((field) => touched(field) !== null);
+  return a && b && a === c && b === d && typed;
+}
+// The words of all that is to be confirmed, which are shown; none where there is nothing.
+function questions(readings) {
+  const told = fields.map((field, place) => doubts(readings, place));
+  if (repeats(readings)) told[2].push(['repeats', 'the first two again?']);
+  told.forEach((found, place) => {
+    const it = beside(fields[place], 'output'), asks = found.map(([, words]) => words);
+    if (asks.length > 0) say(it, [it.textContent, ...asks].join(' '), true);
+  });
+  return told.flatMap((found, place) =>
+    found.map(([word]) => word === 'repeats' ? word : word + '-' + (place + 1)));
 }
 function submit() {
   const readings = update(), row = rowOf($('number').value);
-  const body = new URLSearchParams(new FormData(form)), typed = fields.map((field) => field.value);
+  const body = new URLSearchParams(new FormData(form)), typed = fields.map(touched);
   const wrong = readings.findIndex((reading) => reading && reading.wrong);
-  if (!row) return choose();
+  if (!row || whose !== cell(row, 1)) return choose();
   if (wrong >= 0) return enter(fields[wrong]), beep();
-  const told = fields.map((field, place) => warning(readings, place));
-  if (told.some(Boolean) && warned !== body.toString()) {
-    warned = body.toString();
-    const notes = fields.map((field) => beside(field, 'output'));
-    notes.forEach((it, place) => told[place] && say(it, it.textContent + ' ' + told[place], true));
-    say($('average'), 'Enter once more, if it is right', true);
+  if (!isBlind() && !isTyped()) return untyped(row);
+  const words = questions(readings), whole = JSON.stringify([body.toString(), words, moved]);
+  if ((words.length > 0 || moved) && warned !== whole) {
+    warned = whole;
+    const also = moved ? 'typed for ' + moved + ', and now for ' + nameOf(row) + '. ' : '';
+    say($('average'), also + 'Enter once more, if it is right', true);
     return beep();
   }
   body.set('number', cell(row, 1));
-  if (sure || told.some(Boolean)) body.set('sure', '1');
-  if ($('blind').checked) compare(row, readings);
-  else sending.push({ body, name: nameOf(row), typed });
+  body.set('sure', [sure, ...words].join(' '));
+  if (isBlind()) return compare(row, readings);
+  sending.push({ body, name: nameOf(row), typed });
   const other = crypto.getRandomValues(new BigUint64Array(1))[0] >> 2n;
   form.elements.id.value = spare.shift() || other;
   return send(), empty();
 }
-// A second reading: what differs from the round is listed, and nothing is sent.
+// ---- second reading: kept by what stood, and counted
+const readAs = (row) => 'read ' + location.pathname + ' ' + cell(row, 1);
+const isRead = (row) => localStorage.getItem(readAs(row)) === row.dataset.was;
+const hasAny = (row) => row.dataset.was !== '-';
+function tick(row) {
+  localStorage.setItem(readAs(row), row.dataset.was);
+  mark();
+}
+// Opens the card that comes next and is not read yet.
+function next() {
+  const row = rows().find((it) => hasAny(it) && !isRead(it));
+  if (row) return open(row);
+  empty();
+  say($('who'), 'all cards of the round are read');
+}
+// A card on which nothing was typed: read by eye, or left as it is.
+function untyped(row) {
+  if ($('eye').checked && hasAny(row)) return tick(row), next();
+  return say($('average'), 'nothing is typed', true), beep();
+}
+// What differs from the round is listed, and nothing is sent.
 function compare(row, readings) {
-  const differs = readings.flatMap((reading, place) => {
-    const { value = '-', result = value } = reading || {}, stands = cell(row, 5 + place);
-    return result === stands ? [] : [place + 1 + ': ' + result + ' on paper, ' + stands + ' here'];
+  const stands = textsOf(row), differs = readings.flatMap((reading, place) => {
+    const { value = '-', result = value } = reading || {}, here = stands[place] || '-';
+    return result === here ? [] : [place + 1 + ': ' + result + ' on paper, ' + here + ' here'];
   });
   if (differs.length > 0) list(nameOf(row), differs.join('; '), () => open(row));
+  else if (hasAny(row)) tick(row);
+  empty();
 }
-// ---- sending, in order, each until it is taken
+// ---- sending, in order, each until it is taken; then it is kept until a page has it
 const sending = [];
-let spare = form ? rules.spare.trim().split(' ') : [], busy = false, asked = 0;
+let sent = [];
+let spare = form ? rules.spare.trim().split(' ') : [], busy = false;
 function list(name, why, again) {
   const line = make('li', name), button = make('button', 'open again');
   line.append(make('em', why), button);
-  button.addEventListener('click', () => { line.remove(); again(); });
+  button.addEventListener('click', () => { if (mayLeave()) again(), line.remove(); });
   $('back').prepend(line);
   beep();
 }
 function giveBack(card, text, status) {
-  const told = all('#card strong', pageOf(text)).map((it) => it.textContent).join('; ');
-  list(card.name, told || 'not taken (' + status + ')', () => {
-    open(rowOf(card.body.get('number')), card.typed);
-    sure = status === 200;
+  const page = pageOf(text), asks = page.querySelector('#card [name=sure]');
+  const why = wordsIn(page) || 'not taken (' + status + ')';
+  list(card.name, why, () => {
+    const row = rowOf(card.body.get('number'));
+    if (row) open(row, card.typed);
+    sure = asks ? asks.value : '';
+    say($('average'), why, true);
   });
 }
 async function send() {
@@ -328,24 +526,28 @@ async function send() {
   for (busy = true; sending.length > 0;) {
     const card = sending[0];
     card.body.set('token', form.elements.token.value);
+    askOften();
     const answer = await fetch('/card', { method: 'POST', body: card.body, redirect: 'manual' })
       .catch(() => ({ status: 500 }));
     const taken = answer.status !== 403 && answer.status < 500;
     say($('unsent'), taken ? '' : sending.length + ' wait in this page: leave it open', true);
     if (!taken) await new Promise((done) => setTimeout(done, 1000));
-    else if (sending.shift() && answer.type === 'opaqueredirect') refresh();
+    else if (sending.shift() && answer.type === 'opaqueredirect') sent.push({ ...card, asked });
     else giveBack(card, await answer.text(), answer.status);
   }
   busy = false;
 }
-// ---- keeping up with the round
-const shown = {};
+// ---- keeping up with the log
+const shown = {}, states = new Map();
+let asked = 0, answered = 0, waits = true;
 function mark() {
-  const filter = folded($('filter').value);
+  const filter = folded($('filter').value), cards = rows().filter(hasAny);
   for (const row of rows()) {
     row.classList.toggle('hidden', !folded(nameOf(row)).includes(filter));
     row.classList.toggle('current', cell(row, 1) === $('number').value);
+    row.classList.toggle('read', hasAny(row) && isRead(row));
   }
+  say($('read'), cards.filter(isRead).length + ' of ' + cards.length + ' read again');
 }
 // Puts a section of a page in the place of the one that is shown, and marks the cells that differ.
 function replace(id, now) {
@@ -360,20 +562,125 @@ function replace(id, now) {
   }
   $(id).replaceWith(now);
 }
+// The words of the bar are put anew only where they differ, since a screen reader says them then.
+function replaceBar(now) {
+  const bar = $('bar'), parts = [...bar.children];
+  if (parts.length !== now.children.length) return bar.replaceWith(now);
+  bar.className = now.className;
+  parts.forEach((it, place) => {
+    const { textContent } = now.children[place];
+    if (it.textContent !== textContent) Object.assign(it, { textContent });
+  });
+}
+// Says of each item that waited what became of it.
+function announce() {
+  for (const line of all('#recent li')) {
+    const which = [...line.childNodes].filter((it) => !/^(EM|FORM)$/.test(it.nodeName));
+    const key = which.map((it) => it.textContent).join(''), told = line.querySelector('em');
+    if (states.get(key) === 'waits' && line.className !== 'waits') {
+      say($('spoken'), key + told.textContent);
+    }
+    states.set(key, line.className);
+  }
+}
+// What stands before the form of a card, where it changed.
+function replaceFront(page) {
+  const front = (root) => all('#card > :not(form, form ~ *)', root);
+  const htmlOf = (them) => them.map((it) => it.outerHTML).join('');
+  if (htmlOf(front(page)) === htmlOf(front(document))) return;
+  for (const old of front(document)) old.remove();
+  $('card').prepend(...front(page));
+}
+// ---- pages without a card's form
+const controls = () => all('main :is(a, button, input:not([type=hidden]), select, textarea)');
+// What each of them holds before anybody typed in it.
+const held = (it) => it.value + ' ' + it.checked, first = new WeakMap();
+const remember = () => controls().forEach((it) => first.set(it, held(it)));
+const isFilled = () => controls().some((it) => first.has(it) && first.get(it) !== held(it));
+// What a page shows, but for ids and tokens of forms, and what was entered of late.
+function bare(main) {
+  const it = main.cloneNode(true), recent = it.querySelector('#recent');
+  if (recent) recent.remove();
+  return it.outerHTML.replace(/name=\"(id|token)\" value=\"[^\"]*\"/g, '');
+}
+function replaceMain(page) {
+  const now = page.querySelector('main'), main = document.querySelector('main');
+  if (page.querySelector('form[data-unit]')) return location.reload();
+  if (isFilled() || shown.main === bare(now)) {
+    return replace('recent', page.getElementById('recent'));
+  }
+  const at = controls().indexOf(document.activeElement);
+  shown.main = bare(now);
+  main.replaceWith(now);
+  if (at >= 0 && controls()[at]) controls()[at].focus();
+  lookOver();
+}
+// What is to be done for what a page without a card's form shows first.
+function lookOver() {
+  remember();
+  all('input[data-unit=time]').forEach(readRule);
+}
+// Beside a time limit or a cutoff stands what is read.
+function readRule(field) {
+  const told = field.nextElementSibling || make('output');
+  const { wrong, result = '' } = field.value.trim() ? readTime(field.value.trim()) : {};
+  say(told, wrong || result, wrong);
+  field.after(told);
+}
+function mayOpen(it) {
+  const limit = it.elements.limit && readTime(it.elements.limit.value.trim());
+  return !limit || !(limit.value < 6000)
+    || confirm('The time limit is ' + limit.result + ', which is below a minute. Is it right?');
+}
+// ---- what the table answers
+// What the page of an answer says against what was sent.
+const wordsIn = (page) =>
+  all('#card strong, .hall strong', page).map((it) => it.textContent).join('; ');
+// Sends what is no card of this page. What is said against it; nothing where it is taken.
+async function post(action, pairs) {
+  const body = new URLSearchParams(pairs), { value } = document.querySelector('[name=token]');
+  body.set('token', value);
+  const asks = { method: 'POST', body, redirect: 'manual' };
+  const answer = await fetch(action, asks).catch(() => ({}));
+  askOften();
+  if (answer.type === 'opaqueredirect') return '';
+  return wordsIn(pageOf(answer.text ? await answer.text() : '')) || 'not taken';
+}
+// Some pages in a row, since something was sent: the first of them is soon.
+function askOften() {
+  waits = true;
+  for (const after of [30, 60, 90, 120, 250, 500]) setTimeout(() => waits && refresh(), after);
+}
+function takePage(page) {
+  const token = page.querySelector('[name=token]'), next = page.querySelector('form[data-unit]');
+  replaceBar(page.getElementById('bar'));
+  if (!form) replaceMain(page);
+  else for (const id of ['recent', 'round']) replace(id, page.getElementById(id));
+  for (const it of token ? all('[name=token]') : []) it.value = token.value;
+  announce();
+  waits = sending.length + sent.length + all('#recent .waits').length > 0;
+  if (!form || !next) return;
+  if (next.dataset.format !== rules.format && !isTyped()) return location.reload();
+  Object.assign(form.dataset, next.dataset);
+  if (spare.length < 8) spare = next.dataset.spare.trim().split(' ');
+  replaceFront(page), keepUp(), mark();
+}
 async function refresh() {
   const turn = asked += 1, path = location.pathname + (form ? '' : location.search);
   try {
-    const answer = await fetch(path, { cache: 'no-store' });
-    const page = pageOf(await answer.text()), next = page.querySelector('#card form');
-    if (!answer.ok || turn !== asked) return;
-    for (const id of ['bar', 'recent', 'round', 'rounds']) replace(id, page.getElementById(id));
-    if (!form) return;
-    form.elements.token.value = next.elements.token.value;
-    if (spare.length < 8) spare = next.dataset.spare.trim().split(' ');
-    mark();
+    const signal = AbortSignal.timeout(3000);
+    const answer = await fetch(path, { cache: 'no-store', signal });
+    const text = await answer.text();
+    if (!answer.ok || turn < answered) return;
+    answered = turn;
+    sent = sent.filter((it) => it.asked >= turn);
+    takePage(pageOf(text));
   } catch (error) {
-    say($('bar'), 'The score table does not answer. Cards wait in this page: leave it open.');
-    $('bar').className = shown.bar = 'lost';
+    if (turn < answered) return;
+    const told = 'The score table does not answer. Cards wait in this page: leave it open.';
+    const bar = $('bar').firstElementChild || $('bar');
+    if (bar.textContent !== told) bar.textContent = told;
+    $('bar').className = 'lost';
   }
 }
 // ---- keys
@@ -381,14 +688,22 @@ function keys(event) {
   const at = fields.indexOf(event.target), step = { ArrowDown: 1, ArrowUp: -1 }[event.key];
   const inNumber = event.target === $('number'), rest = fields.slice(Math.max(at, 0));
   const on = event.key === 'Enter' || (event.key === 'Tab' && inNumber && !event.shiftKey);
-  if (event.key === 'Escape') empty();
-  else if (step && inNumber) { chosen += step; suggest(); }
-  else if (step && at >= 0) (fields[at + step] || $('number')).focus();
+  const more = rest[1] && !rest[1].disabled && rest.some((it) => it.value);
+  if (event.isComposing) return;
+  if (event.key === 'Escape') { if (mayLeave()) empty(); }
+  else if (step && inNumber) { chosen += step; suggest(candidates()); }
+  else if (step && at >= 0) enter(fields[at + step] || $('number'));
   else if (on && inNumber) choose();
   else if (!on || at < 0) return;
-  else if (rest[1] && !rest[1].disabled && rest.some((it) => it.value)) enter(rest[1]);
+  else if (more && !($('eye').checked && !isTyped())) enter(rest[1]);
   else submit();
   event.preventDefault();
+}
+// The newest card that can be taken back.
+function takeBack() {
+  const [it] = all('#recent form[action=\"/undo\"]');
+  if (it) it.requestSubmit();
+  else alert('No card can be taken back.');
 }
 // A link to a card of this round opens it here.
 function follow(event) {
@@ -396,23 +711,77 @@ function follow(event) {
   const row = link && link.pathname === location.pathname && rowOf(link.search.slice(8));
   if (!row) return;
   event.preventDefault();
-  touched = false;
-  const typed = link.closest('li.refused');
-  open(row, typed && all('.typed span', typed).map((it) => it.textContent));
+  const line = link.closest('li.refused, li.changed');
+  if (mayLeave()) open(row, line ? typedIn(line) : undefined);
+}
+// What a scoretaker answers to an item is sent from where it stands, and the page stays.
+async function answer(event) {
+  const it = event.target, what = it.closest('li').querySelector('a, code').textContent;
+  event.preventDefault();
+  if (it.matches('[action=\"/undo\"]') && !confirm('Take back the card of ' + what + '?')) return;
+  const why = await post(it.action, new FormData(it));
+  if (why) it.after(make('strong', why));
+}
+// What the script adds to a card's page.
+function addOptions() {
+  const eye = Object.assign(make('input'), { id: 'eye', type: 'checkbox' }), label = make('label');
+  label.append(eye, ' read by eye: Enter goes on to the next card');
+  $('blind').closest('p').append(' ', label, ' ', Object.assign(make('output'), { id: 'read' }));
+  for (const it of all('.keys')) it.append(', ', make('kbd', 'F9'), ' takes the last card back');
+  const roles = { role: 'combobox', 'aria-controls': 'found', 'aria-autocomplete': 'list' };
+  for (const [key, value] of Object.entries(roles)) $('number').setAttribute(key, value);
+  $('found').role = 'listbox';
+  fields.forEach((field, place) => {
+    beside(field, 'output').id = 'reads' + (place + 1);
+    field.setAttribute('aria-describedby', 'said' + (place + 1) + ' reads' + (place + 1));
+  });
 }
 function begin() {
   for (const it of all('[hidden]')) it.hidden = false;
-  $('blind').addEventListener('change', empty);
+  addOptions();
+  const choice = ({ target }) => mayLeave() ? empty() : target.checked = !target.checked;
+  for (const it of [$('blind'), $('eye')]) it.addEventListener('change', choice);
   $('filter').addEventListener('input', mark);
-  $('number').addEventListener('input', () => { chosen = 0; suggest(); mark(); });
-  for (const it of fields) it.addEventListener('input', () => { touched = true; update(); });
+  $('number').addEventListener('input', nameIt);
+  $('number').addEventListener('compositionend', nameIt);
+  for (const it of fields) it.addEventListener('input', update);
   form.addEventListener('keydown', keys);
-  form.addEventListener('submit', (event) => { event.preventDefault(); submit(); });
-  addEventListener('beforeunload', (event) => { if (sending.length > 0) event.preventDefault(); });
   document.addEventListener('click', follow);
+  sure = form.elements.sure ? form.elements.sure.value : '';
+  whose = $('number').value;
+  if (rules.unit === 'moves') learn();
   update(), mark();
 }
+// The scrambles of the round.
+async function learn() {
+  const page = await fetch('/rounds?round=' + form.elements.round.value).catch(() => null);
+  for (const it of page ? all('p', pageOf(await page.text())) : []) {
+    const [, attempt, moves] = /^Scramble ([1-5]): (.+)$/.exec(it.textContent) || [];
+    if (moves) scrambles[attempt] = moves;
+  }
+}
+let leaves = false;
+document.addEventListener('input', narrow, true);
+document.addEventListener('compositionend', narrow, true);
+document.addEventListener('keydown', (event) => event.key === 'F9' && takeBack());
+document.addEventListener('submit', (event) => {
+  if (event.target === form) { event.preventDefault(); submit(); }
+  else if (event.target.closest('#recent')) answer(event);
+  else if (mayOpen(event.target)) leaves = true;
+  else event.preventDefault();
+});
+document.addEventListener('input', (event) => {
+  if (event.target.matches('input[data-unit=time]')) readRule(event.target);
+});
+addEventListener('beforeunload', (event) => {
+  const back = form && $('back').children.length > 0;
+  if (!leaves && (sending.length > 0 || back || isTyped() || isFilled())) event.preventDefault();
+});
+document.body.append(Object.assign(make('p'), { id: 'spoken', role: 'status' }));
+shown.main = bare(document.querySelector('main'));
 if (form) begin();
+else lookOver();
+announce(), askOften();
 setInterval(refresh, 1000);
 ";
 

@@ -27,6 +27,16 @@ pub fn number_of(text: &[u8]) -> Option<u16>
     }
 }
 
+/// The name of a competitor; nothing where nobody has the number.
+pub(crate) fn name_of(meet: &Meet, number: u16) -> &[u8]
+    ensures { result.now ≡ name_in meet.now.accepted number }
+{
+    match meet.name(number) {
+        Some(name) => name,
+        None => &[],
+    }
+}
+
 /// Adds the name of a competitor; nothing where nobody has the number.
 pub fn push_name(out: &mut Vec<u8>, meet: &Meet, number: u16) -> Result<(), NoMemory>
     ensures { OnOk result (out.new.items

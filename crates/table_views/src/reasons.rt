@@ -1,75 +1,63 @@
-//! Why something was refused, in words.
+//! Why something waits, in words.
 
 ghost use Rattle.std.specs.Prelude.{◌≡◌, ◌++◌, OnOk};
-ghost use Rattle.table_views.specs.Reasons.{card_words, reason_words, with_field};
+ghost use Rattle.table_views.specs.Bar.{doing_of};
+ghost use Rattle.table_views.specs.Reasons.{delay_words, refusal_if, refusal_words, why_words};
 
+use crate::bar::{Doing, doing_of};
+use crate::desks::Desks;
 use acceptor::NoMemory;
-use card_forms::Reason;
-use derivation::CardFault;
-use markup::{Piece, push_pieces};
-use texts::meanings::meaning_of;
+use wire::ClientRefusal;
 
-/// Adds what is said of an attempt.
-fn push_field<'a>(
-    out: &mut Vec<u8>,
-    before: &'a [u8],
-    field: u8,
-    after: &'a [u8],
-) -> Result<(), NoMemory>
-    ensures { OnOk result (out.new.items
-        ≡ out.old.items ++ with_field before.now field after.now) }
+/// Why a desk did not take what was submitted.
+fn refusal_words(why: ClientRefusal) -> &'static [u8]
+    ensures { result.now ≡ refusal_words why }
 {
-    push_pieces(
-        out,
-        &[
-            Piece::Html(before),
-            Piece::Number(field as u64),
-            Piece::Html(after),
-        ],
-    )
-}
-
-/// Adds why no commands come of a card.
-pub fn push_card_fault(out: &mut Vec<u8>, fault: CardFault) -> Result<(), NoMemory>
-    ensures { OnOk result (out.new.items ≡ out.old.items ++ card_words fault) }
-{
-    match fault {
-        CardFault::UnknownCompetitor => out.extend_from_slice(b"nobody has this number"),
-        CardFault::RoundUnknown => out.extend_from_slice(b"the round is not open"),
-        CardFault::Closed => out.extend_from_slice(b"the round is closed"),
-        CardFault::NotEntered => out.extend_from_slice(b"the competitor is not in this round"),
-        CardFault::TooMany { field } => push_field(out, b"there is no attempt ", field, b""),
-        CardFault::Gap { field } => push_field(out, b"attempt ", field, b" is empty"),
-        CardFault::OutOfRange { field } => push_field(out, b"attempt ", field, b" is out of range"),
-        CardFault::WrongOutcome { field } => {
-            push_field(out, b"attempt ", field, b" is no result of this event")
+    match why {
+        ClientRefusal::Busy => b": the desk is full, it is sent again",
+        ClientRefusal::LogFull => b": the log is full, the desks take no more",
+        ClientRefusal::NotAllowed => {
+            b": the desk does not take it, since this table has no key, or another one"
         }
-        CardFault::NoScramble { field } => {
-            push_field(out, b"attempt ", field, b" has no scramble yet")
-        }
-        CardFault::TooLong { field } => {
-            push_field(out, b"the solution of attempt ", field, b" is too long")
-        }
-        CardFault::CutoffNotMet { field } => {
-            push_field(
-                out,
-                b"the cutoff is not met: attempt ",
-                field,
-                b" stays empty",
-            )
-        }
-        CardFault::NoMemory => out.extend_from_slice(b"memory ran out"),
+        ClientRefusal::Foreign => b": the desk is of another hall",
+        ClientRefusal::BallotsSpent
+        | ClientRefusal::NoMemory
+        | ClientRefusal::Down
+        | ClientRefusal::NotThere
+        | ClientRefusal::NoSuchRound => b": the desk is down, it is sent to another one",
     }
 }
 
-/// Adds why something was refused.
-pub(crate) fn push_reason(out: &mut Vec<u8>, reason: Reason) -> Result<(), NoMemory>
-    ensures { OnOk result (out.new.items ≡ out.old.items ++ reason_words reason) }
+/// Why the desk did not take the item of an id, if it is the one that it did not take.
+fn refusal_if(refused: Option<(u64, ClientRefusal)>, id: u64) -> Option<ClientRefusal>
+    ensures { result ≡ refusal_if refused id }
 {
-    match reason {
-        Reason::Card(fault) => push_card_fault(out, fault),
-        Reason::Code(code) => out.extend_from_slice(meaning_of(code).as_bytes()),
-        Reason::Unread => out.extend_from_slice(b"a field is not read"),
-        Reason::OtherText => out.extend_from_slice(b"its id was used for something else"),
+    match refused {
+        Some((other, why)) if other == id => Some(why),
+        _ => None,
+    }
+}
+
+/// Why items wait that no desk refused, as the desks are doing.
+fn delay_words(doing: Doing) -> &'static [u8]
+    ensures { result.now ≡ delay_words doing }
+{
+    match doing {
+        Doing::Locked(_) => b": this table has no key, or another one than the desks",
+        Doing::Few => b": less than a majority of the machines answers",
+        Doing::Silent(_) => b": the machine that this table asks does not answer",
+        Doing::Undecided(_) => b": the machines have not decided it yet",
+        Doing::Away | Doing::Asked | Doing::Well => b"",
+    }
+}
+
+/// Adds why the item of an id waits: that the desk did not take it, or what is wrong with the key
+/// or the machines; nothing where it does not wait for long.
+pub(crate) fn push_why(out: &mut Vec<u8>, desks: &Desks, id: u64) -> Result<(), NoMemory>
+    ensures { OnOk result (out.new.items ≡ out.old.items ++ why_words desks.now id) }
+{
+    match refusal_if(desks.refused, id) {
+        Some(why) => out.extend_from_slice(refusal_words(why)),
+        None => out.extend_from_slice(delay_words(doing_of(desks))),
     }
 }

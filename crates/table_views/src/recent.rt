@@ -1,123 +1,56 @@
 //! The cards and the commands of late.
 
-ghost use Rattle.std.specs.Prelude.{◌≡◌, ◌++◌, OnOk, flat_map};
-ghost use Rattle.table_views.specs.Recent.{attempt_typed, card_line, card_link, class_of};
-ghost use Rattle.table_views.specs.Recent.{command_line, commands_line, more_line};
-ghost use Rattle.table_views.specs.Recent.{competitor, line_start, recent_line, recent_section};
-ghost use Rattle.table_views.specs.People.{number_in};
-ghost use Rattle.table_views.specs.Recent.{item_line, outcome_words, state_words, waits_words};
+ghost use Rattle.std.specs.Prelude.{◌≡◌, ◌++◌, IfOk, OnOk, flat_map};
+ghost use Rattle.std.specs.Option.{option_copied};
+ghost use Rattle.texts.specs.Fields.{enters_later};
+ghost use Rattle.table_views.specs.Recent.{again_form, again_of, by_words, card_line};
+ghost use Rattle.table_views.specs.Recent.{card_link, class_of, command_line, competitor};
+ghost use Rattle.table_views.specs.Recent.{forms_of, is_saved_card, item_line};
+ghost use Rattle.table_views.specs.Recent.{leave_form, line_of, line_start, newest_saved};
+ghost use Rattle.table_views.specs.Recent.{recent_line, recent_section, saved_but};
+ghost use Rattle.table_views.specs.Recent.{saved_everywhere, saved_words, standing_words};
+ghost use Rattle.table_views.specs.Recent.{stands_words, state_words, undo_form, undo_of};
+ghost use Rattle.table_views.specs.Recent.{value_words, waits_words};
 
+use crate::around::{Around, Recent};
+use crate::counts::{are_away, number_word};
 use crate::desks::Desks;
-use crate::people::{number_of, push_name};
-use crate::reasons::push_reason;
+use crate::hidden::push_hidden_number;
+use crate::people::name_of;
+use crate::reasons::push_why;
+use crate::typed::push_typed;
+use crate::values::standing;
 use acceptor::NoMemory;
-use card_forms::{CardForm, CommandText, Item, Outcome, Recent, State, Typed};
+use attempts::{Unit, Value};
+use card_forms::card_in;
 use commands::Meet;
+use formats::unit_of;
 use markup::{Piece, push_pieces};
-use round_words::push_round_name;
+use outbox::State;
+use round_words::{push_round_name, push_value};
+use std::alloc::Global;
+use texts::meanings::meaning_of;
+use texts::{CardEntry, Entered, push_was};
 
-/// The class of the style for a state.
+/// The class of the style for what became of an item.
 fn class_of(state: State) -> &'static [u8]
     ensures { result.now ≡ class_of state }
 {
     match state {
-        State::Waits { .. } => b"waits",
-        State::Done(Outcome::Refused(_)) => b"refused",
-        State::Done(Outcome::Saved { .. } | Outcome::Before) => b"saved",
+        State::Waits => b"waits",
+        State::Saved { .. } => b"saved",
+        State::Changed { .. } => b"changed",
+        State::Refused { .. } | State::OtherText { .. } => b"refused",
     }
 }
 
-fn push_saved(out: &mut Vec<u8>, desks: &Desks, position: u32) -> Result<(), NoMemory>
-    ensures { OnOk result (out.new.items
-        ≡ out.old.items ++ outcome_words desks.now (Outcome.Saved position)) }
-{
-    push_pieces(
-        out,
-        &[
-            Piece::Html(b"saved at "),
-            Piece::Number(desks.holding(position) as u64),
-            Piece::Html(b" of "),
-            Piece::Number(desks.lengths.len() as u64),
-            Piece::Html(b" desks"),
-        ],
-    )
-}
+// ---- what was sent
 
-fn push_outcome(out: &mut Vec<u8>, desks: &Desks, outcome: Outcome) -> Result<(), NoMemory>
-    ensures { OnOk result (out.new.items ≡ out.old.items ++ outcome_words desks.now outcome) }
-{
-    match outcome {
-        Outcome::Saved { position } => push_saved(out, desks, position),
-        Outcome::Refused(reason) => {
-            out.extend_from_slice(b"not entered: ")?;
-            push_reason(out, reason)
-        }
-        Outcome::Before => out.extend_from_slice(b"entered before the last start"),
-    }
-}
-
-fn push_waits(out: &mut Vec<u8>, milliseconds: u64) -> Result<(), NoMemory>
-    ensures { OnOk result (out.new.items ≡ out.old.items ++ waits_words milliseconds) }
-{
-    push_pieces(
-        out,
-        &[
-            Piece::Html(b"waiting, "),
-            Piece::Number(milliseconds / 1_000),
-            Piece::Html(b" s"),
-        ],
-    )
-}
-
-/// Adds what became of it.
-fn push_state(out: &mut Vec<u8>, desks: &Desks, now: u64, state: State) -> Result<(), NoMemory>
-    ensures { OnOk result (out.new.items ≡ out.old.items ++ state_words desks.now now state) }
-{
-    match state {
-        State::Waits { since } => push_waits(out, now.saturating_sub(since)),
-        State::Done(outcome) => push_outcome(out, desks, outcome),
-    }
-}
-
-fn push_attempt(out: &mut Vec<u8>, text: &[u8]) -> Result<(), NoMemory>
-    ensures { OnOk result (out.new.items ≡ out.old.items ++ attempt_typed text.now) }
-{
-    push_pieces(
-        out,
-        &[
-            Piece::Html(b"<span>"),
-            Piece::Text(text),
-            Piece::Html(b"</span>"),
-        ],
-    )
-}
-
-/// Adds the fields of a card, as they were typed.
-fn push_attempts(out: &mut Vec<u8>, attempts: &[Typed]) -> Result<(), NoMemory>
-    ensures { OnOk result (out.new.items
-        ≡ out.old.items ++ flat_map attempt_typed attempts.now) }
-{
-    for text in attempts {
-        push_attempt(out, text.as_bytes())?;
-    }
-    Ok(())
-}
-
-/// Adds a link to what stands of a competitor, after its beginning.
-fn push_competitor(out: &mut Vec<u8>, meet: &Meet, typed: &[u8]) -> Result<(), NoMemory>
+/// Adds the number and the name of a competitor, to which a link leads.
+fn push_competitor(out: &mut Vec<u8>, meet: &Meet, number: u16) -> Result<(), NoMemory>
     ensures { OnOk result (out.new.items ≡ out.old.items
-        ++ competitor meet.now.accepted typed.now (number_in typed.now)) }
+        ++ competitor meet.now.accepted number) }
 {
-    let Some(number) = number_of(typed) else {
-        return push_pieces(
-            out,
-            &[
-                Piece::Html(b"\"><b>"),
-                Piece::Text(typed),
-                Piece::Html(b"</b></a>"),
-            ],
-        );
-    };
     push_pieces(
         out,
         &[
@@ -126,34 +59,33 @@ fn push_competitor(out: &mut Vec<u8>, meet: &Meet, typed: &[u8]) -> Result<(), N
             Piece::Html(b"\"><b>"),
             Piece::Number(number as u64),
             Piece::Html(b"</b> <bdi>"),
+            Piece::Text(name_of(meet, number)),
+            Piece::Html(b"</bdi></a>"),
         ],
-    )?;
-    push_name(out, meet, number)?;
-    out.extend_from_slice(b"</bdi></a>")
+    )
 }
 
 /// Adds a link that opens a card again.
-fn push_link(out: &mut Vec<u8>, meet: &Meet, form: &CardForm) -> Result<(), NoMemory>
+fn push_link(out: &mut Vec<u8>, meet: &Meet, card: &CardEntry) -> Result<(), NoMemory>
     ensures { OnOk result (out.new.items ≡ out.old.items
-        ++ card_link meet.now.accepted form.now) }
+        ++ card_link meet.now.accepted card.entry.now) }
 {
     out.extend_from_slice(b"<a href=\"/card/")?;
-    push_round_name(out, form.round)?;
-    push_competitor(out, meet, form.number.as_bytes())?;
-    Ok(())
+    push_round_name(out, card.id)?;
+    push_competitor(out, meet, card.number)
 }
 
-fn push_card(out: &mut Vec<u8>, meet: &Meet, form: &CardForm) -> Result<(), NoMemory>
+fn push_card(out: &mut Vec<u8>, meet: &Meet, card: &CardEntry) -> Result<(), NoMemory>
     ensures { OnOk result (out.new.items ≡ out.old.items
-        ++ card_line meet.now.accepted form.now) }
+        ++ card_line meet.now.accepted card.entry.now) }
 {
-    push_link(out, meet, form)?;
+    push_link(out, meet, card)?;
     out.extend_from_slice(b" <small>")?;
-    push_round_name(out, form.round)?;
+    push_round_name(out, card.id)?;
     out.extend_from_slice(b"</small> <span class=\"typed\">")?;
-    push_attempts(out, form.attempts.as_slice())?;
-    out.extend_from_slice(b"</span>")?;
-    Ok(())
+    let unit = unit_of(card.id.event);
+    push_typed(out, unit, card.was.as_slice(), card.now.as_slice())?;
+    out.extend_from_slice(b"</span>")
 }
 
 fn push_command(out: &mut Vec<u8>, text: &[u8]) -> Result<(), NoMemory>
@@ -169,46 +101,305 @@ fn push_command(out: &mut Vec<u8>, text: &[u8]) -> Result<(), NoMemory>
     )
 }
 
-/// Adds that there are so many more.
-fn push_more(out: &mut Vec<u8>, more: usize) -> Result<(), NoMemory>
-    ensures { OnOk result (out.new.items ≡ out.old.items ++ more_line more) }
+/// Adds what was sent: a card as it was typed, or a command as it stands.
+fn push_item(
+    out: &mut Vec<u8>,
+    meet: &Meet,
+    text: &[u8],
+    card: Option<&CardEntry>,
+) -> Result<(), NoMemory>
+    ensures { OnOk result (out.new.items ≡ out.old.items
+        ++ item_line meet.now.accepted text.now (option_copied card.entry)) }
 {
-    if more == 0 {
-        return Ok(());
+    match card {
+        Some(card) => push_card(out, meet, card),
+        None => push_command(out, text),
     }
+}
+
+// ---- what became of it
+
+fn push_waits(out: &mut Vec<u8>, milliseconds: u64) -> Result<(), NoMemory>
+    ensures { OnOk result (out.new.items ≡ out.old.items ++ waits_words milliseconds) }
+{
     push_pieces(
         out,
         &[
-            Piece::Html(b" and "),
-            Piece::Number(more as u64),
-            Piece::Html(b" more"),
+            Piece::Html(b"waiting, "),
+            Piece::Number(milliseconds / 1_000),
+            Piece::Html(b" s"),
         ],
     )
 }
 
-/// Adds the first of some commands, and how many more there are.
-fn push_commands(out: &mut Vec<u8>, texts: &[CommandText]) -> Result<(), NoMemory>
-    ensures { OnOk result (out.new.items ≡ out.old.items ++ commands_line texts.now) }
+/// Adds that an item is saved, while so many machines are away.
+fn push_saved_but(out: &mut Vec<u8>, away: usize) -> Result<(), NoMemory>
+    ensures { OnOk result (out.new.items ≡ out.old.items ++ saved_but away) }
 {
-    match texts.split_first() {
-        Some((first, left)) => {
-            push_command(out, first.as_bytes())?;
-            push_more(out, left.len())
-        }
+    if away == 0 {
+        return out.extend_from_slice(b"saved");
+    }
+    push_pieces(
+        out,
+        &[
+            Piece::Html(b"saved; "),
+            Piece::Html(number_word(away)),
+            Piece::Html(are_away(away)),
+        ],
+    )
+}
+
+/// Adds that an item is saved on all machines, so many.
+fn push_everywhere(out: &mut Vec<u8>, machines: usize) -> Result<(), NoMemory>
+    ensures { OnOk result (out.new.items ≡ out.old.items ++ saved_everywhere machines) }
+{
+    push_pieces(
+        out,
+        &[
+            Piece::Html(b"saved on all "),
+            Piece::Html(number_word(machines)),
+            Piece::Html(b" machines"),
+        ],
+    )
+}
+
+/// Adds that an item is saved whose entry stands at this position: on all machines, where all are
+/// known to have it, and else how many are away.
+fn push_saved(out: &mut Vec<u8>, desks: &Desks, position: u32) -> Result<(), NoMemory>
+    ensures { OnOk result (out.new.items ≡ out.old.items ++ saved_words desks.now position) }
+{
+    if desks.is_everywhere(position as u64 + 1) {
+        push_everywhere(out, desks.lengths.len())
+    } else {
+        push_saved_but(out, desks.away.len())
+    }
+}
+
+fn push_value_words(out: &mut Vec<u8>, unit: Unit, value: Value) -> Result<(), NoMemory>
+    ensures { OnOk result (out.new.items ≡ out.old.items ++ value_words unit value) }
+{
+    push_value(out, value, unit)?;
+    out.extend_from_slice(b" ")
+}
+
+fn push_values(out: &mut Vec<u8>, unit: Unit, values: &[Value]) -> Result<(), NoMemory>
+    ensures { OnOk result (out.new.items
+        ≡ out.old.items ++ flat_map (value_words unit) values.now) }
+{
+    for value in values {
+        push_value_words(out, unit, *value)?;
+    }
+    Ok(())
+}
+
+/// Adds what stands now.
+fn push_standing(out: &mut Vec<u8>, unit: Unit, values: &[Value]) -> Result<(), NoMemory>
+    ensures { OnOk result (out.new.items ≡ out.old.items ++ standing_words unit values.now) }
+{
+    if values.is_empty() {
+        return out.extend_from_slice(b"nothing stands now");
+    }
+    push_values(out, unit, values)?;
+    out.extend_from_slice(b"stands now")
+}
+
+/// Adds what stands now of the competitor of a card.
+fn push_stands(out: &mut Vec<u8>, meet: &Meet, card: Option<&CardEntry>) -> Result<(), NoMemory>
+    ensures { OnOk result (out.new.items
+        ≡ out.old.items ++ stands_words meet.now.accepted (option_copied card.entry)) }
+{
+    let Some(card) = card else {
+        return Ok(());
+    };
+    out.extend_from_slice(b": ")?;
+    push_standing(
+        out,
+        unit_of(card.id.event),
+        standing(meet, card.id, card.number),
+    )
+}
+
+/// Adds by which entry of the log it stands so.
+fn push_by(out: &mut Vec<u8>, by: Option<u32>) -> Result<(), NoMemory>
+    ensures { OnOk result (out.new.items ≡ out.old.items ++ by_words by) }
+{
+    match by {
+        Some(position) => push_pieces(
+            out,
+            &[
+                Piece::Html(b", by entry "),
+                Piece::Number(position as u64 + 1),
+            ],
+        ),
         None => Ok(()),
     }
 }
 
-/// Adds what was sent.
-fn push_item(out: &mut Vec<u8>, meet: &Meet, item: &Item) -> Result<(), NoMemory>
-    ensures { OnOk result (out.new.items ≡ out.old.items
-        ++ item_line meet.now.accepted item.now) }
+/// Adds what became of an item: that it waits, for so many seconds, and why, where that is long;
+/// that it is saved; what stands now, where that was changed meanwhile; or why it was refused.
+fn push_state(
+    out: &mut Vec<u8>,
+    around: &Around<'_>,
+    recent: Recent<'_>,
+    card: Option<&CardEntry>,
+) -> Result<(), NoMemory>
+    ensures { OnOk result (out.new.items ≡ out.old.items ++ state_words around.entry.now
+        recent.entry (option_copied card.entry) recent.entry.state) }
 {
-    match item {
-        Item::Card(form) => push_card(out, meet, form),
-        Item::Commands { texts, .. } => push_commands(out, texts.as_slice()),
+    match recent.state {
+        State::Waits => {
+            push_waits(out, around.now.saturating_sub(recent.item.since))?;
+            push_why(out, around.desks, recent.item.entry.id())
+        }
+        State::Saved { position } => push_saved(out, around.desks, position),
+        State::Changed { .. } => {
+            out.extend_from_slice(b"not entered, it was changed meanwhile")?;
+            push_stands(out, around.mirror.meet(), card)?;
+            push_by(out, recent.by)
+        }
+        State::Refused { code, .. } => {
+            out.extend_from_slice(b"not entered: ")?;
+            out.extend_from_slice(meaning_of(code).as_bytes())
+        }
+        State::OtherText { .. } => {
+            out.extend_from_slice(b"not entered: its id was used for something else")
+        }
     }
 }
+
+// ---- what a scoretaker may answer
+
+/// Adds the form that takes what was typed over what stands now.
+fn push_again(out: &mut Vec<u8>, token: &[u8], id: u64, values: &[Value]) -> Result<(), NoMemory>
+    ensures { OnOk result (out.new.items
+        ≡ out.old.items ++ again_form token.now id values.now) }
+{
+    out.extend_from_slice(b"<form method=\"post\" action=\"/again\">")?;
+    push_hidden_number(out, token, id)?;
+    out.extend_from_slice(b"<input type=\"hidden\" name=\"was\" value=\"")?;
+    push_was(out, values)?;
+    out.extend_from_slice(b"\"><button>Enter it over what stands now</button></form>\n")
+}
+
+/// Whether something is entered for each attempt after those that stand, so many: so a card over
+/// them has a spelling.
+fn enters_later(stands: usize, now: &[Option<Entered>]) -> bool
+    ensures { result ≡ enters_later stands now.now }
+{
+    now.iter().skip(stands).all(|outcome| outcome.is_some())
+}
+
+/// Adds that form, where a card over what stands now has a spelling.
+fn push_again_of(
+    out: &mut Vec<u8>,
+    around: &Around<'_>,
+    id: u64,
+    card: Option<&CardEntry>,
+) -> Result<(), NoMemory>
+    ensures { OnOk result (out.new.items
+        ≡ out.old.items ++ again_of around.entry.now id (option_copied card.entry)) }
+{
+    let Some(card) = card else {
+        return Ok(());
+    };
+    let values = standing(around.mirror.meet(), card.id, card.number);
+    if enters_later(values.len(), card.now.as_slice()) {
+        push_again(out, around.token, id, values)
+    } else {
+        Ok(())
+    }
+}
+
+/// Adds the form that leaves an item as it is.
+fn push_leave(out: &mut Vec<u8>, token: &[u8], id: u64) -> Result<(), NoMemory>
+    ensures { OnOk result (out.new.items ≡ out.old.items ++ leave_form token.now id) }
+{
+    out.extend_from_slice(b"<form method=\"post\" action=\"/answered\">")?;
+    push_hidden_number(out, token, id)?;
+    out.extend_from_slice(b"<button>Leave it</button></form>\n")
+}
+
+// ---- what a scoretaker may take back
+
+/// Whether an item is a card that is saved.
+fn is_saved_card(alloc: Global, recent: Recent<'_>) -> Result<bool, NoMemory>
+    ensures { IfOk result (λ saved. saved ≡ is_saved_card recent.entry) }
+{
+    match recent.state {
+        State::Saved { .. } => Ok(card_in(alloc, recent.item.entry.text())?.is_some()),
+        State::Waits | State::Changed { .. } | State::Refused { .. } | State::OtherText { .. } =>
+            Ok(false),
+    }
+}
+
+/// The id of the first of these that is a card and is saved.
+fn newest_saved(alloc: Global, recents: &[Recent<'_>]) -> Result<Option<u64>, NoMemory>
+    ensures { IfOk result (λ newest. newest ≡ newest_saved recents.now) }
+{
+    for recent in recents {
+        if is_saved_card(alloc, *recent)? {
+            return Ok(Some(recent.item.entry.id()));
+        }
+    }
+    Ok(None)
+}
+
+/// Adds the form that takes the card of an id back.
+fn push_undo(out: &mut Vec<u8>, token: &[u8], id: u64) -> Result<(), NoMemory>
+    ensures { OnOk result (out.new.items ≡ out.old.items ++ undo_form token.now id) }
+{
+    out.extend_from_slice(b"<form method=\"post\" action=\"/undo\">")?;
+    push_hidden_number(out, token, id)?;
+    push_pieces(
+        out,
+        &[
+            Piece::Html(b"<input type=\"hidden\" name=\"of\" value=\""),
+            Piece::Number(id),
+            Piece::Html(b"\"><button>Take back</button></form>\n"),
+        ],
+    )
+}
+
+/// Adds that form where the item is the newest card that is saved.
+fn push_undo_of(
+    out: &mut Vec<u8>,
+    token: &[u8],
+    newest: Option<u64>,
+    id: u64,
+) -> Result<(), NoMemory>
+    ensures { OnOk result (out.new.items ≡ out.old.items ++ undo_of token.now newest id) }
+{
+    match newest {
+        Some(newest) if newest == id => push_undo(out, token, id),
+        _ => Ok(()),
+    }
+}
+
+/// Adds the forms by which a scoretaker answers an item that was not saved, or takes back the
+/// newest card that is.
+fn push_forms(
+    out: &mut Vec<u8>,
+    around: &Around<'_>,
+    newest: Option<u64>,
+    id: u64,
+    card: Option<&CardEntry>,
+    state: State,
+) -> Result<(), NoMemory>
+    ensures { OnOk result (out.new.items
+        ≡ out.old.items ++ forms_of around.entry.now newest id (option_copied card.entry) state) }
+{
+    match state {
+        State::Waits => Ok(()),
+        State::Saved { .. } => push_undo_of(out, around.token, newest, id),
+        State::Changed { .. } => {
+            push_again_of(out, around, id, card)?;
+            push_leave(out, around.token, id)
+        }
+        State::Refused { .. } | State::OtherText { .. } => push_leave(out, around.token, id),
+    }
+}
+
+// ---- the section
 
 fn push_line_start(out: &mut Vec<u8>, state: State) -> Result<(), NoMemory>
     ensures { OnOk result (out.new.items ≡ out.old.items ++ line_start state) }
@@ -223,54 +414,65 @@ fn push_line_start(out: &mut Vec<u8>, state: State) -> Result<(), NoMemory>
     )
 }
 
+/// Adds the line of an item, which is this card, if it is one.
+fn push_line_of(
+    out: &mut Vec<u8>,
+    around: &Around<'_>,
+    newest: Option<u64>,
+    recent: Recent<'_>,
+    card: Option<&CardEntry>,
+) -> Result<(), NoMemory>
+    ensures { OnOk result (out.new.items ≡ out.old.items
+        ++ line_of around.entry.now newest recent.entry (option_copied card.entry)) }
+{
+    let entry = &recent.item.entry;
+    push_line_start(out, recent.state)?;
+    push_item(out, around.mirror.meet(), entry.text(), card)?;
+    out.extend_from_slice(b" <em>")?;
+    push_state(out, around, recent, card)?;
+    out.extend_from_slice(b"</em>")?;
+    push_forms(out, around, newest, entry.id(), card, recent.state)?;
+    out.extend_from_slice(b"</li>\n")
+}
+
 /// Adds what was sent, and what became of it.
 fn push_line(
     out: &mut Vec<u8>,
-    meet: &Meet,
-    desks: &Desks,
-    now: u64,
+    around: &Around<'_>,
+    newest: Option<u64>,
     recent: Recent<'_>,
 ) -> Result<(), NoMemory>
-    ensures { OnOk result (out.new.items ≡ out.old.items
-        ++ recent_line meet.now.accepted desks.now now recent.entry) }
+    ensures { OnOk result (out.new.items
+        ≡ out.old.items ++ recent_line around.entry.now newest recent.entry) }
 {
-    push_line_start(out, recent.state)?;
-    push_item(out, meet, recent.item)?;
-    out.extend_from_slice(b" <em>")?;
-    push_state(out, desks, now, recent.state)?;
-    out.extend_from_slice(b"</em></li>\n")
+    let card = card_in(*out.allocator(), recent.item.entry.text())?;
+    push_line_of(out, around, newest, recent, card.as_ref())
 }
 
 fn push_lines(
     out: &mut Vec<u8>,
-    meet: &Meet,
-    desks: &Desks,
-    now: u64,
+    around: &Around<'_>,
+    newest: Option<u64>,
     recents: &[Recent<'_>],
 ) -> Result<(), NoMemory>
     ensures { OnOk result (out.new.items ≡ out.old.items
-        ++ flat_map (recent_line meet.now.accepted desks.now now) recents.now) }
+        ++ flat_map (recent_line around.entry.now newest) recents.now) }
 {
     for recent in recents {
-        push_line(out, meet, desks, now, *recent)?;
+        push_line(out, around, newest, *recent)?;
     }
     Ok(())
 }
 
-/// Adds the cards and the commands of late, newest first, each with what became of it: that it
-/// waits, for so many seconds; that it is saved, at how many desks; or why it was refused.
-pub fn push_recent(
-    out: &mut Vec<u8>,
-    meet: &Meet,
-    desks: &Desks,
-    now: u64,
-    recents: &[Recent<'_>],
-) -> Result<(), NoMemory>
-    ensures { OnOk result (out.new.items ≡ out.old.items
-        ++ recent_section meet.now.accepted desks.now now recents.now) }
+/// Adds the cards and the commands of late, newest first, each with what became of it, and with the
+/// forms by which a scoretaker answers what was not saved, and takes back the newest card that is.
+pub fn push_recent(out: &mut Vec<u8>, around: &Around<'_>) -> Result<(), NoMemory>
+    ensures { OnOk result (out.new.items ≡ out.old.items ++ recent_section around.entry.now) }
 {
-    out.extend_from_slice(b"<section id=\"recent\"><h2>Last entered</h2>\n<ol>\n")?;
-    push_lines(out, meet, desks, now, recents)?;
-    out.extend_from_slice(b"</ol></section>\n")?;
-    Ok(())
+    let newest = newest_saved(*out.allocator(), around.recent)?;
+    out.extend_from_slice(
+        b"<section id=\"recent\"><h2>Last entered</h2>\n<ol aria-live=\"polite\">\n",
+    )?;
+    push_lines(out, around, newest, around.recent)?;
+    out.extend_from_slice(b"</ol></section>\n")
 }

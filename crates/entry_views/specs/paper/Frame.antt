@@ -1,5 +1,5 @@
 -- The frame of a page that is printed.
-use Rattle.std.specs.Prelude.{ℕ, List, [], ◌∷◌, ◌++◌, codes}
+use Rattle.std.specs.Prelude.{ℕ, List, [], ◌∷◌, codes}
 use Rattle.markup.specs.board_page.Escaped.{escaped}
 use Rattle.markup.specs.Pieces.{joined}
 

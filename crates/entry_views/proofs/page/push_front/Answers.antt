@@ -1,10 +1,8 @@
 use Rattle.std.proofs.Common.{ℕ, List, ◌++◌, ◌∙◌, ap, codes, length}
 use Rattle.markup.proofs.board_page.Steps.{three_parts}
-use Rattle.commands.specs.History.{History}
 use Rattle.round_words.specs.Words.{round_words}
 use Rattle.rounds.specs.Tables.{Table}
 use Rattle.table_views.specs.Frame.{top}
-use Rattle.table_views.specs.Logs.{accepted_in}
 use Rattle.table_views.specs.Recent.{recent_section}
 use Rattle.texts.specs.declared.command.Settings.{Settings}
 use Rattle.entry_views.specs.Page.{card_section, front}
@@ -16,20 +14,14 @@ returns c =
     let out = c.args.out.now.items in
     let around = c.args.around.now in
     let round : Settings × Table = (c.args.round.settings, c.args.round.table.now) in
-    let log = around.mirror.now in
     let title = round_words c.args.id c.args.round.settings.advance in
     let desks = around.desks.now in
-    let recents = around.recent.now in
-    three_parts out (top (codes "entry") title desks (length log))
+    three_parts out (top (codes "entry") title desks (length around.mirror.now))
     (card_section around c.args.id round c.args.draft c.args.origin)
-    (recent_section (accepted_in log) desks around.now recents) _ _ _
+    (recent_section around) _ _ _
     (c.in_ok-push_top.ensures
     ∙ ap (λ (words : List ℕ). out ++ top (codes "entry") words desks c.len.result)
     (c.deref.ensures.value ∙ c.in_ok-title.ensures)
     ∙ ap (λ (n : ℕ). out ++ top (codes "entry") title desks n) c.len.ensures.len)
     c.in_ok-push_card.ensures
-    (c.in_ok-push_recent.ensures
-    ∙ ap
-    (λ (h : History). c.push_card.new.out.items
-    ++ recent_section h.accepted desks around.now recents)
-    c.meet.ensures)
+    c.in_ok-push_recent.ensures

@@ -11,7 +11,7 @@ unfolding overview
 returns c =
     let around = c.args.around.now in
     let log = around.mirror.now in
-    let recent = recent_section (accepted_in log) around.desks.now around.now around.recent.now in
+    let recent = recent_section around in
     c.in_ok-push_end.ensures
     ∙ ap (λ (before : List ℕ). before ++ recent ++ bottom)
     (c.in_ok-push_section.ensures

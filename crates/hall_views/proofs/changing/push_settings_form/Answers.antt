@@ -1,7 +1,7 @@
 use Rattle.std.proofs.Common.{List, Some, ap, codes, ℕ, ◌++◌, ◌∙◌}
 use Rattle.std.proofs.lemmas.Result.{on_ok_weaker}
 use Rattle.markup.proofs.board_page.Steps.{five_parts}
-use Rattle.hall_views.specs.Changing.{settings_form}
+use Rattle.hall_views.specs.Changing.{settings_form, settings_head}
 use Rattle.hall_views.specs.Forms.{button, form_start, path_of, round_value}
 use Rattle.hall_views.specs.Opening.{rule_fields}
 use Rattle.hall_views.proofs.changing.push_settings_form.Goals as goal
@@ -12,7 +12,7 @@ returns c =
     let out = c.args.out.now.items in
     let settings = c.args.settings in
     on_ok_weaker c.push_button.result
-    (five_parts out (codes "<h2>Change format, cutoff and limit</h2>\n")
+    (five_parts out settings_head
     (form_start c.args.token.now c.args.form (codes "SET") (path_of c.args.id))
     (round_value c.args.id)
     (rule_fields c.args.id.event (Some settings.format) settings.cutoff settings.limit)

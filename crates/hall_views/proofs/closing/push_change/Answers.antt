@@ -1,7 +1,7 @@
 use Rattle.std.proofs.Common.{codes}
 use Rattle.std.proofs.lemmas.Result.{on_ok_weaker}
 use Rattle.markup.proofs.board_page.Steps.{five_parts}
-use Rattle.hall_views.specs.Closing.{change}
+use Rattle.hall_views.specs.Closing.{change, change_head}
 use Rattle.hall_views.specs.Forms.{button, form_start, round_value}
 use Rattle.hall_views.specs.Opening.{advance_fields}
 use Rattle.hall_views.proofs.closing.push_change.Goals as goal
@@ -11,7 +11,7 @@ unfolding change
 returns c =
     let out = c.args.out.now.items in
     on_ok_weaker c.push_button.result
-    (five_parts out (codes "<h2>Change who goes on</h2>\n")
+    (five_parts out change_head
     (form_start c.args.token.now c.args.form (codes "ADV") c.args.back.now) (round_value c.args.id)
     (advance_fields c.args.advance) (button (codes "Change who goes on")) _ _ _ _ _
     c.in_ok-extend_from_slice.ensures.items c.in_ok-push_form.ensures

@@ -14,7 +14,8 @@ returns c =
     (two_parts out
     (these_go_on (length numbers)
     ++ flat_map (entrant_line c.args.meet.now.accepted c.args.id) numbers ++ codes "</ol>\n")
-    (tie (length numbers) c.args.most) _ _
+    (tie c.args.meet.now.accepted c.args.id c.args.table.now c.args.advance c.args.most
+    (length numbers)) _ _
     (three_parts out (these_go_on (length numbers))
     (flat_map (entrant_line c.args.meet.now.accepted c.args.id) numbers) (codes "</ol>\n") _ _ _
     c.in_ok-push_pieces.ensures c.in_ok-push_entrants.ensures

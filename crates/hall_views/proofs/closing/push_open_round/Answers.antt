@@ -9,7 +9,7 @@ use Rattle.hall_views.proofs.Tails.{same_after}
 use Rattle.hall_views.specs.Absent.{never_came}
 use Rattle.hall_views.specs.Changing.{changing}
 use Rattle.hall_views.specs.Closing.{change, close, open_round, through}
-use Rattle.hall_views.specs.Editions.{mends}
+use Rattle.table_views.specs.Editions.{is_latest}
 use Rattle.hall_views.specs.Entrants.{unfinished}
 use Rattle.hall_views.specs.Forms.{path_of}
 use Rattle.hall_views.proofs.closing.push_open_round.Goals as goal
@@ -28,7 +28,8 @@ returns c =
     (never_came c.args.around.now c.args.id round) (through (accepted_in log) c.args.id round)
     (changing c.args.around.now c.args.id round)
     (change token (get_or ids 1 0) c.args.id advance (path_of c.args.id))
-    (close (mends (accepted_in log)) token (get_or ids 0 0) c.args.id (path_of c.args.id)) _ _ _ _ _
+    (close (is_latest (accepted_in log)) token (get_or ids 0 0) c.args.id (path_of c.args.id)) _ _ _
+    _ _
     _
     (c.in_ok-push_unfinished.ensures
     ∙ ap (λ (h : History). out ++ unfinished h.accepted c.args.id round) c.meet-meet.ensures)
@@ -50,12 +51,12 @@ returns c =
     (ap
     (λ (m : Bool). c.push_change.new.out.items
     ++ close m token c.id_at-2.result c.args.id c.deref-2.result.now)
-    (c.mends.ensures ∙ ap (λ (h : History). mends h.accepted) c.meet-meet.ensures)
+    (c.is_latest.ensures ∙ ap (λ (h : History). is_latest h.accepted) c.meet-meet.ensures)
     ∙ ap
     (λ (form : ℕ). c.push_change.new.out.items
-    ++ close (mends (accepted_in log)) token form c.args.id c.deref-2.result.now)
+    ++ close (is_latest (accepted_in log)) token form c.args.id c.deref-2.result.now)
     c.id_at-2.ensures
     ∙ ap
     (λ (back : List ℕ). c.push_change.new.out.items
-    ++ close (mends (accepted_in log)) token (get_or ids 0 0) c.args.id back)
+    ++ close (is_latest (accepted_in log)) token (get_or ids 0 0) c.args.id back)
     (c.deref-2.ensures.value ∙ c.in_ok-back.ensures)) c.push_close.ensures)

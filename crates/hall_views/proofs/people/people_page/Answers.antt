@@ -1,14 +1,12 @@
 use Rattle.std.proofs.Common.{List, ap, ℕ, ◌++◌, ◌∙◌}
 use Rattle.table_views.specs.Frame.{bottom}
-use Rattle.table_views.specs.Logs.{accepted_in}
 use Rattle.table_views.specs.Recent.{recent_section}
 use Rattle.hall_views.proofs.people.people_page.Goals as goal
 
 pub returns : goal.returns
 returns c =
     let around = c.args.around.now in
-    let recent =
-    recent_section (accepted_in around.mirror.now) around.desks.now around.now around.recent.now in
+    let recent = recent_section around in
     let added = c.in_ok-push_section.ensures in
     let is = c.in_ok-push_end.ensures
     ∙ ap (λ (before : List ℕ). before ++ recent ++ bottom)

@@ -2,7 +2,7 @@ use Rattle.std.proofs.Common.{List, ap, codes, decimal, ℕ, ◌++◌, ◌∙◌
 use Rattle.std.proofs.lemmas.Result.{on_ok_weaker}
 use Rattle.markup.proofs.board_page.Steps.{five_parts}
 use Rattle.hall_views.specs.Forms.{button, form_start, text_field}
-use Rattle.hall_views.specs.People.{registering}
+use Rattle.hall_views.specs.People.{registering, registering_head}
 use Rattle.hall_views.proofs.people.push_registering.Goals as goal
 
 pub returns : goal.returns
@@ -10,7 +10,7 @@ unfolding registering
 returns c =
     let out = c.args.out.now.items in
     on_ok_weaker c.push_button.result
-    (five_parts out (codes "<h2>Register a competitor</h2>\n")
+    (five_parts out registering_head
     (form_start c.args.token.now c.args.form (codes "REG") (codes "/people"))
     (text_field (codes "number") (codes "Number") (decimal c.args.number))
     (text_field (codes "name") (codes "Name") (codes "")) (button (codes "Register")) _ _ _ _ _

@@ -5,7 +5,8 @@ use Rattle.markup.proofs.board_page.Steps.{six_parts, when_ok}
 use Rattle.commands.specs.History.{History}
 use Rattle.table_views.specs.declared.around.Around.{Around}
 use Rattle.table_views.specs.Logs.{accepted_in}
-use Rattle.hall_views.specs.People.{competitors, entering, registering, section, section_start}
+use Rattle.hall_views.specs.People.{competitors, entering, people_head, registering}
+use Rattle.hall_views.specs.People.{section, section_start}
 use Rattle.hall_views.specs.People.{IsProposed, IsSection}
 use Rattle.hall_views.proofs.people.push_section.Goals as goal
 
@@ -30,11 +31,9 @@ returns c =
     let registers = registering token (get_or ids 0 0) proposed in
     let enters = entering accepted token (get_or ids 1 0) in
     let all = competitors accepted 9999 in
-    let head =
-    codes "<table><thead><tr><th>number</th><th>name</th><th>events</th></tr></thead><tbody>\n" in
     on_ok_weaker c.extend_from_slice-3.result (adds_section around proposed first out _)
     (on_ok_weaker c.extend_from_slice-3.result
-    (six_parts out section_start registers enters head all
+    (six_parts out section_start registers enters people_head all
     (codes "</tbody></table></section>\n") _ _ _ _ _ _
     c.in_ok-extend_from_slice.ensures.items
     (c.in_ok-push_registering.ensures

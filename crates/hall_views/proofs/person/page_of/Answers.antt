@@ -1,6 +1,5 @@
 use Rattle.std.proofs.Common.{List, ap, ℕ, ◌++◌, ◌∙◌}
 use Rattle.table_views.specs.Frame.{bottom}
-use Rattle.table_views.specs.Logs.{accepted_in}
 use Rattle.table_views.specs.Recent.{recent_section}
 use Rattle.hall_views.specs.Person.{page_of, person_section}
 use Rattle.hall_views.proofs.person.page_of.Goals as goal
@@ -9,8 +8,7 @@ pub returns : goal.returns
 unfolding page_of
 returns c =
     let around = c.args.around.now in
-    let log = around.mirror.now in
-    let recent = recent_section (accepted_in log) around.desks.now around.now around.recent.now in
+    let recent = recent_section around in
     c.in_ok-push_end.ensures
     ∙ ap (λ (before : List ℕ). before ++ recent ++ bottom)
     (c.in_ok-push_section.ensures

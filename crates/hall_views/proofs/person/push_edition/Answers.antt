@@ -1,6 +1,6 @@
 use Rattle.std.proofs.Common.{List, ap, ℕ, ◌++◌, ◌∙◌}
 use Rattle.hall_views.proofs.Tails.{same_after}
-use Rattle.hall_views.specs.Editions.{edition_form}
+use Rattle.table_views.specs.Editions.{edition_form}
 use Rattle.hall_views.proofs.person.push_edition.Goals as goal
 
 pub returns : goal.returns

@@ -19,7 +19,7 @@ returns c =
     (told entered refused ++ refused_list refused tried
     ++ entered_list token (get_or ids 0 0) entered tried) end _ _
     (three_parts out (told entered refused) (refused_list refused tried)
-    (entered_list token (get_or ids 0 0) entered tried) _ _ _ c.in_ok-push_pieces.ensures
+    (entered_list token (get_or ids 0 0) entered tried) _ _ _ c.in_ok-push_told.ensures
     c.in_ok-push_refused.ensures
     (c.in_ok-push_entered.ensures
     ∙ ap (λ (id : ℕ). c.push_refused.new.out.items ++ entered_list token id entered tried)

@@ -4,7 +4,7 @@ use Rattle.markup.proofs.board_page.Steps.{five_parts, when_ok}
 use Rattle.commands.specs.History.{History}
 use Rattle.formats.specs.Events.{all_events}
 use Rattle.table_views.specs.Logs.{accepted_in}
-use Rattle.hall_views.specs.Rounds.{all_section, edition_section, event_row}
+use Rattle.hall_views.specs.Rounds.{all_head, all_section, edition_section, event_row}
 use Rattle.hall_views.proofs.round_forms.push_all.Goals as goal
 
 pub returns : goal.returns
@@ -13,7 +13,7 @@ returns c =
     let out = c.args.out.now.items in
     let around = c.args.around.now in
     on_ok_weaker c.extend_from_slice-3.result
-    (five_parts out (codes "<section><h1>Open and close rounds</h1>\n<table><tbody>\n")
+    (five_parts out all_head
     (flat_map (event_row (accepted_in around.mirror.now)) all_events) (codes "</tbody></table>\n")
     (edition_section around) (codes "</section>\n") _ _ _ _ _
     c.in_ok-extend_from_slice.ensures.items

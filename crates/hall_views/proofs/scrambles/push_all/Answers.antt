@@ -1,8 +1,8 @@
-use Rattle.std.proofs.Common.{ap, codes, get_or, ℕ, ◌++◌, ◌∙◌}
+use Rattle.std.proofs.Common.{ap, get_or, ℕ, ◌++◌, ◌∙◌}
 use Rattle.std.proofs.lemmas.Result.{on_ok_weaker}
 use Rattle.markup.proofs.board_page.Steps.{three_parts, two_parts}
 use Rattle.hall_views.proofs.Tails.{same_after}
-use Rattle.hall_views.specs.Scrambles.{all_scrambles, scramble_if}
+use Rattle.hall_views.specs.Scrambles.{all_scrambles, scramble_if, scrambles_head}
 use Rattle.hall_views.proofs.scrambles.push_all.Goals as goal
 
 pub returns : goal.returns
@@ -12,11 +12,11 @@ returns c =
     let around = c.args.around.now in
     on_ok_weaker c.push_scramble_if-3.result
     (two_parts out
-    (codes "<h2>Scrambles</h2>\n"
+    (scrambles_head
     ++ scramble_if around (get_or around.ids.now 2 0) c.args.id c.args.count 1
     ++ scramble_if around (get_or around.ids.now 3 0) c.args.id c.args.count 2)
     (scramble_if around (get_or around.ids.now 4 0) c.args.id c.args.count 3) _ _
-    (three_parts out (codes "<h2>Scrambles</h2>\n")
+    (three_parts out scrambles_head
     (scramble_if around (get_or around.ids.now 2 0) c.args.id c.args.count 1)
     (scramble_if around (get_or around.ids.now 3 0) c.args.id c.args.count 2) _ _ _
     c.in_ok-extend_from_slice.ensures.items

@@ -1,8 +1,13 @@
-use Rattle.std.proofs.Common.{◌≡◌, ◌++◌, drop}
-use Rattle.table_service.specs.Checks.{change_notes}
+use Rattle.std.proofs.Common.{◌≡◌, ◌++◌, ◌-◌, flat_map, length, min}
+use Rattle.std.specs.List.{range_with_len}
+use Rattle.table_service.specs.Checks.{change_at, change_notes}
 use Rattle.table_service.proofs.checks.note_changes.Given as goal
 
-abbrev pub invariant-loop-command : goal.invariant-loop-command
-invariant-loop-command l =
-    l.notes.items ++ change_notes l.next (drop l.command-index l.commands)
-    ≡ l.initial.notes.items ++ change_notes l.struck l.commands
+abbrev pub invariant-loop-place : goal.invariant-loop-place
+invariant-loop-place l = record {
+  end : l.place-end ≡ min (length l.was) 5;
+  left : l.notes.items
+      ++ flat_map (change_at l.was l.left)
+      (range_with_len l.place (min (length l.was) 5 - l.place))
+      ≡ l.initial.notes.items ++ change_notes l.was l.left;
+}

@@ -1,21 +1,23 @@
-use Rattle.std.proofs.Common.{◌≡◌, ℕ, List, Some, Result, Ok, Err, codes, inr, subst}
+use Rattle.std.proofs.Common.{◌≡◌, ◌∷◌, [], ℕ, List, Some, Result, Ok, Err, codes, inr, subst}
 use Rattle.std.specs.Prelude.{IfOk}
 use Rattle.std.specs.declared.alloc.AllocError.{AllocError}
 use Rattle.card_forms.specs.declared.pairs.Pair.{Pair}
 use Rattle.card_forms.specs.Asking.{Asks, IsCommandText}
 use Rattle.card_forms.specs.Cards.{form_id_of}
+use Rattle.card_forms.specs.Entries.{entry_with}
 use Rattle.card_forms.specs.Pairs.{value_of}
-use Rattle.card_queue.specs.Queues.{QueueOf, found_in, is_full}
+use Rattle.outbox.specs.Items.{ItemsOf}
 use Rattle.table_views.specs.declared.around.Around.{Around}
 use Rattle.table_service.specs.declared.plan.Plan.{Plan}
-use Rattle.table_service.specs.Plans.{PlansCommand, PlansText, page_after}
+use Rattle.table_service.specs.Plans.{PlansCommand, page_after}
+use Rattle.table_service.specs.Taking.{PlansEntries}
 use Rattle.table_service.proofs.commanding.plan_command.Goals as goal
 
-module _ (around : Around) (q : QueueOf) (pairs : List Pair) (id : ℕ) (text : List ℕ)
+module _ (around : Around) (q : ItemsOf) (pairs : List Pair) (id : ℕ) (text : List ℕ)
     (named : form_id_of (value_of (codes "id") pairs) ≡ Some id) (fit : IsCommandText text)
     (asks : Asks pairs text) (back : List ℕ) (is : back ≡ page_after pairs) where
   asked : (r : Result Plan AllocError)
-      → IfOk r (PlansText id text back (found_in q id) (is_full q))
+      → IfOk r (PlansEntries q around back (entry_with id text ∷ []))
       → IfOk r (PlansCommand around q pairs)
   asked (Ok plan) plans = inr (inr record {
     id = id;
@@ -23,13 +25,12 @@ module _ (around : Around) (q : QueueOf) (pairs : List Pair) (id : ℕ) (text : 
     named = named;
     fit = fit;
     asks = asks;
-    plans = subst (λ (b : List ℕ). PlansText id text b (found_in q id) (is_full q) plan) is plans;
+    plans = subst (λ (b : List ℕ). PlansEntries q around b (entry_with id text ∷ []) plan) is plans;
   })
   asked (Err error) plans = tt
 
 pub returns-in-Ok : goal.returns-in-Ok
 returns-in-Ok c =
-    asked c.args.around.now c.args.queue.now c.args.pairs.now c.in-Ok.form.id c.in-Ok.form.text
-    c.in-Ok.ensures.id c.in-Ok.ensures.command c.in-Ok.ensures.asks c.page_after.result.now
-    c.page_after.ensures
-    c.plan_text.result c.plan_text.ensures
+    asked c.args.around.now c.args.outbox.now.list c.args.pairs.now c.in-Ok.form.id
+    c.in-Ok.form.text c.in-Ok.ensures.id c.in-Ok.ensures.command c.in-Ok.ensures.asks
+    c.page_after.result.now c.page_after.ensures c.plan_text.result c.plan_text.ensures

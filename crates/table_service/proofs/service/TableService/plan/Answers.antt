@@ -1,20 +1,8 @@
-use Rattle.std.proofs.Common.{◌≡◌, ◌∙◌, Bool, ℕ, List, String, ap, map, slice_get}
-use Rattle.std.proofs.Common.{string_bytes, sym}
+use Rattle.std.proofs.Common.{◌∙◌, ap, slice_get, sym}
 use Rattle.std.specs.Option.{option_copied}
-use Rattle.http.specs.declared.request.Request.{Request}
-use Rattle.table_service.specs.Gate.{is_own}
 use Rattle.table_service.specs.Services.{ServiceOf}
-use Rattle.table_service.proofs.Planned.{all_planned, busy_planned, foreign_planned}
+use Rattle.table_service.proofs.Arounds.{all_planned, busy_planned, foreign_planned, own_seen}
 use Rattle.table_service.proofs.service.TableService.plan.Goals as goal
-
-own_seen : {Z : Type 0} (hosts seen : List (String Z)) → hosts ≡ seen → (s : ServiceOf)
-    → map string_bytes seen ≡ s.hosts → (request : Request (List ℕ)) (asked own : Bool)
-    → asked ≡ is_own (map string_bytes hosts) request → asked ≡ own
-    → is_own s.hosts request ≡ own
-own_seen hosts seen same s is request asked own answers so =
-    sym (answers
-    ∙ ap (λ (hs : List (List ℕ)). is_own hs request) (ap (map string_bytes) same ∙ is))
-    ∙ so
 
 pub returns-then-not-is_own : goal.returns-then-not-is_own
 returns-then-not-is_own g c =

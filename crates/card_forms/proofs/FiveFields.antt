@@ -1,0 +1,58 @@
+-- What the five fields of a card say.
+use Rattle.std.proofs.Common.{◌≡◌, ℕ, List, [], ◌∷◌, length, get_or, arith, sym, subst}
+use Rattle.std.proofs.Common.{Result, Ok, IfOk}
+use Rattle.attempts.specs.declared.Unit.{Unit as Measure}
+use Rattle.attempts.specs.declared.Value.{Value}
+use Rattle.formats.specs.Events.{unit_of}
+use Rattle.scorecard.specs.declared.fault.CardFault.{CardFault as FieldFault}
+use Rattle.card_forms.specs.declared.cards.CardForm.{CardForm}
+use Rattle.card_forms.specs.declared.faults.CardReading.{CardReading}
+use Rattle.card_forms.specs.declared.faults.CardReading.TheVariants as reading
+use Rattle.card_forms.specs.declared.reading.Said.{Said}
+use Rattle.card_forms.specs.Readings.{AllSay, IsNotRead, IsUnfitAs, Says}
+
+-- a list of five, by its items
+five_items : {A : Type 0} (xs : List A) (a b c d e : A) → length xs ≡ 5 → a ≡ get_or xs 0 a
+    → b ≡ get_or xs 1 b → c ≡ get_or xs 2 c → d ≡ get_or xs 3 d → e ≡ get_or xs 4 e
+    → xs ≡ a ∷ b ∷ c ∷ d ∷ e ∷ []
+five_items [] a b c d e len ha hb hc hd he = grind arith
+five_items (p ∷ []) a b c d e len ha hb hc hd he = grind arith
+five_items (p ∷ q ∷ []) a b c d e len ha hb hc hd he = grind arith
+five_items (p ∷ q ∷ r ∷ []) a b c d e len ha hb hc hd he = grind arith
+five_items (p ∷ q ∷ r ∷ s ∷ []) a b c d e len ha hb hc hd he = grind arith
+five_items (p ∷ q ∷ r ∷ s ∷ t ∷ []) a b c d e len ha hb hc hd he = cc
+five_items (p ∷ q ∷ r ∷ s ∷ t ∷ u ∷ xs) a b c d e len ha hb hc hd he = grind arith
+
+-- what a field says that was read
+pub said : (unit : Measure) (was : List Value) (place : ℕ) (text shown : List ℕ)
+    (r : Result Said FieldFault) (it : Said) → shown ≡ text → r ≡ Ok it
+    → IfOk r (Says unit was place shown) → Says unit was place text it
+said unit was place text shown r it same is says =
+    subst (λ (t : List ℕ). Says unit was place t it) same
+    (subst (λ (q : Result Said FieldFault). IfOk q (Says unit was place shown)) is says)
+
+-- what is said over the same and of the same texts
+pub say_same : (unit : Measure) (was seen : List Value) (xs texts : List (List ℕ))
+    (says : List Said) → seen ≡ was → texts ≡ xs → AllSay unit seen 0 texts says
+    → AllSay unit was 0 xs says
+say_same unit was seen xs texts says same are all =
+    subst (λ (ys : List (List ℕ)). AllSay unit was 0 ys says) are
+    (subst (λ (vs : List Value). AllSay unit vs 0 texts says) same all)
+
+-- each of five fields says what it says at its place
+pub all_say : (unit : Measure) (was : List Value) (xs : List (List ℕ)) (a b c d e : List ℕ)
+    (p q r s t : Said) → length xs ≡ 5 → a ≡ get_or xs 0 a → b ≡ get_or xs 1 b
+    → c ≡ get_or xs 2 c → d ≡ get_or xs 3 d → e ≡ get_or xs 4 e → Says unit was 0 a p
+    → Says unit was 1 b q → Says unit was 2 c r → Says unit was 3 d s → Says unit was 4 e t
+    → AllSay unit was 0 xs (p ∷ q ∷ r ∷ s ∷ t ∷ [])
+all_say unit was xs a b c d e p q r s t len ha hb hc hd he sa sb sc sd se =
+    subst (λ (ys : List (List ℕ)). AllSay unit was 0 ys (p ∷ q ∷ r ∷ s ∷ t ∷ []))
+    (sym (five_items xs a b c d e len ha hb hc hd he)) (sa, (sb, (sc, (sd, (se, tt)))))
+
+-- a form whose fields are no card together
+pub not_fit : (form : CardForm) (says : List Said) (why : CardReading)
+    → AllSay (unit_of form.round.event) form.was 0 form.attempts says
+    → IsUnfitAs form.was says why → IsNotRead form why
+not_fit form says (reading.Unread u) all h = absurd h
+not_fit form says (reading.Unfit why) all h = record { says = says; all = all; is = h }
+not_fit form says reading.NoMemory all h = tt

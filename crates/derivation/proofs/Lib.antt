@@ -1,9 +1,0 @@
-pub mod Cutoffs
-pub mod Derived
-pub mod Filled
-pub mod Runs
-pub mod Sent
-pub mod Steps
-pub mod Strikes
-pub mod Tests
-pub mod Whole

@@ -1,3 +1,0 @@
-mod Given
-mod Steps
-mod Within

@@ -1,0 +1,176 @@
+-- A card that is told to be saved stands in the log as it was typed, over what its page showed.
+use Rattle.std.proofs.Common.{◌≡◌, ◌∙◌, ◌+◌, ◌==◌, ◌&&◌, ◌++◌, ◌∷◌, [], Bool, true, false, ℕ, List}
+use Rattle.std.proofs.Common.{ap, cond, eq-eqb, eqb-true, find, map, Option, None, Some, option_map}
+use Rattle.std.proofs.Common.{refl, subst, sym, take, Result, Ok, Err}
+use Rattle.std.specs.Prelude.{slice_get, unwrap_or}
+use Rattle.std.proofs.lemmas.Bool.{false≢true}
+use Rattle.std.proofs.lemmas.List.{take_more}
+use Rattle.std.proofs.lemmas.Option.{get_or_from_slice_get, slice_get_within}
+use Rattle.acceptor.specs.declared.entry.Entry.{Entry}
+use Rattle.attempts.specs.declared.Value.{Value}
+use Rattle.attempts.specs.declared.Value.TheVariants as value
+use Rattle.card_forms.specs.Entries.{card_in, card_of, card_told}
+use Rattle.commands.specs.Accepted.{are_values, card_values, counts_in, is_of, is_value, round_by}
+use Rattle.commands.specs.Accepted.{round_of, scramble_of, values_now}
+use Rattle.commands.specs.model.Cards.{scrambles_of, with_outcomes}
+use Rattle.commands.proofs.CardRounds.{card_is, round_dealt}
+use Rattle.formats.specs.Events.{event_number, same_event}
+use Rattle.outbox.specs.Cards.{AreSeen, SavedCardIsOverWhatWasSeen, SavedIsEntered, Says}
+use Rattle.outbox.specs.Laws.{IsSo, NeverByGuess}
+use Rattle.outbox.specs.States.{state_of}
+use Rattle.outbox.specs.declared.state.State.{State}
+use Rattle.outbox.specs.declared.state.State.TheVariants as state
+use Rattle.rounds.specs.Tables.{Entrant, Table, changed, changed_of, entrant, has_number}
+use Rattle.table_views.specs.Logs.{accepted_in}
+use Rattle.table_views.specs.Standing.{values_of}
+use Rattle.texts.specs.Reading.{command_of}
+use Rattle.texts.specs.declared.command.CardEntry.{CardEntry}
+use Rattle.texts.specs.declared.command.Command.{Command}
+use Rattle.texts.specs.declared.command.Command.TheVariants.{Card}
+use Rattle.texts.specs.declared.command.Remarked.{Remarked}
+use Rattle.texts.specs.declared.command.RoundId.{RoundId}
+use Rattle.texts.specs.declared.command.Settings.{Settings}
+use Rattle.texts.specs.declared.reading.CommandFault.{CommandFault}
+use Rattle.table_service.specs.Laws.{IsSavedCard, SavedIsTheCard, StandsAt}
+
+-- ---- the same values
+
+value_equal : (v w : Value) → is_value v w ≡ true → v ≡ w
+value_equal (value.Number n) (value.Number m) h = ap value.Number (eqb-true n m h)
+value_equal (value.Number n) value.Dnf h = absurd (false≢true h)
+value_equal (value.Number n) value.Dns h = absurd (false≢true h)
+value_equal value.Dnf (value.Number m) h = absurd (false≢true h)
+value_equal value.Dnf value.Dnf h = refl
+value_equal value.Dnf value.Dns h = absurd (false≢true h)
+value_equal value.Dns (value.Number m) h = absurd (false≢true h)
+value_equal value.Dns value.Dnf h = absurd (false≢true h)
+value_equal value.Dns value.Dns h = refl
+
+both_first : (a b : Bool) → (a && b) ≡ true → a ≡ true
+both_first true b h = refl
+both_first false b h = h
+
+both_second : (a b : Bool) → (a && b) ≡ true → b ≡ true
+both_second true b h = h
+both_second false b h = absurd (false≢true h)
+
+values_equal : (vs ws : List Value) → are_values vs ws ≡ true → vs ≡ ws
+values_equal [] [] h = refl
+values_equal [] (w ∷ ws) h = absurd (false≢true h)
+values_equal (v ∷ vs) [] h = absurd (false≢true h)
+values_equal (v ∷ vs) (w ∷ ws) h =
+    rw (
+      value_equal v w (both_first (is_value v w) (are_values vs ws) h),
+      values_equal vs ws (both_second (is_value v w) (are_values vs ws) h),
+    )
+    refl
+
+-- ---- what a card leaves
+
+module _ (n : ℕ) (change : List Value → List Value) where
+  abbrev made : Entrant → Entrant
+  made e = record e { values = change e.values }
+
+  -- the values of the number are changed
+  found_values : (es : List Entrant)
+      → option_map (λ e. e.values) (find (has_number n) (map (changed_of n change) es))
+      ≡ option_map (λ e. change e.values) (find (has_number n) es)
+  found_values [] = refl
+  found_values (d ∷ ds) = step (has_number n d) refl (found_values ds)
+    where
+      step : (b : Bool) → has_number n d ≡ b
+          → option_map (λ e. e.values) (find (has_number n) (map (changed_of n change) ds))
+          ≡ option_map (λ e. change e.values) (find (has_number n) ds)
+          → option_map (λ e. e.values)
+          (cond (has_number n (cond b (made d) d)) (Some (cond b (made d) d))
+          (find (has_number n) (map (changed_of n change) ds)))
+          ≡ option_map (λ e. change e.values) (cond b (Some d) (find (has_number n) ds))
+      step true is later =
+          ap
+          (λ (c : Bool).
+          option_map (λ e. e.values)
+          (cond c (Some (made d)) (find (has_number n) (map (changed_of n change) ds)))) is
+      step false is later =
+          ap
+          (λ (c : Bool).
+          option_map (λ e. e.values)
+          (cond c (Some d) (find (has_number n) (map (changed_of n change) ds)))) is
+          ∙ later
+
+module _ (before : List Command) (card : CardEntry) (seen : AreSeen before card) where
+  abbrev After : Settings × Table
+  After = with_outcomes (scrambles_of before card.id) card seen.round
+
+  own_round : is_of card.id.event card.id.round card.id ≡ true
+  own_round =
+      rw (
+        eq-eqb (event_number card.id.event) (event_number card.id.event) refl,
+        eq-eqb card.id.round card.id.round refl,
+      )
+      refl
+
+  leaves : round_by (before ++ Card card ∷ []) card.id ≡ Some After
+  leaves =
+      round_dealt (Card card) card (card_is card) card.id.event card.id.round before
+      ∙ ap
+      (λ (b : Bool).
+      cond b
+      (option_map (with_outcomes (scrambles_of before card.id) card) (round_by before card.id))
+      (round_by before card.id))
+      own_round
+      ∙ ap (option_map (with_outcomes (scrambles_of before card.id) card)) seen.opened
+
+  abbrev change : List Value → List Value
+  change = values_now (counts_in seen.round.0 (scrambles_of before card.id)) 1 card.now
+
+  are : values_of After.1 card.number
+      ≡ card_values (scramble_of before card.id.event card.id.round) card seen.round.0
+  are =
+      ap (λ (o : Option (List Value)). unwrap_or o [])
+      (found_values card.number change seen.round.1.entrants)
+      ∙ ap
+      (λ (o : Option Entrant). unwrap_or (option_map (λ e. change e.values) o) []) seen.held
+      ∙ ap change (sym (values_equal card.was seen.one.values seen.seen))
+
+  saved_over : IsSavedCard before card
+  saved_over = record {
+    round = seen.round;
+    opened = seen.opened;
+    were = ap
+        (λ (o : Option Entrant). are_values card.was (unwrap_or (option_map (λ e. e.values) o) []))
+        seen.held
+        ∙ seen.seen;
+    after = After;
+    leaves = leaves;
+    are = are;
+  }
+
+-- ---- what is told
+
+card_is_of : (command : Command) (card : CardEntry) → card_of command ≡ Some card
+    → command ≡ Card card
+card_is_of (Card one) card is = ap Card (ap (λ (o : Option CardEntry). unwrap_or o one) is)
+card_is_of _ card is = absurd (cc)
+
+says_by : (entry : Entry) (card : CardEntry) (r : Result Remarked CommandFault)
+    → command_of entry.text ≡ r → card_told r ≡ Some card → Says entry (Card card)
+says_by entry card (Err why) reads is = absurd (cc)
+says_by entry card (Ok told) reads is =
+    record { told = told; reads = reads; is = card_is_of told.command card is }
+
+stands_at : (log : List Entry) (position : ℕ) (entry : Entry)
+    → slice_get log position ≡ Some entry → StandsAt log position entry
+stands_at log position entry there =
+    take_more log position entry (slice_get_within log position entry there)
+    ∙ ap (λ (e : Entry). take position log ++ e ∷ [])
+    (get_or_from_slice_get log position entry entry there)
+
+pub saved_is_the_card : NeverByGuess → SavedCardIsOverWhatWasSeen → SavedIsTheCard
+saved_is_the_card told seen held log entry card position begins is saved =
+    let so : IsSo log entry (state.Saved position) =
+    subst (λ (s : State). IsSo log entry s) saved (told held log entry begins) in (
+      stands_at log position entry so.there,
+      saved_over (accepted_in (take position log)) card
+          (seen held log entry position card begins saved
+          (says_by entry card (command_of entry.text) refl is)),
+    )

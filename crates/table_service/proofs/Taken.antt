@@ -1,0 +1,114 @@
+-- What is taken for a request, and that nothing else is.
+use Rattle.std.proofs.Common.{◌≡◌, ◌∙◌, ◌⊎◌, ◌∷◌, [], inl, inr, Bool, true, ℕ, List, ap, refl}
+use Rattle.std.proofs.Common.{subst, sym}
+use Rattle.acceptor.specs.declared.entry.Entry.{Entry}
+use Rattle.http.specs.declared.request.Request.{Request}
+use Rattle.http_server.specs.declared.response.Response.{Response}
+use Rattle.outbox.specs.Items.{ItemsOf}
+use Rattle.outbox.specs.Outboxes.{with_list}
+use Rattle.table_service.specs.declared.plan.Effect.{Effect}
+use Rattle.table_service.specs.declared.plan.Effect.TheVariants as effect
+use Rattle.table_service.specs.declared.plan.Plan.{Plan}
+use Rattle.table_service.specs.declared.plan.Reply.{Reply}
+use Rattle.table_service.specs.declared.plan.Reply.TheVariants as reply
+use Rattle.table_service.specs.Disks.{IsSynced}
+use Rattle.table_service.specs.Laws.{AsksFor, IsForm, IsTaken, TakesNothing}
+use Rattle.table_service.specs.Replies.{Writes}
+use Rattle.table_service.specs.Requests.{path_of, sent_pairs}
+use Rattle.table_service.specs.Services.{Answers, AnswersIt, DoesAs, IsKept, IsTakenAgain}
+use Rattle.table_service.specs.Services.{KeepsList, ServiceOf, TakesAll, TakesNone, with_ids_used}
+use Rattle.table_service.proofs.Planned.{FoundBy, GoesOn, found}
+use Rattle.table_service.proofs.Served.{all_back, kept_all, same_items}
+
+sent_on : (answer : Reply) (r : Response) → GoesOn answer → Writes answer r → r.status ≡ 303
+sent_on (reply.SeeOther location) r on (inl is) = is.status
+sent_on (reply.SeeOther location) r on (inr is) = is.1.status
+sent_on (reply.Text why) r on is = absurd on.1
+sent_on (reply.Html status page) r on is = absurd on.1
+sent_on reply.Style r on is = absurd on.1
+sent_on reply.Script r on is = absurd on.1
+
+-- what is kept a crash leaves
+synced_by : (kept : Bool) (list : ItemsOf) (old new : ServiceOf) → KeepsList kept list old new
+    → IsSynced new.file
+synced_by kept list old new keeps =
+    subst (λ (s : ServiceOf). IsSynced s.file) (sym keeps.2) keeps.1.synced
+
+synced_after : (of : ℕ) (old new : ServiceOf) → IsSynced old.file → AnswersIt of old new
+    → IsSynced new.file
+synced_after of old new synced (inl same) =
+    subst (λ (s : ServiceOf). IsSynced s.file) (sym same) synced
+synced_after of old new synced (inr is) = synced_by is.kept is.after.list old new is.keeps
+
+module _ (old new : ServiceOf) (request : Request (List ℕ)) (response : Response)
+    (kept : IsKept old.outbox) (plan : Plan) where
+  abbrev Comes : Type 0
+  Comes = TakesNothing old new ⊎ IsTaken old request response new
+
+  abbrev FoundAs : Effect → Type 0
+  FoundAs what =
+      FoundBy (IsForm old request) old.outbox.list (path_of request) (sent_pairs request)
+      plan.reply what
+
+  module _ (entries : List Entry) (list : ItemsOf)
+      (takes : TakesAll old.outbox.list entries old.time list) where
+    none : TakesNone list old response new → TakesNothing old new
+    none is =
+        ap (λ (s : ServiceOf). s.outbox.list.items) is.0.2
+        ∙ ap (λ (q : ItemsOf). q.items) (all_back old.outbox kept entries old.time list takes)
+
+  module _ (entries : List Entry) (list : ItemsOf)
+      (takes : TakesAll old.outbox.list entries old.time list)
+      (asks : AsksFor old.outbox.list (path_of request) (sent_pairs request) entries)
+      (form : IsForm old request) (on : GoesOn plan.reply) where
+    taken : TakesNone list old response new
+        ⊎ (KeepsList true list old new × Writes plan.reply response) → Comes
+    taken (inl is) = inl (none entries list takes is)
+    taken (inr is) =
+        inr record {
+          entries = entries;
+          list = list;
+          form = form;
+          asked = asks;
+          taken = takes;
+          items = ap (λ (s : ServiceOf). s.outbox.list.items) is.0.2;
+          synced = synced_by true list old new is.0;
+          told = sent_on plan.reply response on is.1;
+        }
+
+    again : (of : ℕ) → TakesNone list old response new ⊎ IsTakenAgain list of plan old response new
+        → Comes
+    again of (inl is) = inl (none entries list takes is)
+    again of (inr is) =
+        let all : IsKept is.kept.outbox =
+        subst (λ (s : ServiceOf). IsKept s.outbox) (sym is.keeps.2)
+        (kept_all (with_list old.outbox list)) in
+        inr record {
+          entries = entries;
+          list = list;
+          form = form;
+          asked = asks;
+          taken = takes;
+          items = same_items of (with_ids_used is.kept) new all is.answers
+              ∙ ap (λ (s : ServiceOf). s.outbox.list.items) is.keeps.2;
+          synced = synced_after of (with_ids_used is.kept) new
+              (synced_by true list old is.kept is.keeps) is.answers;
+          told = sent_on plan.reply response on is.writes;
+        }
+
+  comes : (what : Effect) → FoundAs what → DoesAs what plan old response new → Comes
+  comes effect.Nothing tells does = inl (ap (λ (s : ServiceOf). s.outbox.list.items) does.0)
+  comes effect.Ids tells does = inl (ap (λ (s : ServiceOf). s.outbox.list.items) does.0)
+  comes (effect.Take entries) tells does =
+      taken entries.items does.0 does.1 tells.1 tells.0 tells.2 does.2
+  comes (effect.Again entry of) tells does =
+      again (entry ∷ []) does.0 does.1 tells.1 tells.0 tells.2 of does.2
+  comes (effect.Answer of) tells does = inl (same_items of old new kept does.0)
+
+-- nothing is taken but what a form asks for
+pub taken_for_forms : (old new : ServiceOf) (request : Request (List ℕ)) (response : Response)
+    → IsKept old.outbox → Answers old request response new
+    → TakesNothing old new ⊎ IsTaken old request response new
+taken_for_forms old new request response kept answers =
+    comes old new request response kept answers.plan answers.plan.effect
+    (found old request answers.plan answers.planned) answers.does

@@ -1,0 +1,105 @@
+-- A file of which is known what a crash leaves, and the journal in it.
+use Rattle.std.specs.Prelude.{ℕ, ◌≡◌, ◌⊎◌, ◌≤◌, ◌++◌, Bool, true, false, List, length, take, min}
+use Rattle.std.specs.Prelude.{Option, None, Some, option_map}
+
+-- the bytes of a file, and how many of the first of them a crash leaves
+pub record DiskOf : Type 0 where
+  pub bytes : List ℕ
+  pub synced : ℕ
+
+abbrev pub disk : List ℕ → ℕ → DiskOf
+disk bytes synced = record { bytes = bytes; synced = synced }
+
+-- where nothing is told of a file, nothing is told of it later
+abbrev pub Told : (DiskOf → DiskOf → Type 0) → Option DiskOf → Option DiskOf → Type 0
+Told becomes None None = Unit {0}
+Told becomes (Some old) (Some new) = becomes old new
+Told becomes _ _ = ⊥
+
+-- bytes are put after the others; or a front part of them is
+abbrev pub AppendsTo : Bool → List ℕ → DiskOf → DiskOf → Type 0
+AppendsTo true bytes old new = new ≡ disk (old.bytes ++ bytes) old.synced
+AppendsTo false bytes old new =
+    (count : ℕ) × (new ≡ disk (old.bytes ++ take count bytes) old.synced)
+
+abbrev pub Appends : Bool → List ℕ → Option DiskOf → Option DiskOf → Type 0
+Appends done bytes old new = Told (AppendsTo done bytes) old new
+
+-- a crash leaves all bytes
+abbrev pub SyncsTo : Bool → DiskOf → DiskOf → Type 0
+SyncsTo true old new = new ≡ disk old.bytes (length old.bytes)
+SyncsTo false old new = new ≡ old
+
+abbrev pub Syncs : Bool → Option DiskOf → Option DiskOf → Type 0
+Syncs done old new = Told (SyncsTo done) old new
+
+abbrev pub CutsTo : Bool → ℕ → DiskOf → DiskOf → Type 0
+CutsTo true count old new = new ≡ disk (take count old.bytes) (min count old.synced)
+CutsTo false count old new = new ≡ old
+
+abbrev pub Cuts : Bool → ℕ → Option DiskOf → Option DiskOf → Type 0
+Cuts done count old new = Told (CutsTo done count) old new
+
+-- bytes are put after the others, and a crash leaves all; or a front part of them is put there, and
+-- a crash leaves what it left before
+abbrev pub PutsTo : Bool → List ℕ → DiskOf → DiskOf → Type 0
+PutsTo true bytes old new = new ≡ disk (old.bytes ++ bytes) (length (old.bytes ++ bytes))
+PutsTo false bytes old new = (count : ℕ) × (new ≡ disk (old.bytes ++ take count bytes) old.synced)
+
+abbrev pub Puts : Bool → List ℕ → Option DiskOf → Option DiskOf → Type 0
+Puts done bytes old new = Told (PutsTo done bytes) old new
+
+-- what stands after so many bytes is taken away, and a crash leaves the others; or it stays, or is
+-- taken away and a crash may bring it back
+abbrev pub CutsBackTo : Bool → ℕ → DiskOf → DiskOf → Type 0
+CutsBackTo true count old new = new ≡ disk (take count old.bytes) (length (take count old.bytes))
+CutsBackTo false count old new =
+    (new ≡ old) ⊎ (new ≡ disk (take count old.bytes) (min count old.synced))
+
+abbrev pub CutsBack : Bool → ℕ → Option DiskOf → Option DiskOf → Type 0
+CutsBack done count old new = Told (CutsBackTo done count) old new
+
+-- ---- the journal
+
+-- the file of a journal, the bytes of its whole lines, and whether a part of a line may stand after
+-- them that could not be taken away
+pub record JournalOf : Type 0 where
+  pub disk : Option DiskOf
+  pub length : ℕ
+  pub broken : Bool
+
+abbrev pub journal : Option DiskOf → ℕ → Bool → JournalOf
+journal disk length broken = record { disk = disk; length = length; broken = broken }
+
+-- nothing stands after so many bytes
+abbrev pub IsWholeIn : ℕ → Option DiskOf → Type 0
+IsWholeIn count None = Unit {0}
+IsWholeIn count (Some d) = length d.bytes ≡ count
+
+-- the bytes of its lines, where that is told
+abbrev pub lines_in : JournalOf → Option (List ℕ)
+lines_in j = option_map (λ d. take j.length d.bytes) j.disk
+
+-- a crash leaves its lines
+abbrev pub IsSyncedIn : ℕ → Option DiskOf → Type 0
+IsSyncedIn count None = Unit {0}
+IsSyncedIn count (Some d) = count ≤ d.synced
+
+abbrev pub IsSynced : JournalOf → Type 0
+IsSynced j = IsSyncedIn j.length j.disk
+
+-- these bytes are kept after the others; where nothing is told, nothing is told of them either
+abbrev pub with_kept : Option (List ℕ) → List ℕ → Option (List ℕ)
+with_kept None bytes = None
+with_kept (Some before) bytes = Some (before ++ bytes)
+
+-- lines are kept, or it fails
+abbrev pub kept_if : Bool → Option (List ℕ) → List ℕ → Option (List ℕ)
+kept_if true before lines = with_kept before lines
+kept_if false before lines = before
+
+-- where lines are kept they stand after the others, and a crash leaves them; else the lines that
+-- were there are
+pub record Keeps (kept : Bool) (lines : List ℕ) (old new : JournalOf) : Type 0 where
+  pub told : lines_in new ≡ kept_if kept (lines_in old) lines
+  pub synced : IsSynced new

@@ -1,0 +1,76 @@
+-- Entries that a form asks for, and that are to be taken.
+use Rattle.std.specs.Prelude.{◌≡◌, ℕ, ◌-◌, ◌<◌, ◌++◌, Bool, true, false, if◌then◌else◌, bytes_eq}
+use Rattle.std.specs.Prelude.{codes, nat_le, length, List, [], ◌∷◌, Option, None, Some, All, IfSome}
+use Rattle.acceptor.specs.declared.entry.Entry.{Entry}
+use Rattle.hall_views.specs.Refused.{faults_page}
+use Rattle.outbox.specs.declared.item.Item.{Item}
+use Rattle.outbox.specs.Items.{ItemsOf, item_in}
+use Rattle.table_views.specs.declared.around.Around.{Around}
+use Rattle.texts.specs.declared.command.CardEntry.{CardEntry}
+use Rattle.texts.specs.Spelling.{IsEntered}
+use Rattle.table_service.specs.declared.plan.Effect.{Effect}
+use Rattle.table_service.specs.declared.plan.Effect.TheVariants as effect
+use Rattle.table_service.specs.declared.plan.Plan.{Plan}
+use Rattle.table_service.specs.declared.plan.Problem.TheVariants as problem
+use Rattle.table_service.specs.declared.plan.Shown.TheVariants as shown
+use Rattle.table_service.specs.Replying.{GoesTo, ShowsPage, refuses}
+
+-- the attempts that a card enters are few, and in their ranges
+pub record IsFitCard (card : CardEntry) : Type 0 where
+  pub few : length card.now < 256
+  pub entered : All (λ o. IfSome o IsEntered) card.now
+
+abbrev pub other_by : Option Item → Entry → Option (List ℕ)
+other_by None entry = None
+other_by (Some item) entry =
+    if bytes_eq item.entry.text entry.text then None else Some item.entry.text
+
+-- the text under which the id of an entry is known, where it is another one
+abbrev pub other_of : ItemsOf → Entry → Option (List ℕ)
+other_of q entry = other_by (item_in q entry.id) entry
+
+abbrev pub both_or : Option (List ℕ) → List ℕ → Option (List ℕ × List ℕ)
+    → Option (List ℕ × List ℕ)
+both_or None sent later = later
+both_or (Some known) sent later = Some (known, sent)
+
+-- the first of these entries whose id is known with another text: that text, and its own
+abbrev pub other_in : ItemsOf → List Entry → Option (List ℕ × List ℕ)
+other_in q [] = None
+other_in q (entry ∷ entries) = both_or (other_of q entry) entry.text (other_in q entries)
+
+-- there is room for so many entries
+abbrev pub has_room : ItemsOf → ℕ → Bool
+has_room q count = nat_le count (65536 - length q.items)
+
+-- what is said of a form that was sent before with something else: both texts
+abbrev pub both_words : List ℕ → List ℕ → List ℕ
+both_words known sent =
+    codes "This form was sent before, with this:\n" ++ known
+    ++ codes "\nWhat is sent now is not entered:\n" ++ sent ++ codes "\n"
+
+abbrev pub AreTaken : List Entry → Effect → Type 0
+AreTaken entries (effect.Take them) = them.items ≡ entries
+AreTaken entries _ = ⊥
+
+-- the browser is sent to a place, and these entries are taken
+pub record TakesThem (place : List ℕ) (entries : List Entry) (plan : Plan) : Type 0 where
+  pub goes : GoesTo place plan.reply
+  pub takes : AreTaken entries plan.effect
+
+abbrev pub PlansRoom : Bool → List ℕ → List Entry → Plan → Type 0
+PlansRoom false place entries plan = plan ≡ refuses problem.Busy
+PlansRoom true place entries plan = TakesThem place entries plan
+
+abbrev pub PlansOther : Option (List ℕ × List ℕ) → ItemsOf → Around → List ℕ → List Entry → Plan
+    → Type 0
+PlansOther (Some both) q around place entries plan =
+    ShowsPage shown.Wrong (faults_page around place (both_words both.0 both.1)) plan
+PlansOther None q around place entries plan =
+    PlansRoom (has_room q (length entries)) place entries plan
+
+-- entries are taken, but where the id of one of them is known with another text, or there is no
+-- room; what was taken before stays as it is
+abbrev pub PlansEntries : ItemsOf → Around → List ℕ → List Entry → Plan → Type 0
+PlansEntries q around place entries plan =
+    PlansOther (other_in q entries) q around place entries plan

@@ -1,0 +1,141 @@
+-- A card that is taken back.
+use Rattle.std.specs.Prelude.{◌≡◌, ℕ, ◌&&◌, Bool, true, false, if◌then◌else◌, not, nat_le}
+use Rattle.std.specs.Prelude.{nat_lt, codes, get_or, length, List, map, slice_get}
+use Rattle.std.specs.Prelude.{option_map, Option, None, Some}
+use Rattle.std.specs.List.{range_with_len}
+use Rattle.std.specs.Option.{option_and_then}
+use Rattle.attempts.specs.declared.Unit.{Unit as Measure}
+use Rattle.attempts.specs.declared.Unit.TheVariants as measure
+use Rattle.attempts.specs.declared.Value.{Value}
+use Rattle.attempts.specs.declared.Value.TheVariants as value
+use Rattle.acceptor.specs.declared.entry.Entry.{Entry}
+use Rattle.card_forms.specs.declared.pairs.Pair.{Pair}
+use Rattle.card_forms.specs.Entries.{card_entry, card_in}
+use Rattle.commands.specs.Accepted.{card_values, round_by, scramble_of}
+use Rattle.formats.specs.Events.{unit_of}
+use Rattle.outbox.specs.declared.item.Item.{Item}
+use Rattle.outbox.specs.declared.state.State.{State}
+use Rattle.outbox.specs.declared.state.State.TheVariants as state
+use Rattle.outbox.specs.Items.{ItemsOf, is_answered, item_in}
+use Rattle.outbox.specs.Outboxes.{state_in}
+use Rattle.table_views.specs.declared.around.Around.{Around}
+use Rattle.table_views.specs.Logs.{accepted_in}
+use Rattle.texts.specs.declared.command.CardEntry.{CardEntry}
+use Rattle.texts.specs.declared.command.Command.{Command}
+use Rattle.texts.specs.declared.command.Entered.{Entered}
+use Rattle.texts.specs.declared.command.Entered.TheVariants as entered
+use Rattle.texts.specs.declared.command.RoundId.{RoundId}
+use Rattle.texts.specs.declared.command.Settings.{Settings}
+use Rattle.texts.specs.Fields.{all_of, card_entry as over}
+use Rattle.table_service.specs.declared.plan.Effect.TheVariants as effect
+use Rattle.table_service.specs.declared.plan.Plan.{Plan}
+use Rattle.table_service.specs.declared.plan.Problem.TheVariants as problem
+use Rattle.table_service.specs.Answering.{id_of, place_of}
+use Rattle.table_service.specs.Checks.{is_left}
+use Rattle.table_service.specs.Plans.{RefusesWith, cards_place}
+use Rattle.table_service.specs.Replying.{Sends, refuses}
+use Rattle.table_service.specs.Taking.{has_room}
+
+-- ---- what is to stand again
+
+abbrev pub is_below : Option ℕ → ℕ → Bool
+is_below None time = true
+is_below (Some limit) time = nat_lt time limit
+
+-- a time without penalties, where it is typed as one below the limit of its round
+abbrev pub time_for : Option ℕ → ℕ → Option Entered
+time_for limit time =
+    if is_below limit time && nat_le 1 time && nat_le time 999999
+    then Some (entered.Time time 0) else None
+
+-- what is typed so that it counts as a value: a time, where the event has times, or no result
+abbrev pub typed_for : Measure → Option ℕ → Value → Option Entered
+typed_for unit limit value.Dnf = Some entered.Dnf
+typed_for unit limit value.Dns = Some entered.Dns
+typed_for measure.Time limit (value.Number time) = time_for limit time
+typed_for measure.Moves limit (value.Number moves) = None
+typed_for measure.Multi limit (value.Number result) = None
+
+abbrev pub back_if : Bool → Measure → Option ℕ → Option Value → Option (Option Entered)
+back_if true unit limit stood = Some None
+back_if false unit limit stood = option_map Some (option_and_then (typed_for unit limit) stood)
+
+-- what is to stand again at a place, counted from 0, where a card left these and those stood: what
+-- stands now stays where it is the same
+abbrev pub back_at : Measure → Option ℕ → List Value → List Value → ℕ → Option (Option Entered)
+back_at unit limit left was place =
+    back_if (is_left (slice_get was place) (slice_get left place)) unit limit (slice_get was place)
+
+-- the same at each place where something stood; none where that cannot be typed
+abbrev pub back_of : Measure → Option ℕ → List Value → List Value → Option (List (Option Entered))
+back_of unit limit left was =
+    all_of (map (back_at unit limit left was) (range_with_len 0 (length was)))
+
+-- ---- the card
+
+abbrev pub undone_by : ℕ → CardEntry → List Value → Option (List (Option Entered)) → Option Entry
+undone_by id card left None = None
+undone_by id card left (Some now) = card_entry id (over card.id card.number left now)
+
+abbrev pub undone_over : ℕ → CardEntry → Settings → List Value → Option Entry
+undone_over id card settings left =
+    undone_by id card left (back_of (unit_of card.id.event) settings.limit left card.was)
+
+abbrev pub undone_in : List Command → ℕ → CardEntry → Option Settings → Option Entry
+undone_in accepted id card None = None
+undone_in accepted id card (Some settings) =
+    undone_over id card settings
+    (card_values (scramble_of accepted card.id.event card.id.round) card settings)
+
+-- the entry of the card that takes this one back, under an id: it is over what this card leaves,
+-- and enters what stood before it
+abbrev pub undone_entry : List Command → ℕ → CardEntry → Option Entry
+undone_entry accepted id card =
+    undone_in accepted id card (option_map (λ round. round.0) (round_by accepted card.id))
+
+-- ---- taking it back
+
+abbrev pub is_saved : Option State → Bool
+is_saved (Some (state.Saved position)) = true
+is_saved _ = false
+
+-- the log says that the item of an id is saved, and no scoretaker has answered it
+abbrev pub may_undo : List Entry → ItemsOf → ℕ → Bool
+may_undo log list id = not (is_answered list id) && is_saved (state_in log list id)
+
+-- what is said where what stood cannot be typed
+abbrev pub untyped_words : List ℕ
+untyped_words = codes "what stood before cannot be entered by itself: open the card and type it"
+
+abbrev pub PlansUndoEntry : Bool → Around → ℕ → RoundId → Option Entry → Plan → Type 0
+PlansUndoEntry room around of id None plan =
+    RefusesWith around (cards_place id) untyped_words plan
+PlansUndoEntry false around of id (Some entry) plan = plan ≡ refuses problem.Busy
+PlansUndoEntry true around of id (Some entry) plan =
+    Sends (cards_place id) (effect.Again entry of) plan
+
+abbrev pub PlansUndoCard : Around → ItemsOf → ℕ → Option CardEntry → Plan → Type 0
+PlansUndoCard around q of None plan = plan ≡ refuses problem.BadForm
+PlansUndoCard around q of (Some card) plan =
+    PlansUndoEntry (has_room q 1) around of card.id
+    (undone_entry (accepted_in around.mirror.now) (get_or around.ids.now 0 0) card) plan
+
+abbrev pub PlansUndoIf : Bool → Around → ItemsOf → ℕ → Item → Plan → Type 0
+PlansUndoIf false around q of item plan =
+    Sends (place_of (card_in item.entry.text)) effect.Nothing plan
+PlansUndoIf true around q of item plan =
+    PlansUndoCard around q of (card_in item.entry.text) plan
+
+abbrev pub PlansUndoItem : Around → ItemsOf → ℕ → Option Item → Plan → Type 0
+PlansUndoItem around q of None plan = plan ≡ refuses problem.BadForm
+PlansUndoItem around q of (Some item) plan =
+    PlansUndoIf (may_undo around.mirror.now q of) around q of item plan
+
+abbrev pub PlansUndoId : Around → ItemsOf → Option ℕ → Plan → Type 0
+PlansUndoId around q None plan = plan ≡ refuses problem.BadForm
+PlansUndoId around q (Some of) plan = PlansUndoItem around q of (item_in q of) plan
+
+-- a card that is saved, and that nobody has answered, is taken back by a new one, and counts as
+-- answered; any other item stays as it is
+abbrev pub PlansUndo : Around → ItemsOf → List Pair → Plan → Type 0
+PlansUndo around q pairs plan = PlansUndoId around q (id_of pairs) plan

@@ -1,0 +1,193 @@
+//! What a scoretaker answers to items that were not saved.
+
+ghost use Rattle.std.specs.Prelude.{◌≡◌, IfOk, Some, length, true};
+ghost use Rattle.std.specs.Option.{option_copied};
+ghost use Rattle.outbox.specs.Outboxes.{may_answer};
+ghost use Rattle.texts.specs.Fields.{enters_later};
+ghost use Rattle.table_service.specs.Answering.{PlansAgain, PlansAgainCard};
+ghost use Rattle.table_service.specs.Answering.{PlansAgainIf, PlansAnswered, PlansLeaving};
+ghost use Rattle.table_service.specs.Answering.{again_entry, id_of, place_of};
+
+use crate::commanding::refuse;
+use crate::entering::cards_place;
+use crate::entries::has_room;
+use crate::looking::first_id;
+use crate::plan::{Effect, Plan, Problem};
+use acceptor::entry::Entry;
+use card_forms::{FormId, Pairs, card_entry, card_in};
+use mirror::Mirror;
+use outbox::{Item, Outbox, State};
+use std::alloc::{AllocError, Global};
+use table_views::Around;
+use texts::{CardEntry, Entered, Was, number_between, was_of};
+
+/// The greatest id of an entry, 2^63 - 1.
+const MOST_ID: u64 = 9_223_372_036_854_775_807;
+
+/// What is said where less stands than a card lets stay.
+const LESS: &[u8] = b"fewer attempts stand now than this card lets stay: open the card and type it";
+
+/// The id of an item.
+pub(crate) fn id_of(pairs: &Pairs) -> Option<u64>
+    ensures { result ≡ id_of pairs.now }
+{
+    number_between(1, MOST_ID, pairs.value("id"))
+}
+
+/// Whether the log says what became of the item of an id, and no scoretaker has answered it.
+fn may_answer(outbox: &Outbox, mirror: &Mirror, of: u64) -> bool
+    ensures { result ≡ may_answer mirror.now outbox.now.list of }
+{
+    if outbox.is_answered(of) {
+        return false;
+    }
+    match outbox.state(mirror, of) {
+        None | Some(State::Waits) => false,
+        Some(_) => true,
+    }
+}
+
+/// Where to go on: to the cards of the round, where the item is a card.
+fn place_of(alloc: Global, card: Option<&CardEntry>) -> Result<Vec<u8>, AllocError>
+    ensures { IfOk result (λ place. place.items ≡ place_of (option_copied card.entry)) }
+{
+    match card {
+        Some(card) => cards_place(alloc, card.id),
+        None => Vec::from_slice(alloc, b"/"),
+    }
+}
+
+/// What is to be done for an item that is left as it is, which may be answered or not.
+pub(crate) fn plan_leaving(
+    alloc: Global,
+    item: &Item,
+    of: u64,
+    may: bool,
+) -> Result<Plan, AllocError>
+    ensures { IfOk result (PlansLeaving may of item.now) }
+{
+    let card = card_in(alloc, item.entry.text())?;
+    let place = place_of(alloc, card.as_ref())?;
+    if may {
+        Ok(Plan::see(place, Effect::Answer { of }))
+    } else {
+        Ok(Plan::see(place, Effect::Nothing))
+    }
+}
+
+/// What is to be done for the form that leaves an item as it is.
+pub(crate) fn plan_answered(
+    alloc: Global,
+    outbox: &Outbox,
+    around: &Around<'_>,
+    pairs: &Pairs,
+) -> Result<Plan, AllocError>
+    ensures { IfOk result (PlansAnswered around.entry.now outbox.now.list pairs.now) }
+{
+    let Some(of) = id_of(pairs) else {
+        return Ok(Plan::problem(Problem::BadForm));
+    };
+    match outbox.find(of) {
+        Some(item) => plan_leaving(alloc, item, of, may_answer(outbox, around.mirror, of)),
+        None => Ok(Plan::problem(Problem::BadForm)),
+    }
+}
+
+/// Whether something is entered for each attempt after those that stand, so many.
+fn enters_later(stands: usize, now: &[Option<Entered>]) -> bool
+    ensures { result ≡ enters_later stands now.now }
+{
+    now.iter().skip(stands).all(|outcome| outcome.is_some())
+}
+
+/// The entry of a card over these values, under an id; none where less stands than it lets stay.
+fn again_entry(
+    alloc: Global,
+    id: FormId,
+    card: CardEntry,
+    was: Was,
+) -> Result<Option<Entry>, AllocError>
+    ensures { IfOk result (λ entry. entry
+        ≡ again_entry (enters_later (length was) card.now) id card was) }
+{
+    if !enters_later(was.as_slice().len(), card.now.as_slice()) {
+        return Ok(None);
+    }
+    let CardEntry {
+        id: round,
+        number,
+        now,
+        ..
+    } = card;
+    let again = CardEntry {
+        id: round,
+        number,
+        was,
+        now,
+    };
+    card_entry(alloc, id, again)
+}
+
+/// What is to be done for a card over what its page showed that stands now.
+fn plan_again_card(
+    alloc: Global,
+    outbox: &Outbox,
+    around: &Around<'_>,
+    of: u64,
+    card: CardEntry,
+    was: Was,
+) -> Result<Plan, AllocError>
+    ensures { IfOk result (PlansAgainCard around.entry.now outbox.now.list of (Some was)
+        (Some card)) }
+{
+    let place = cards_place(alloc, card.id)?;
+    let Some(entry) = again_entry(alloc, first_id(around.ids), card, was)? else {
+        return refuse(alloc, around, &place, LESS);
+    };
+    if !has_room(outbox, 1) {
+        return Ok(Plan::problem(Problem::Busy));
+    }
+    Ok(Plan::see(place, Effect::Again { entry, of }))
+}
+
+/// What is to be done for an item that may be answered, and of which a card is to be taken.
+fn plan_again_item(
+    alloc: Global,
+    outbox: &Outbox,
+    around: &Around<'_>,
+    pairs: &Pairs,
+    of: u64,
+    item: &Item,
+) -> Result<Plan, AllocError>
+    ensures { IfOk result (PlansAgainIf true around.entry.now outbox.now.list pairs.now of
+        item.now) }
+{
+    let Some(was) = was_of(alloc, pairs.value("was"))? else {
+        return Ok(Plan::problem(Problem::BadForm));
+    };
+    match card_in(alloc, item.entry.text())? {
+        Some(card) => plan_again_card(alloc, outbox, around, of, card, was),
+        None => Ok(Plan::problem(Problem::BadForm)),
+    }
+}
+
+/// What is to be done for the form that takes what was typed over what stands now.
+pub(crate) fn plan_again(
+    alloc: Global,
+    outbox: &Outbox,
+    around: &Around<'_>,
+    pairs: &Pairs,
+) -> Result<Plan, AllocError>
+    ensures { IfOk result (PlansAgain around.entry.now outbox.now.list pairs.now) }
+{
+    let Some(of) = id_of(pairs) else {
+        return Ok(Plan::problem(Problem::BadForm));
+    };
+    match outbox.find(of) {
+        None => Ok(Plan::problem(Problem::BadForm)),
+        Some(item) if may_answer(outbox, around.mirror, of) => {
+            plan_again_item(alloc, outbox, around, pairs, of, item)
+        }
+        Some(item) => plan_leaving(alloc, item, of, false),
+    }
+}

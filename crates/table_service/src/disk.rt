@@ -1,0 +1,51 @@
+//! A file of which is known what a crash leaves.
+
+ghost use Rattle.std.specs.Prelude.{Option};
+ghost use Rattle.table_service.specs.Disks.{Appends, Cuts, DiskOf, Syncs};
+
+use std::fs::File;
+use std::io::Write;
+
+/// A file at whose end bytes are put.
+pub trait Disk {
+    /// Its bytes, and how many of the first of them a crash leaves, where that is told.
+    ghost holds: { Self → Option DiskOf };
+
+    /// Puts bytes after the others. False where that fails; then a front part of them may be there.
+    fn append(&mut self, bytes: &[u8]) -> bool
+        ensures { Appends result bytes.now (holds self.old) (holds self.new) };
+
+    /// Makes sure that a crash leaves what it has. False where that fails.
+    fn sync(&mut self) -> bool
+        ensures { Syncs result (holds self.old) (holds self.new) };
+
+    /// Takes away what stands after so many bytes. False where that fails; then nothing is taken
+    /// away.
+    fn cut(&mut self, length: u64) -> bool
+        ensures { Cuts result length (holds self.old) (holds self.new) };
+}
+
+/// A file of the system.
+#[derive(Drop)]
+pub struct SystemFile {
+    pub(crate) file: File,
+}
+
+impl Disk for SystemFile {
+    ghost use Rattle.std.specs.Prelude.{None};
+
+    // What stands in a file of the system no contract can say.
+    ghost holds = { λ _. None };
+
+    fn append(&mut self, bytes: &[u8]) -> bool {
+        self.file.write_all(bytes).is_ok()
+    }
+
+    fn sync(&mut self) -> bool {
+        self.file.sync_all().is_ok()
+    }
+
+    fn cut(&mut self, length: u64) -> bool {
+        self.file.set_len(length).is_ok()
+    }
+}

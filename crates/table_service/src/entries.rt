@@ -1,0 +1,110 @@
+//! Entries that are to be taken.
+
+ghost use Rattle.std.specs.Prelude.{◌≡◌, IfOk, IfSome};
+ghost use Rattle.std.specs.Option.{option_map};
+ghost use Rattle.card_forms.specs.Entries.{card_in, card_of};
+ghost use Rattle.table_service.specs.Taking.{IsFitCard, PlansEntries, both_words, has_room};
+ghost use Rattle.table_service.specs.Taking.{other_in, other_of};
+
+use crate::commanding::tell;
+use crate::plan::{Effect, Plan, Problem};
+use acceptor::entry::Entry;
+use outbox::Outbox;
+use std::alloc::{AllocError, Global};
+use table_views::Around;
+use texts::{CardEntry, Command, CommandFault, read};
+
+/// The most items that are known: as many as a log has entries.
+const MOST_ITEMS: usize = 65_536;
+
+/// The card of a command, if it is one.
+fn card_of(command: Command) -> Option<CardEntry>
+    ensures { result ≡ card_of command }
+{
+    match command {
+        Command::Card(card) => Some(card),
+        _ => None,
+    }
+}
+
+/// The card that a text spells, with whatever remark, whose attempts are in their ranges; none
+/// where it spells no `CARD`.
+pub(crate) fn fit_card(alloc: Global, text: &[u8]) -> Result<Option<CardEntry>, AllocError>
+    ensures card { IfOk result (λ card. card ≡ card_in text.now) }
+    ensures fit { IfOk result (λ card. IfSome card IsFitCard) }
+{
+    match read(alloc, text) {
+        Ok(told) => Ok(card_of(told.command)),
+        Err(CommandFault::NoMemory) => Err(AllocError),
+        Err(CommandFault::TooLong | CommandFault::NotACommand | CommandFault::BadField { .. }) => {
+            Ok(None)
+        }
+    }
+}
+
+/// The text under which the id of an entry is known, where it is another one.
+fn other_of<'a>(outbox: &'a Outbox, entry: &Entry) -> Option<&'a [u8]>
+    ensures { option_map (λ text. text.now) result ≡ other_of outbox.now.list entry.now }
+{
+    let item = outbox.find(entry.id())?;
+    if item.entry.text() == entry.text() {
+        None
+    } else {
+        Some(item.entry.text())
+    }
+}
+
+/// The first of these entries whose id is known with another text: that text, and its own.
+fn other_in<'a>(outbox: &'a Outbox, entries: &'a [Entry]) -> Option<(&'a [u8], &'a [u8])>
+    ensures { option_map (λ both. (both.0.now, both.1.now)) result
+        ≡ other_in outbox.now.list entries.now }
+{
+    for entry in entries {
+        if let Some(known) = other_of(outbox, entry) {
+            return Some((known, entry.text()));
+        }
+    }
+    None
+}
+
+/// Whether there is room for so many entries.
+pub(crate) fn has_room(outbox: &Outbox, count: usize) -> bool
+    ensures { result ≡ has_room outbox.now.list count }
+{
+    count <= MOST_ITEMS - outbox.len()
+}
+
+/// What is said of a form that was sent before with something else: both texts.
+fn both_words(alloc: Global, known: &[u8], sent: &[u8]) -> Result<Vec<u8>, AllocError>
+    ensures { IfOk result (λ words. words.items ≡ both_words known.now sent.now) }
+{
+    let mut words = Vec::from_slice(alloc, b"This form was sent before, with this:\n")?;
+    words.extend_from_slice(known)?;
+    words.extend_from_slice(b"\nWhat is sent now is not entered:\n")?;
+    words.extend_from_slice(sent)?;
+    words.extend_from_slice(b"\n")?;
+    Ok(words)
+}
+
+/// What is to be done for entries that a form asks for: they are taken, and the browser goes to
+/// this place. Those that were taken before stay as they are; where the id of one of them is known
+/// with another text, the page says both, and none is taken.
+pub(crate) fn plan_entries(
+    alloc: Global,
+    outbox: &Outbox,
+    around: &Around<'_>,
+    place: Vec<u8>,
+    entries: Vec<Entry>,
+) -> Result<Plan, AllocError>
+    ensures { IfOk result
+        (PlansEntries outbox.now.list around.entry.now place.items entries.items) }
+{
+    if let Some((known, sent)) = other_in(outbox, &entries) {
+        let words = both_words(alloc, known, sent)?;
+        return tell(alloc, around, &place, &words);
+    }
+    if !has_room(outbox, entries.len()) {
+        return Ok(Plan::problem(Problem::Busy));
+    }
+    Ok(Plan::see(place, Effect::Take(entries)))
+}

@@ -1,0 +1,212 @@
+//! A card that is taken back.
+
+ghost use Rattle.std.specs.Prelude.{◌≡◌, ◌++◌, ◌∷◌, ◌<◌, [], All, IfOk, IfSome, OnOk, Some, length};
+ghost use Rattle.std.specs.Prelude.{true};
+ghost use Rattle.texts.specs.Spelling.{IsEntered};
+ghost use Rattle.table_service.specs.Taking.{IsFitCard};
+ghost use Rattle.table_service.specs.Undoing.{PlansUndo, PlansUndoCard, PlansUndoIf};
+ghost use Rattle.table_service.specs.Undoing.{back_at, back_of, may_undo, time_for, typed_for};
+ghost use Rattle.table_service.specs.Undoing.{undone_entry};
+
+use crate::answering::{id_of, plan_leaving};
+use crate::checks::is_left;
+use crate::commanding::refuse;
+use crate::entering::cards_place;
+use crate::entries::{fit_card, has_room};
+use crate::looking::first_id;
+use crate::plan::{Effect, Plan, Problem};
+use crate::refusing::{value_at, values_left};
+use acceptor::entry::Entry;
+use attempts::{Unit, Value};
+use card_forms::{FormId, Pairs, card_entry};
+use commands::Meet;
+use formats::unit_of;
+use mirror::Mirror;
+use outbox::{Item, Outbox, State};
+use std::alloc::{AllocError, Global};
+use table_views::Around;
+use texts::{CardEntry, Entered, Now, Was};
+
+/// The longest time that is typed, in hundredths of a second.
+const LONGEST: u32 = 999_999;
+
+/// What is said where what stood cannot be typed as a time or as no result.
+const UNTYPED: &[u8] = b"what stood before cannot be entered by itself: open the card and type it";
+
+/// Whether the log says that the item of an id is saved, and no scoretaker has answered it.
+fn may_undo(outbox: &Outbox, mirror: &Mirror, of: u64) -> bool
+    ensures { result ≡ may_undo mirror.now outbox.now.list of }
+{
+    if outbox.is_answered(of) {
+        return false;
+    }
+    match outbox.state(mirror, of) {
+        Some(State::Saved { .. }) => true,
+        _ => false,
+    }
+}
+
+/// A time without penalties, where it is typed as one below the limit of its round.
+fn time_for(limit: Option<u32>, time: u32) -> Option<Entered>
+    ensures { result ≡ time_for limit time }
+{
+    let below = match limit {
+        Some(limit) => time < limit,
+        None => true,
+    };
+    if below && 1 <= time && time <= LONGEST {
+        Some(Entered::Time {
+            hundredths: time,
+            penalties: 0,
+        })
+    } else {
+        None
+    }
+}
+
+/// What is typed so that it counts as this value: a time below the limit, or no result.
+fn typed_for(unit: Unit, limit: Option<u32>, value: Value) -> Option<Entered>
+    ensures { result ≡ typed_for unit limit value }
+{
+    match (unit, value) {
+        (_, Value::Dnf) => Some(Entered::Dnf),
+        (_, Value::Dns) => Some(Entered::Dns),
+        (Unit::Time, Value::Number(time)) => time_for(limit, time),
+        (Unit::Moves | Unit::Multi, Value::Number(_)) => None,
+    }
+}
+
+/// What is to stand again at a place, counted from 0, where a card left these and those stood.
+fn back_at(
+    unit: Unit,
+    limit: Option<u32>,
+    left: &[Value],
+    was: &[Value],
+    place: usize,
+) -> Option<Option<Entered>>
+    ensures { result ≡ back_at unit limit left.now was.now place }
+{
+    let stood = value_at(was, place);
+    if is_left(stood, value_at(left, place)) {
+        return Some(None);
+    }
+    Some(Some(typed_for(unit, limit, stood?)?))
+}
+
+/// Puts what is to stand after the others.
+fn put(now: &mut Vec<Option<Entered>>, outcome: Option<Entered>) -> Result<(), AllocError>
+    ensures { OnOk result (now.new.items ≡ now.old.items ++ outcome ∷ []) }
+{
+    now.push(outcome)?;
+    Ok(())
+}
+
+/// What is to stand again, where a card left these and those stood; none where it cannot be typed.
+fn back_of(
+    alloc: Global,
+    unit: Unit,
+    limit: Option<u32>,
+    left: &[Value],
+    was: &[Value],
+) -> Result<Option<Now>, AllocError>
+    ensures { IfOk result (λ now. now ≡ back_of unit limit left.now was.now) }
+{
+    let mut now = Vec::new(alloc);
+    for place in 0..was.len() {
+        let Some(outcome) = back_at(unit, limit, left, was, place) else {
+            return Ok(None);
+        };
+        put(&mut now, outcome)?;
+    }
+    Ok(Some(Now::new(now)))
+}
+
+/// The entry of the card that takes this one back, under an id; none where what stood cannot be
+/// typed.
+fn undone_entry(
+    alloc: Global,
+    id: FormId,
+    meet: &Meet,
+    card: &CardEntry,
+) -> Result<Option<Entry>, AllocError>
+    requires few { length card.now.now < 256 }
+    requires entered { All (λ o. IfSome o IsEntered) card.now.now }
+    ensures { IfOk result (λ entry. entry ≡ undone_entry meet.now.accepted id card.entry.now) }
+{
+    let Some(settings) = meet.settings(card.id.event, card.id.round) else {
+        return Ok(None);
+    };
+    let left = values_left(alloc, meet, card, settings)?;
+    let unit = unit_of(card.id.event);
+    let Some(now) = back_of(alloc, unit, settings.limit, &left, card.was.as_slice())? else {
+        return Ok(None);
+    };
+    let undone = CardEntry {
+        id: card.id,
+        number: card.number,
+        was: Was::new(left),
+        now,
+    };
+    card_entry(alloc, id, undone)
+}
+
+/// What is to be done for a card that is to be taken back.
+fn plan_undo_card(
+    alloc: Global,
+    outbox: &Outbox,
+    around: &Around<'_>,
+    of: u64,
+    card: &CardEntry,
+) -> Result<Plan, AllocError>
+    requires { IsFitCard card.now }
+    ensures { IfOk result
+        (PlansUndoCard around.entry.now outbox.now.list of (Some card.entry.now)) }
+{
+    let place = cards_place(alloc, card.id)?;
+    let meet = around.mirror.meet();
+    let Some(entry) = undone_entry(alloc, first_id(around.ids), meet, card)? else {
+        return refuse(alloc, around, &place, UNTYPED);
+    };
+    if !has_room(outbox, 1) {
+        return Ok(Plan::problem(Problem::Busy));
+    }
+    Ok(Plan::see(place, Effect::Again { entry, of }))
+}
+
+/// What is to be done for an item that is saved, and is to be taken back.
+fn plan_undo_item(
+    alloc: Global,
+    outbox: &Outbox,
+    around: &Around<'_>,
+    of: u64,
+    item: &Item,
+) -> Result<Plan, AllocError>
+    ensures { IfOk result (PlansUndoIf true around.entry.now outbox.now.list of item.now) }
+{
+    match fit_card(alloc, item.entry.text())? {
+        Some(card) => plan_undo_card(alloc, outbox, around, of, &card),
+        None => Ok(Plan::problem(Problem::BadForm)),
+    }
+}
+
+/// What is to be done for the form that takes a saved card back: a new card is entered, over what
+/// that card left, with what stood before it.
+pub(crate) fn plan_undo(
+    alloc: Global,
+    outbox: &Outbox,
+    around: &Around<'_>,
+    pairs: &Pairs,
+) -> Result<Plan, AllocError>
+    ensures { IfOk result (PlansUndo around.entry.now outbox.now.list pairs.now) }
+{
+    let Some(of) = id_of(pairs) else {
+        return Ok(Plan::problem(Problem::BadForm));
+    };
+    match outbox.find(of) {
+        None => Ok(Plan::problem(Problem::BadForm)),
+        Some(item) if may_undo(outbox, around.mirror, of) => {
+            plan_undo_item(alloc, outbox, around, of, item)
+        }
+        Some(item) => plan_leaving(alloc, item, of, false),
+    }
+}

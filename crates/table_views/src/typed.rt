@@ -1,0 +1,157 @@
+//! A card as it was typed.
+
+ghost use Rattle.std.specs.Prelude.{◌≡◌, ◌++◌, OnOk};
+ghost use Rattle.attempts.specs.Texts.{multi_text, time_text};
+ghost use Rattle.cube.specs.notation.Notation.{spelling as moves_text};
+ghost use Rattle.card_forms.specs.Readings.{shown_at};
+ghost use Rattle.table_views.specs.Typed.{entered_typed, outcome_span, outcome_typed};
+ghost use Rattle.table_views.specs.Typed.{penalty_text, span_start, typed_from};
+
+use acceptor::NoMemory;
+use attempts::{Unit, Value, push_two_digits};
+use cube::Move;
+use markup::{Piece, push_pieces};
+use round_words::push_value;
+use texts::Entered;
+
+/// Adds the seconds that penalties add, after a plus; nothing where there is none.
+fn push_penalties(out: &mut Vec<u8>, penalties: u8) -> Result<(), NoMemory>
+    ensures { OnOk result (out.new.items ≡ out.old.items ++ penalty_text penalties) }
+{
+    if penalties == 0 {
+        return Ok(());
+    }
+    push_pieces(
+        out,
+        &[Piece::Html(b"+"), Piece::Number(2 * penalties as u64)],
+    )
+}
+
+/// Adds hundredths of a second, as they are typed.
+fn push_time(out: &mut Vec<u8>, hundredths: u32) -> Result<(), NoMemory>
+    ensures { OnOk result (out.new.items ≡ out.old.items ++ time_text hundredths) }
+{
+    push_value(out, Value::Number(hundredths), Unit::Time)
+}
+
+/// Adds the moves of a solution.
+fn push_moves(out: &mut Vec<u8>, moves: &[Move]) -> Result<(), NoMemory>
+    ensures { OnOk result (out.new.items ≡ out.old.items ++ moves_text moves.now) }
+{
+    let text = cube::notation::print(*out.allocator(), moves)?;
+    out.extend_from_slice(&text)
+}
+
+/// Adds a result of multi-blind.
+fn push_multi(out: &mut Vec<u8>, solved: u8, attempted: u8, seconds: u16) -> Result<(), NoMemory>
+    ensures { OnOk result (out.new.items
+        ≡ out.old.items ++ multi_text solved attempted seconds) }
+{
+    push_pieces(
+        out,
+        &[
+            Piece::Number(solved as u64),
+            Piece::Html(b"/"),
+            Piece::Number(attempted as u64),
+            Piece::Html(b" "),
+            Piece::Number(seconds as u64 / 60),
+            Piece::Html(b":"),
+        ],
+    )?;
+    push_two_digits(out, seconds as u32 % 60)
+}
+
+/// Adds what is entered for an attempt, as a scoretaker may type it.
+fn push_entered(out: &mut Vec<u8>, entered: &Entered) -> Result<(), NoMemory>
+    ensures { OnOk result (out.new.items ≡ out.old.items ++ entered_typed entered.now) }
+{
+    match entered {
+        Entered::Time {
+            hundredths,
+            penalties,
+        } => {
+            push_time(out, *hundredths)?;
+            push_penalties(out, *penalties)
+        }
+        Entered::Solution { moves } => push_moves(out, moves.as_slice()),
+        Entered::Multi {
+            solved,
+            attempted,
+            seconds,
+        } => push_multi(out, *solved, *attempted, *seconds),
+        Entered::Dnf => out.extend_from_slice(b"DNF"),
+        Entered::Dns => out.extend_from_slice(b"DNS"),
+    }
+}
+
+/// Adds what stands at a place, counted from 0, if anything does.
+pub(crate) fn push_shown(
+    out: &mut Vec<u8>,
+    unit: Unit,
+    was: &[Value],
+    place: usize,
+) -> Result<(), NoMemory>
+    ensures { OnOk result (out.new.items ≡ out.old.items ++ shown_at unit was.now place) }
+{
+    match was.get(place) {
+        Some(value) => push_value(out, *value, unit),
+        None => Ok(()),
+    }
+}
+
+/// Adds what a card says of the attempt at a place, counted from 0; where it stays, what stood.
+fn push_outcome(
+    out: &mut Vec<u8>,
+    unit: Unit,
+    was: &[Value],
+    place: usize,
+    outcome: &Option<Entered>,
+) -> Result<(), NoMemory>
+    ensures { OnOk result (out.new.items
+        ≡ out.old.items ++ outcome_typed unit was.now place outcome.now) }
+{
+    match outcome {
+        Some(entered) => push_entered(out, entered),
+        None => push_shown(out, unit, was, place),
+    }
+}
+
+/// How the words of an attempt begin: one that stays is marked.
+fn span_start(outcome: &Option<Entered>) -> &'static [u8]
+    ensures { result.now ≡ span_start outcome.now }
+{
+    match outcome {
+        Some(_) => b"<span>",
+        None => b"<span class=\"kept\">",
+    }
+}
+
+fn push_span(
+    out: &mut Vec<u8>,
+    unit: Unit,
+    was: &[Value],
+    place: usize,
+    outcome: &Option<Entered>,
+) -> Result<(), NoMemory>
+    ensures { OnOk result (out.new.items
+        ≡ out.old.items ++ outcome_span unit was.now place outcome.now) }
+{
+    out.extend_from_slice(span_start(outcome))?;
+    push_outcome(out, unit, was, place, outcome)?;
+    out.extend_from_slice(b"</span>")
+}
+
+/// Adds what a card says of each attempt.
+pub(crate) fn push_typed(
+    out: &mut Vec<u8>,
+    unit: Unit,
+    was: &[Value],
+    now: &[Option<Entered>],
+) -> Result<(), NoMemory>
+    ensures { OnOk result (out.new.items ≡ out.old.items ++ typed_from unit was.now 0 now.now) }
+{
+    for (place, outcome) in now.iter().enumerate() {
+        push_span(out, unit, was, place, outcome)?;
+    }
+    Ok(())
+}

@@ -1,0 +1,107 @@
+"""A browser that a script drives by key presses: Chromium without a window, through chromedriver.
+Both are asked over HTTP, as WebDriver has it.
+"""
+
+import json
+import subprocess
+import time
+import urllib.error
+import urllib.request
+
+import running
+
+NAMED = {"Enter": "\ue007", "Esc": "\ue00c", "Tab": "\ue004", "Back": "\ue003", "Home": "\ue011",
+         "Up": "\ue013", "Down": "\ue015", "Shift": "\ue008", "F9": "\ue039"}
+ARGUMENTS = ["--headless=new", "--no-sandbox", "--disable-gpu", "--disable-dev-shm-usage",
+             "--window-size=1400,1000"]
+
+
+class Refused(Exception):
+    """What the browser was asked for, it did not do."""
+
+
+class Driver:
+    """The program that drives browsers, and ends them with itself."""
+
+    def __init__(self):
+        [port] = running.free_ports(1)
+        self.address = f"http://127.0.0.1:{port}"
+        self.program = subprocess.Popen(["chromedriver", f"--port={port}"], stdout=subprocess.PIPE,
+                                        stderr=subprocess.STDOUT, text=True)
+        for line in self.program.stdout:
+            if "started successfully" in line:
+                break
+        self.browsers = []
+
+    def browser(self):
+        self.browsers.append(Browser(self.address))
+        return self.browsers[-1]
+
+    def end(self):
+        for browser in self.browsers:
+            try:
+                browser.ask("DELETE", "")
+            except (Refused, OSError):
+                pass
+        self.program.kill()
+        self.program.communicate()
+
+
+class Browser:
+    """A browser with one page."""
+
+    def __init__(self, address):
+        self.path = f"{address}/session"
+        wanted = {"goog:chromeOptions": {"args": ARGUMENTS}, "unhandledPromptBehavior": "ignore"}
+        made = self.ask("POST", "", {"capabilities": {"alwaysMatch": wanted}})
+        self.path += "/" + made["sessionId"]
+        self.pressed = 0
+
+    def ask(self, method, path, fields=None):
+        body = None if method != "POST" else json.dumps(fields or {}).encode()
+        request = urllib.request.Request(self.path + path, body, method=method)
+        request.add_header("Content-Type", "application/json")
+        try:
+            with urllib.request.urlopen(request, timeout=60) as answer:
+                return json.load(answer)["value"]
+        except urllib.error.HTTPError as fault:
+            told = json.load(fault)["value"]
+            raise Refused(f"{told['error']}: {told['message'].splitlines()[0]}") from None
+
+    def go(self, address):
+        self.ask("POST", "/url", {"url": address})
+
+    def run(self, script, *values):
+        """What a script returns that runs in the page."""
+        return self.ask("POST", "/execute/sync", {"script": script, "args": list(values)})
+
+    def press(self, *keys):
+        """Presses keys, one after the other: each a name of NAMED, or a text, key by key."""
+        keys = [key for word in keys for key in ([NAMED[word]] if word in NAMED else word)]
+        steps = [{"type": kind, "value": key} for key in keys for kind in ("keyDown", "keyUp")]
+        self.pressed += len(keys)
+        self.ask("POST", "/actions", {"actions": [{"type": "key", "id": "k", "actions": steps}]})
+
+    def click(self, selector):
+        found = self.ask("POST", "/element", {"using": "css selector", "value": selector})
+        [element] = found.values()
+        self.ask("POST", f"/element/{element}/click")
+
+    def asked(self):
+        """What the page asks in a dialog that is open. None where none is."""
+        try:
+            return self.ask("GET", "/alert/text")
+        except Refused:
+            return None
+
+    def answer(self, yes):
+        self.ask("POST", "/alert/accept" if yes else "/alert/dismiss")
+
+    def wait(self, script, *values, seconds=20):
+        """Waits until a script returns something that is true, and gives that."""
+        end = time.monotonic() + seconds
+        while not (found := self.run(script, *values)):
+            if time.monotonic() > end:
+                raise Refused(f"not so after {seconds} s: {script} {values}")
+            time.sleep(0.02)
+        return found
