@@ -1,5 +1,6 @@
 """Makes what bash completes for a program of what the program's --help prints: its subcommands, its
-options, the words that an option or an argument can be where the help lists them, and files."""
+options, the words that an option or an argument can be where the help lists them, files, and where
+an argument is a command of a competition the words of these, which the help of `replay` lists."""
 
 import re
 
@@ -36,9 +37,18 @@ def words_of(said):
     return options, said.subcommands() + values
 
 
-def offered_by(said, indent):
+def commands_of(said):
+    """The words of a competition's commands, which a help lists one a line."""
+    lines = [line for part in said.after for line in part.splitlines()]
+    found = [re.match(r"  ([A-Z]+) ", line) for line in lines]
+    return list(dict.fromkeys(it[1] for it in found if it))
+
+
+def offered_by(said, indent, commands=()):
     """The lines that fill COMPREPLY for one help."""
     options, words = words_of(said)
+    if any("TEXT" in given for given, _ in said.items["Arguments"]):
+        words += commands
     lines = []
     arms = arms_of(said)
     if arms:
@@ -64,9 +74,10 @@ def script_of(name, program):
     if subcommands:
         lines += ["  local asked=", "  ((COMP_CWORD > 1)) && asked=${COMP_WORDS[1]}",
                   '  case "$asked" in']
-        for subcommand in subcommands:
-            own = manual.help_of(program, subcommand)
-            lines += [f"    {subcommand})", *offered_by(own, "      "), "      ;;"]
+        helps = {it: manual.help_of(program, it) for it in subcommands}
+        commands = commands_of(helps["replay"]) if "replay" in helps else []
+        for subcommand, own in helps.items():
+            lines += [f"    {subcommand})", *offered_by(own, "      ", commands), "      ;;"]
         lines += [f'    help) offered="{" ".join(subcommands)}" ;;', "    *)",
                   *offered_by(said, "      "), "      ;;", "  esac"]
     else:
