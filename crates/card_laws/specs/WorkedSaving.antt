@@ -1,5 +1,5 @@
--- Worked by hand: two cards of one entrant in a hall's log. The first is told saved; the second, over
--- what stood in front of the first, is told changed.
+-- Worked by hand: two cards of one entrant in a hall's log. The first is told saved; the second,
+-- over what stood in front of the first, is told changed.
 use Rattle.std.specs.Prelude.{◌≡◌, List, [], ◌∷◌, codes, Some, None}
 use Rattle.acceptor.specs.declared.entry.Entry.{Entry}
 use Rattle.attempts.specs.declared.Value.TheVariants as value
