@@ -1,0 +1,9 @@
+use Rattle.seal_laws.proofs.Connected.{connected}
+use Rattle.seal_laws.proofs.Hearing.{both_hear}
+use Rattle.seal_laws.proofs.laws.both_sides_hear.Goals as goal
+
+pub returns-clause-hear : goal.returns-clause-hear
+returns-clause-hear c = both_hear
+
+pub returns-clause-example : goal.returns-clause-example
+returns-clause-example c = connected

@@ -1,0 +1,65 @@
+-- The two sides of a sealed connection: a caller that has one of a desk's keys, and the desk.
+use Rattle.std.specs.Prelude.{◌≡◌, ℕ, List, [], ◌++◌, Some, None}
+use Rattle.seal.specs.Records.{IsBody, preface_of}
+use Rattle.seal.specs.Streams.{BeginsRecord}
+use Rattle.sealed.specs.declared.callers.Doors.TheVariants.{Locked}
+use Rattle.sealed.specs.declared.callers.Holder.{Holder}
+use Rattle.sealed.specs.declared.callers.Holder.TheVariants.{Hall, Entry}
+use Rattle.sealed.specs.declared.callers.Locks.{Locks}
+use Rattle.sealed.specs.Admitting.{comes_under}
+use Rattle.sealed.specs.Calls.{CalledOf, Stands}
+use Rattle.sealed.specs.Sent.{HasSent, key_for}
+use Rattle.sealed.specs.ends.Calls.{CallOf, trouble_of}
+use Rattle.sealed.specs.ends.Laws.{IsCall}
+use Rattle.seal_laws.specs.Keys.{AreRandom}
+
+-- under the entry key: what the caller sent after its preface does not begin with a record that
+-- fits under the hall's key too
+abbrev pub IsNotTheHalls : Holder → Locks → List ℕ → List ℕ → List ℕ → Type 0
+IsNotTheHalls Hall locks client server sent = Unit {0}
+IsNotTheHalls Entry locks client server sent =
+    (stream : List ℕ) → sent ≡ preface_of client ++ stream
+    → ¬ BeginsRecord (comes_under client server locks.hall) 0 stream
+
+-- a caller and a desk, as the calls of each side have led to it: all that the caller sent came to
+-- the desk, and the desk's preface and all that it sent came to the caller
+pub record AreConnected (caller : CallOf) (desk : CalledOf)
+    (asked handed answered heard : List ℕ) : Type 0 where
+  pub locks : Locks
+  pub who : Holder
+  pub key : List ℕ
+  pub client : List ℕ
+  pub server : List ℕ
+  pub sent : List ℕ
+  pub back : List ℕ
+  pub held : key_for locks who ≡ Some key
+  pub random : AreRandom client server
+  -- the caller was given what it asks, and handed on what it heard
+  pub calls : IsCall (Some key) client caller (preface_of server ++ back) heard asked sent
+  pub all_sent : caller.output ≡ []
+  -- the desk handed on what came, and was given its answers
+  pub doors : desk.doors ≡ Locked locks
+  pub desk_random : desk.random ≡ server
+  pub stands : Stands desk sent handed
+  pub gone : HasSent desk answered back
+  pub apart : IsNotTheHalls who locks client server sent
+
+-- each side is handed on just what the other was given, and the caller finds nothing wrong
+pub record HearEachOther (caller : CallOf) (asked handed answered heard : List ℕ) : Type 0 where
+  pub questions : handed ≡ asked
+  pub answers : heard ≡ answered
+  pub fine : trouble_of caller ≡ None
+
+abbrev pub BothSidesHear : Type 0
+BothSidesHear =
+    (caller : CallOf) (desk : CalledOf) (asked handed answered heard : List ℕ)
+    → AreConnected caller desk asked handed answered heard
+    → HearEachOther caller asked handed answered heard
+
+-- whatever one body is asked and another answered, there is such a connection under the hall's key
+abbrev pub SidesAreConnected : Type 0
+SidesAreConnected =
+    (locks : Locks) (client server question answer : List ℕ) → AreRandom client server
+    → IsBody 0 question → IsBody 0 answer
+    → (caller : CallOf) × (desk : CalledOf)
+    × AreConnected caller desk question question answer answer

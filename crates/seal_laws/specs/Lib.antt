@@ -1,0 +1,4 @@
+pub mod WorkedHmac
+pub mod Tags
+pub mod Keys
+pub mod BothSides

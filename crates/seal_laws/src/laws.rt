@@ -1,0 +1,31 @@
+//! The laws.
+
+ghost use Rattle.seal_laws.specs.BothSides.{BothSidesHear, SidesAreConnected};
+ghost use Rattle.seal_laws.specs.Keys.{KeysAreOfBothSides};
+ghost use Rattle.seal_laws.specs.Tags.{TagsAreOfRecords};
+ghost use Rattle.seal_laws.specs.WorkedHmac.{WorksHmac};
+
+/// Cases of HMAC-SHA-256 from RFC 4231, and what becomes of a key of one block.
+pub fn worked_hmac()
+    ensures { WorksHmac }
+{}
+
+/// A tag is the HMAC, under the key of its connection, of a text that tells the direction, the
+/// number and the body of its record: a law. No two records have one text.
+pub fn tags_are_of_records()
+    ensures { TagsAreOfRecords }
+{}
+
+/// A connection's key is the HMAC, under the hall's key or the entry key, of a text that tells the
+/// random bytes of the client and those of the server: a law.
+pub fn keys_are_of_both_sides()
+    ensures { KeysAreOfBothSides }
+{}
+
+/// Where a caller has a key of a desk, and all that either sent came to the other, each was handed
+/// on just what the other was given to send, and nothing is wrong: a law. There is such a
+/// connection for whatever is asked and answered.
+pub fn both_sides_hear()
+    ensures hear { BothSidesHear }
+    ensures example { SidesAreConnected }
+{}
