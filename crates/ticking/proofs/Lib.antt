@@ -4,3 +4,4 @@ pub mod Spread
 pub mod Quiet
 pub mod Ticks
 pub mod Rows
+pub mod Still

@@ -25,11 +25,11 @@ backed_off t l h e =
     let d = doubled t.times (first_pause t) h.times in
     ap (λ (n : ℕ). n * first_pause t) k ∙ d
 
-new_times : (new : Bool) (k : ℕ) → new ≡ true → (if new then 1 else k) ≡ 1
+pub new_times : (new : Bool) (k : ℕ) → new ≡ true → (if new then 1 else k) ≡ 1
 new_times true k e = refl
 new_times false k e = cc
 
-new_since : (new due : Bool) (a b : ℕ) → new ≡ true → (if new || due then a else b) ≡ a
+pub new_since : (new due : Bool) (a b : ℕ) → new ≡ true → (if new || due then a else b) ≡ a
 new_since true due a b e = refl
 new_since false due a b e = cc
 
@@ -73,11 +73,11 @@ in_time t m quiet l h q e =
       late = λ k. due.1 (omega arith);
     }
 
-true_or_false : (b : Bool) → (b ≡ true) ⊎ (b ≡ false)
+pub true_or_false : (b : Bool) → (b ≡ true) ⊎ (b ≡ false)
 true_or_false true = inl refl
 true_or_false false = inr refl
 
-neither : (a b : Bool) → a ≡ false → b ≡ false → (a || b) ≡ false
+pub neither : (a b : Bool) → a ≡ false → b ≡ false → (a || b) ≡ false
 neither true b e f = cc
 neither false b e f = f
 

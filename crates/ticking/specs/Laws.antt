@@ -1,6 +1,7 @@
 -- Laws of tickers.
 use Rattle.std.specs.Prelude.{◌≡◌, ◌⊎◌, ◌↔◌, ℕ, zero, suc, ◌+◌, ◌*◌, ◌≤◌, ◌<◌, min, Bool, true}
 use Rattle.std.specs.Prelude.{false, List, [], ◌∷◌, ◌++◌, IsTrue, IsFalse}
+use Rattle.std.specs.List.{AllByRecursion}
 use Rattle.ticking.specs.Ticking.{IsPeriod, IsDesk, Ticking, Look, new_ticker, slot, first_pause}
 use Rattle.ticking.specs.Ticking.{pause, due_at, waits, is_new, is_due, counts_from, after}
 use Rattle.ticking.specs.Ticking.{after_all, left}
@@ -90,6 +91,24 @@ abbrev pub TicksInTime : Ticking → ℕ → List Look → Look → Type 0
 TicksInTime t moment looks last =
     CountsFrom t moment → SeesNothingNew t (looks ++ last ∷ [])
     → moment + 32 * t.period ≤ last.now → TakesTick t (looks ++ last ∷ [])
+
+-- commands wait at a look, and the log is this long
+abbrev pub IsStill : ℕ → Look → Type 0
+IsStill log l = (l.log ≡ log) × (1 ≤ l.queued)
+
+-- from one look to another nothing happens but that time passes, 16 first pauses or more: at both,
+-- and at each between, commands wait, and the log is as long
+pub record NothingHappens (t : Ticking) (log : ℕ) (first : Look) (looks : List Look) (last : Look)
+    : Type 0 where
+  pub still : AllByRecursion (IsStill log) (first ∷ (looks ++ last ∷ []))
+  pub begun : t.since ≤ first.now
+  pub late : first.now + 16 * first_pause t ≤ last.now
+
+-- said of what is shown alone: what counts as new does not matter
+abbrev pub TicksWhereNothingHappens : Ticking → ℕ → Look → List Look → Look → Type 0
+TicksWhereNothingHappens t log first looks last =
+    IsReached t → NothingHappens t log first looks last
+    → TakesTick t (first ∷ (looks ++ last ∷ []))
 
 -- a later look, at which commands wait as at the last one
 pub record GoesOn (t : Ticking) (now : ℕ) (l : Look) : Type 0 where

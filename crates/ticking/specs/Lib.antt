@@ -1,2 +1,3 @@
 pub mod Ticking
 pub mod Laws
+pub mod Worked

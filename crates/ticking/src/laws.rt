@@ -3,7 +3,9 @@
 ghost use Rattle.std.specs.Prelude.{ℕ, Bool, List};
 ghost use Rattle.ticking.specs.Ticking.{Ticking, Look};
 ghost use Rattle.ticking.specs.Laws.{PausesAreBounded, BacksOff, FallsBack, KeepsTime};
-ghost use Rattle.ticking.specs.Laws.{TicksInTime, Wakes, AreSpread, StaySpread};
+ghost use Rattle.ticking.specs.Laws.{TicksInTime, TicksWhereNothingHappens, Wakes, AreSpread};
+ghost use Rattle.ticking.specs.Laws.{StaySpread};
+ghost use Rattle.ticking.specs.Worked.{WorksTicker};
 
 /// Where commands wait, a pause is at least one period and less than 32; where none waits, it is at
 /// least 10 periods and less than 20.
@@ -37,6 +39,15 @@ pub fn keeps_time()
 pub fn ticks_in_time()
     ensures { (t : Ticking) (moment : ℕ) (looks : List Look) (last : Look) →
         TicksInTime t moment looks last }
+{}
+
+/// Where commands wait and nothing happens, a Tick is taken within 16 first pauses: over looks of
+/// which each sees a command and the log as long as the first does, and the last comes 16 first
+/// pauses or more after the first. A ticker that was worked by hand takes its Ticks so.
+pub fn ticks_where_nothing_happens()
+    ensures ticks { (t : Ticking) (log : ℕ) (first : Look) (looks : List Look) (last : Look) →
+        TicksWhereNothingHappens t log first looks last }
+    ensures example { WorksTicker }
 {}
 
 /// A caller that waits as long as `left` says finds a Tick due, and none is due before.
