@@ -188,7 +188,7 @@ def exchange(given, kind, body, wanted, spoken=FIRST):
             wire = opened(stream, wait, given.key)
             wire.write(struct.pack(">I", len(inside)) + inside)
         except OSError:
-            raise Fault("cannot write", 4) from None
+            raise Fault(*NO_ANSWER) from None
         (length,) = struct.unpack(">I", wire.read(4))
         if not LEAST <= length <= MOST:
             raise Fault(*NO_ANSWER)

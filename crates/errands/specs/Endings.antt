@@ -13,17 +13,27 @@ trouble_ending trouble.NoKey = ending.NoKey
 trouble_ending trouble.OtherKey = ending.OtherKey
 trouble_ending trouble.HasKey = ending.HasKey
 
--- the desk ended it: the keys do not fit, or a byte of the answer had come, or none
+-- it broke off, and a byte of the answer had come, or none
+abbrev pub broken_ending : (heard : Bool) → Ending
+broken_ending true = ending.Own
+broken_ending false = ending.Gone
+
+-- the desk ended it in good order: the keys do not fit, or it broke off
 abbrev pub cut_ending : Option CallTrouble → (heard : Bool) → Ending
 cut_ending (Some t) heard = trouble_ending t
-cut_ending None true = ending.Own
-cut_ending None false = ending.Gone
+cut_ending None heard = broken_ending heard
 
--- a read failed so: the desk was waited for in vain, or it cut the connection off, which ends as
--- this says
-abbrev pub ending_at : ErrorKind → (cut : Ending) → Ending
-ending_at kind.TimedOut cut = ending.Late
-ending_at kind.WouldBlock cut = ending.Late
-ending_at kind.ConnectionReset cut = cut
-ending_at kind.ConnectionAborted cut = cut
-ending_at _ cut = ending.Own
+-- a read failed so: the desk was waited for in vain, or the connection broke off, which is no sign
+-- of keys
+abbrev pub ending_at : ErrorKind → (heard : Bool) → Ending
+ending_at kind.TimedOut heard = ending.Late
+ending_at kind.WouldBlock heard = ending.Late
+ending_at kind.ConnectionReset heard = broken_ending heard
+ending_at kind.ConnectionAborted heard = broken_ending heard
+ending_at _ heard = ending.Own
+
+-- the end of a connection is a sign of keys only where the desk was there afterwards
+abbrev pub sure_ending : Ending → (there : Bool) → Ending
+sure_ending ending.NoKey false = ending.Gone
+sure_ending ending.OtherKey false = ending.Gone
+sure_ending e there = e

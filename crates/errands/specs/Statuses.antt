@@ -80,7 +80,7 @@ unknown_host_text desk address =
 abbrev pub fault_of_client : ClientFault → DeskFault
 fault_of_client (client.Refused refusal) = fault.Refused refusal
 fault_of_client client.NoAnswer = fault.NoAnswer
-fault_of_client client.Write = fault.Run run.Write
+fault_of_client client.Write = fault.NoAnswer
 fault_of_client client.NoMemory = fault.Run run.NoMemory
 
 -- the fault of lines that are entered

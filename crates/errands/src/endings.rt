@@ -1,7 +1,8 @@
 //! How connections end.
 
 ghost use Rattle.std.specs.Prelude.{◌≡◌};
-ghost use Rattle.errands.specs.Endings.{cut_ending, ending_at, trouble_ending};
+ghost use Rattle.errands.specs.Endings.{broken_ending, cut_ending, ending_at, sure_ending};
+ghost use Rattle.errands.specs.Endings.{trouble_ending};
 
 use batch::Ending;
 use sealed::ends::CallTrouble;
@@ -18,26 +19,44 @@ pub(crate) fn trouble_ending(trouble: CallTrouble) -> Ending
     }
 }
 
-/// How a connection ends that the desk ended, where its end tells this of the keys, and a byte of
-/// the answer had come, or none.
+/// How a connection ends that broke off, where a byte of the answer had come, or none.
+fn broken_ending(heard: bool) -> Ending
+    ensures { result ≡ broken_ending heard }
+{
+    if heard { Ending::Own } else { Ending::Gone }
+}
+
+/// How a connection ends that the desk ended in good order, where its end tells this of the keys,
+/// and a byte of the answer had come, or none.
 pub(crate) fn cut_ending(trouble: Option<CallTrouble>, heard: bool) -> Ending
     ensures { result ≡ cut_ending trouble heard }
 {
     match trouble {
         Some(trouble) => trouble_ending(trouble),
-        None => { if heard { Ending::Own } else { Ending::Gone } }
+        None => broken_ending(heard),
     }
 }
 
-/// How a connection ends on which a read fails so. Where the desk cut it off, it ends as `cut`
-/// says.
-pub(crate) fn ending_at(kind: ErrorKind, cut: Ending) -> Ending
-    ensures { result ≡ ending_at kind cut }
+/// How a connection ends on which a read fails so, where a byte of the answer had come, or none. It
+/// tells nothing of the keys: a desk that dies resets its connections.
+pub(crate) fn ending_at(kind: ErrorKind, heard: bool) -> Ending
+    ensures { result ≡ ending_at kind heard }
 {
     match kind {
         // the system says of a read that waited in vain that it would block
         ErrorKind::TimedOut | ErrorKind::WouldBlock => Ending::Late,
-        ErrorKind::ConnectionReset | ErrorKind::ConnectionAborted => cut,
+        ErrorKind::ConnectionReset | ErrorKind::ConnectionAborted => broken_ending(heard),
         _ => Ending::Own,
+    }
+}
+
+/// How a connection ends that ended so, where the desk was there afterwards, or was not. The end of
+/// a connection tells of keys only at a desk that is there: one that dies ends its connections too.
+pub(crate) fn sure_ending(ending: Ending, there: bool) -> Ending
+    ensures { result ≡ sure_ending ending there }
+{
+    match ending {
+        Ending::NoKey | Ending::OtherKey if !there => Ending::Gone,
+        _ => ending,
     }
 }

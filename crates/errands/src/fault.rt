@@ -88,8 +88,8 @@ impl From<ClientFault> for DeskFault {
     fn from(fault: ClientFault) -> DeskFault {
         match fault {
             ClientFault::Refused { refusal } => DeskFault::Refused { refusal },
-            ClientFault::NoAnswer => DeskFault::NoAnswer,
-            ClientFault::Write => DeskFault::Run(RunFault::Write),
+            // a desk that ends takes no request and gives no answer
+            ClientFault::NoAnswer | ClientFault::Write => DeskFault::NoAnswer,
             ClientFault::NoMemory => DeskFault::Run(RunFault::NoMemory),
         }
     }

@@ -11,7 +11,7 @@ use sealed::ends::Call;
 use std::alloc::Global;
 use std::io;
 use std::io::{Cursor, ErrorKind, Read};
-use std::net::TcpStream;
+use std::net::{SocketAddr, TcpStream};
 
 /// So many reads bring a whole record, however few bytes each has.
 const MOST_READS: u32 = 20_000;
@@ -21,6 +21,8 @@ const MOST_READS: u32 = 20_000;
 #[derive(Drop)]
 pub struct Answer<'a> {
     stream: TcpStream,
+    /// Where the desk is.
+    to: SocketAddr,
     wait: Wait<'a>,
     /// What comes, and what of it the desk said.
     call: Call,
@@ -32,12 +34,19 @@ pub struct Answer<'a> {
 }
 
 impl<'a> Answer<'a> {
-    /// What comes over this stream, from the first request on.
-    pub(crate) fn new(alloc: Global, stream: TcpStream, wait: Wait<'a>, call: Call) -> Answer<'a>
+    /// What comes over this stream from a desk, from the first request on.
+    pub(crate) fn new(
+        alloc: Global,
+        stream: TcpStream,
+        to: SocketAddr,
+        wait: Wait<'a>,
+        call: Call,
+    ) -> Answer<'a>
         ensures { result.call ≡ call }
     {
         Answer {
             stream,
+            to,
             wait,
             call,
             said: Cursor::new(Vec::new(alloc)),
@@ -62,10 +71,9 @@ impl<'a> Answer<'a> {
         ensures count { ReadsAtMost result piece.new }
         ensures call { self.new.call ≡ self.old.call }
     {
-        let cut = cut_ending(self.call.trouble_at_end(), self.heard);
         match self.read_in_time(piece) {
             Ok(0) => {
-                self.ending = cut;
+                self.ending = cut_ending(self.call.trouble_at_end(), self.heard);
                 Ok(0)
             }
             Ok(count) => {
@@ -73,7 +81,7 @@ impl<'a> Answer<'a> {
                 Ok(count)
             }
             Err(error) => {
-                self.ending = ending_at(error.kind(), cut);
+                self.ending = ending_at(error.kind(), self.heard);
                 Err(error)
             }
         }
@@ -132,6 +140,11 @@ impl<'a> Answer<'a> {
     /// What is known of the connection's end.
     pub(crate) fn ending(&self) -> Ending {
         self.ending
+    }
+
+    /// Where the desk is, and what is left of the wait for it.
+    pub(crate) fn place(&self) -> (SocketAddr, Wait<'a>) {
+        (self.to, self.wait)
     }
 }
 

@@ -10,7 +10,8 @@ use std::io::Write;
 use std::time::{Clock, Instant};
 use texts::Answer;
 
-/// After so many milliseconds without a decision it is said what is waited for.
+/// After so many milliseconds without a decision, or without room in the desk's queue, it is said
+/// what is waited for.
 const PATIENCE: u64 = 2_000;
 
 /// So many milliseconds lie between two lines of progress.
@@ -198,6 +199,20 @@ impl<'a, T: Clock, F: Write, H: Reasons> Report<'a, T, F, H> {
         }
     }
 
+    /// Writes why the line is waited for. Where no decision is, the desk's queue has no room.
+    fn write_reason(&mut self) {
+        if !self.waits {
+            let _ = self.faults.write_all(b"the desk's queue is full");
+            return;
+        }
+        match self.reasons.reason(self.alloc) {
+            Some(reason) => write_shown(self.alloc, self.faults, &reason),
+            None => {
+                let _ = self.faults.write_all(b"it is not decided yet");
+            }
+        }
+    }
+
     /// Says that the line is waited for, and why.
     fn tell_waiting(&mut self) {
         self.end_open();
@@ -207,12 +222,7 @@ impl<'a, T: Clock, F: Write, H: Reasons> Report<'a, T, F, H> {
         } else {
             let _ = self.faults.write_all(b"waiting: ");
         }
-        match self.reasons.reason(self.alloc) {
-            Some(reason) => write_shown(self.alloc, self.faults, &reason),
-            None => {
-                let _ = self.faults.write_all(b"it is not decided yet");
-            }
-        }
+        self.write_reason();
         let _ = self.faults.write_all(b"\n");
         self.current.is_told = true;
     }
@@ -251,7 +261,7 @@ impl<T: Clock, F: Write, H: Reasons> Watch for Report<'_, T, F, H> {
 
     fn waits(&mut self, _tries: u32) {
         self.show();
-        if self.waits && !self.current.is_told && is_due(self.now(), self.current.since, PATIENCE) {
+        if !self.current.is_told && is_due(self.now(), self.current.since, PATIENCE) {
             self.tell_waiting();
         }
     }

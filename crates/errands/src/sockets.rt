@@ -6,6 +6,7 @@ ghost use Rattle.sealed.specs.ends.Calls.{own_key};
 ghost use Rattle.errands.specs.Keying.{AreUnder};
 
 use crate::drawing::drawn_bytes;
+use crate::endings::sure_ending;
 use crate::incoming::Answer;
 use crate::outgoing::Outgoing;
 use crate::waiting::Wait;
@@ -13,7 +14,7 @@ use batch::{Contact, Dial, Ending};
 use sealed::ends::Call;
 use std::alloc::Global;
 use std::io::ErrorKind;
-use std::net::{TcpStream, ToSocketAddrs};
+use std::net::{SocketAddr, TcpStream, ToSocketAddrs};
 use std::time::Duration;
 use std::{io, thread};
 
@@ -39,12 +40,16 @@ impl<'a> Sockets<'a> {
     }
 }
 
-/// Opens a connection to the first of the addresses that answers.
-fn connected(rt: &HostRuntime, address: &str, wait: &Wait<'_>) -> io::Result<TcpStream> {
+/// Opens a connection to the first of the addresses that answers, and says to which.
+fn connected(
+    rt: &HostRuntime,
+    address: &str,
+    wait: &Wait<'_>,
+) -> io::Result<(TcpStream, SocketAddr)> {
     let mut last = io::Error::from(ErrorKind::InvalidInput);
     for to in address.to_socket_addrs(rt)? {
         match TcpStream::connect_timeout(rt, &to, wait.left()?) {
-            Ok(stream) => return Ok(stream),
+            Ok(stream) => return Ok((stream, to)),
             Err(error) => last = error,
         }
     }
@@ -86,25 +91,57 @@ fn open(answer: &mut Answer<'_>, outgoing: &mut Outgoing) -> io::Result<()>
     Ok(())
 }
 
-/// Opens a connection for a request, under the contact's key, if it has one.
-fn dialed<'a>(rt: &'a HostRuntime, contact: Contact<'_>) -> io::Result<(Answer<'a>, Outgoing)>
-    ensures { IfOk result (λ c. AreUnder contact.entry.key c.0 c.1) }
+/// Begins what goes over a new connection to a desk, under this key, if there is one.
+fn begun<'a>(
+    rt: &'a HostRuntime,
+    stream: TcpStream,
+    to: SocketAddr,
+    wait: Wait<'a>,
+    key: Option<[u8; 32]>,
+) -> io::Result<(Answer<'a>, Outgoing)>
+    ensures { IfOk result (λ c. AreUnder key c.0 c.1) }
 {
     let alloc = rt.alloc();
-    let wait = Wait::new(rt, contact.patience)?;
-    let stream = connected(rt, contact.address, &wait)?;
     // where it is refused, the request is only slower
     let _ = stream.set_nodelay(true);
     stream.set_write_timeout(Some(wait.left()?))?;
     let random = drawn_bytes(rt)?;
-    let hears = call_of(alloc, contact.key, random)?;
-    let says = call_of(alloc, contact.key, random)?;
+    let hears = call_of(alloc, key, random)?;
+    let says = call_of(alloc, key, random)?;
     let mut outgoing = Outgoing::new(stream.try_clone()?, says);
-    let mut answer = Answer::new(alloc, stream, wait, hears);
+    let mut answer = Answer::new(alloc, stream, to, wait, hears);
     match open(&mut answer, &mut outgoing) {
         Err(error) if error.kind() == ErrorKind::OutOfMemory => Err(error),
         // where it failed, the answer knows how the connection ends
         _ => Ok((answer, outgoing)),
+    }
+}
+
+/// Opens a connection for a request, under the contact's key, if it has one.
+fn dialed<'a>(rt: &'a HostRuntime, contact: Contact<'_>) -> io::Result<(Answer<'a>, Outgoing)>
+    ensures { IfOk result (λ c. AreUnder contact.entry.key c.0 c.1) }
+{
+    let wait = Wait::new(rt, contact.patience)?;
+    let (stream, to) = connected(rt, contact.address, &wait)?;
+    begun(rt, stream, to, wait, contact.key)
+}
+
+/// Whether a desk that ended a connection as one does without a key, or with another, begins the
+/// next one so too. A preface is all that is sent on it, in which no key has a part.
+fn is_there(rt: &HostRuntime, reader: &Answer<'_>) -> bool {
+    let (to, wait) = reader.place();
+    let Ok(left) = wait.left() else {
+        return false;
+    };
+    let Ok(stream) = TcpStream::connect_timeout(rt, &to, left) else {
+        return false;
+    };
+    match begun(rt, stream, to, wait, Some([0; 32])) {
+        Ok((answer, outgoing)) => match reader.ending() {
+            Ending::NoKey => answer.ending() == Ending::NoKey,
+            _ => outgoing.is_open(),
+        },
+        Err(_) => false,
     }
 }
 
@@ -125,8 +162,11 @@ impl<'a> Dial for Sockets<'a> {
         reader.begin();
     }
 
+    /// That the keys don't fit is said where a second connection tells so too.
     fn hang_up(&mut self, reader: Answer<'a>, _writer: Outgoing) -> Ending {
-        reader.ending()
+        let ending = reader.ending();
+        let is_told = matches!(ending, Ending::NoKey | Ending::OtherKey);
+        sure_ending(ending, is_told && is_there(self.rt, &reader))
     }
 
     fn pause(&mut self, tries: u32) {

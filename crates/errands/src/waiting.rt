@@ -5,7 +5,7 @@ use std::io::ErrorKind;
 use std::time::{Duration, Instant};
 
 /// The time from which a desk is waited for, and how long.
-#[derive(Drop)]
+#[derive(Clone, Copy)]
 pub(crate) struct Wait<'a> {
     rt: &'a HostRuntime,
     start: Instant,

@@ -22,7 +22,7 @@ use Rattle.explaining.specs.declared.findings.Finding.TheVariants as finding
 -- a file that cannot be opened, read or written
 abbrev pub of_opening : ErrorKind → Option FileFinding
 of_opening kind.PermissionDenied = Some file.NotAllowed
-of_opening kind.ReadOnlyFilesystem = Some file.NotAllowed
+of_opening kind.ReadOnlyFilesystem = Some file.ReadOnly
 of_opening kind.StorageFull = Some file.Full
 of_opening kind.QuotaExceeded = Some file.Full
 of_opening kind.NotFound = Some file.NoFolder

@@ -30,6 +30,7 @@ IsOfSystem file.NoFolder = Unit {0}
 IsOfSystem file.IsFolder = Unit {0}
 IsOfSystem file.NotPlain = Unit {0}
 IsOfSystem file.NotAllowed = Unit {0}
+IsOfSystem file.ReadOnly = Unit {0}
 IsOfSystem file.Full = Unit {0}
 IsOfSystem _ = ⊥
 

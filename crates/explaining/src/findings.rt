@@ -16,6 +16,8 @@ pub enum FileFinding {
     NotPlain,
     /// This user may not open it.
     NotAllowed,
+    /// Nobody may write to its disk.
+    ReadOnly,
     /// This user may not write in its folder.
     FolderClosed,
     /// Another program has it open.

@@ -15,6 +15,7 @@ pub(crate) fn of_file(what: FileFinding) -> &'static str
         FileFinding::IsFolder => "it is a folder; name a file",
         FileFinding::NotPlain => "it is a link or a device, or has a second name; name the file",
         FileFinding::NotAllowed => "this user may not read and write it; look at its rights",
+        FileFinding::ReadOnly => "its disk is mounted for reading only; look at the disk",
         FileFinding::FolderClosed => "this user may not write in its folder; look at its rights",
         FileFinding::HeldOpen => "another program has it open; end that one first",
         FileFinding::LogHeldOpen => "a desk has it open; ask that one: desk log --to ADDR",

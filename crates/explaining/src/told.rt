@@ -18,9 +18,8 @@ pub(crate) fn of_opening(kind: ErrorKind) -> Option<FileFinding>
     ensures { result ≡ of_opening kind }
 {
     match kind {
-        ErrorKind::PermissionDenied | ErrorKind::ReadOnlyFilesystem => {
-            Some(FileFinding::NotAllowed)
-        }
+        ErrorKind::PermissionDenied => Some(FileFinding::NotAllowed),
+        ErrorKind::ReadOnlyFilesystem => Some(FileFinding::ReadOnly),
         ErrorKind::StorageFull | ErrorKind::QuotaExceeded => Some(FileFinding::Full),
         ErrorKind::NotFound | ErrorKind::NotADirectory => Some(FileFinding::NoFolder),
         ErrorKind::IsADirectory => Some(FileFinding::IsFolder),

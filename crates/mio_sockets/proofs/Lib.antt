@@ -1,3 +1,4 @@
+pub mod Closed
 pub mod Driving
 pub mod Each
 pub mod Pushing

@@ -100,6 +100,22 @@ fn keep_each<C: Wires, W: Write>(
     }
 }
 
+/// Goes on with the connections that were closed before, and keeps each link.
+#[tactic(auto, using(crate::proofs::Closed::kept_after, crate::proofs::Closed::looked_after))]
+fn keep_all<C: Wires, W: Write>(
+    desks: &mut [Neighbour],
+    wires: &mut C,
+    lines: &mut Option<W>,
+    now: u64,
+)
+    ensures keeps { KeepsLines (C.wired wires.old) (C.wired wires.new) desks.old desks.new }
+    ensures settled { AreSettled now desks.new }
+    ensures looks { Looks C.looked wires.old wires.new (LookAtAll desks.old) }
+{
+    wires.end_closed(now);
+    keep_each(desks, wires, lines, now);
+}
+
 /// The place of the desk with this number.
 fn place_of(desks: &[Neighbour], desk: u8) -> Option<usize>
     ensures { result ≡ position (has_number desk) desks.now }
@@ -188,6 +204,7 @@ impl<C: Wires, W: Write> Links for DeskLinks<C, W> {
     ghost due = { λ links now left. left ≡ soonest links.lines now };
 
     /// Drives each link: opens, writes and closes what is due, and tells the lines that are due.
+    /// Connections that were closed before go on to end.
     fn keep(&mut self, now: u64)
         ensures keeps { KeepsLines (C.wired self.old.wires) (C.wired self.new.wires)
             self.old.lines self.new.lines }
@@ -196,7 +213,7 @@ impl<C: Wires, W: Write> Links for DeskLinks<C, W> {
             (LookAtAll self.old.lines) }
     {
         self.now = now;
-        keep_each(&mut self.desks, &mut self.wires, &mut self.lines, now);
+        keep_all(&mut self.desks, &mut self.wires, &mut self.lines, now);
     }
 
     fn wait(&self, now: u64) -> Option<u64> {

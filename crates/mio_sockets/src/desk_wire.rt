@@ -248,10 +248,11 @@ impl DeskWire {
         heard
     }
 
-    /// Closes the connection, if there is one.
-    pub(crate) fn close(&mut self)
+    /// Lets the connection go, if there is one, and says with it who was asked there.
+    pub(crate) fn let_go(&mut self) -> Option<(KeyedStream, Asking)>
         ensures { self.new.stream ≡ None }
     {
-        self.stream = None;
+        let stream = self.stream.take()?;
+        Some((stream, self.asking))
     }
 }

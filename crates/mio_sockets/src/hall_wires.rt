@@ -6,6 +6,7 @@ ghost use Rattle.mio_sockets.specs.Keying.{key_of, wires_of};
 
 use crate::asking::Asking;
 use crate::desk_wire::DeskWire;
+use crate::endings::Endings;
 use crate::keyed_stream::KeyedStream;
 use crate::wires::{Heard, Opening, Trouble};
 use multiplex::Taken;
@@ -24,6 +25,7 @@ pub(crate) struct HallWires {
     key: Option<[u8; 32]>,
     /// The connection to each desk, in the place of the desk's number.
     desks: [DeskWire; PLACES],
+    endings: Endings,
 }
 
 impl Model for HallWires {
@@ -45,6 +47,7 @@ impl HallWires {
         HallWires {
             key,
             desks: [wire(0), wire(1), wire(2), wire(3), wire(4), wire(5)],
+            endings: Endings::new(alloc),
         }
     }
 
@@ -56,7 +59,8 @@ impl HallWires {
     }
 
     /// Has a connection to a desk that was begun, or could not be. False: it could not be, or there
-    /// is no such desk.
+    /// is no such desk. Where it could not be, those that are ending are closed, since sockets may
+    /// be scarce.
     pub(crate) fn begin(&mut self, desk: u8, connected: io::Result<KeyedStream>) -> bool
         requires { IfOk connected (λ stream. key_of stream ≡ self.old.key) }
         ensures { self.new ≡ self.old }
@@ -64,6 +68,9 @@ impl HallWires {
         let place = usize::from(desk);
         if place >= PLACES {
             return false;
+        }
+        if connected.is_err() {
+            self.endings.close();
         }
         self.desks[place].begin(connected)
     }
@@ -113,13 +120,23 @@ impl HallWires {
         }
     }
 
-    /// Closes the connection to this desk, if there is one.
+    /// Ends the connection to this desk, if there is one.
     pub(crate) fn close(&mut self, desk: u8)
         ensures { self.new ≡ self.old }
     {
         let place = usize::from(desk);
-        if place < PLACES {
-            self.desks[place].close();
+        if place >= PLACES {
+            return;
         }
+        if let Some((stream, asking)) = self.desks[place].let_go() {
+            self.endings.end(stream, asking);
+        }
+    }
+
+    /// Goes on with the connections that are ending, at this moment.
+    pub(crate) fn end_closed(&mut self, now: u64)
+        ensures { self.new ≡ self.old }
+    {
+        self.endings.go_on(now);
     }
 }

@@ -9,6 +9,7 @@ use polled::sockets::is_waiting;
 use sealed::ends::{Call, CallTrouble};
 use std::io;
 use std::io::{ErrorKind, Read, Write};
+use std::net::Shutdown;
 
 /// How often a connection is read, or written to, at once.
 const MOST_CALLS: u32 = 16;
@@ -74,6 +75,11 @@ impl KeyedStream {
             Ok(_) => Ok(()),
             Err(error) => Err(error.kind()),
         }
+    }
+
+    /// Tells the desk that no more is sent. False: it can't be told.
+    pub(crate) fn shut(&self) -> bool {
+        self.stream.shutdown(Shutdown::Write).is_ok()
     }
 
     /// Whether something can be sent.

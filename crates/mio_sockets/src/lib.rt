@@ -6,6 +6,7 @@ mod asking;
 mod clients;
 mod desk_links;
 mod desk_wire;
+mod endings;
 mod hall_wires;
 mod keyed_stream;
 mod neighbour;

@@ -118,9 +118,18 @@ impl<R: Net + RandomSource> Wires for SocketWires<'_, R> {
         self.wires.trouble(desk)
     }
 
+    /// The desk is told that no more is sent, and what it still sends is read.
     fn close(&mut self, desk: u8)
         ensures { self.new ≡ self.old }
     {
         self.wires.close(desk);
+    }
+
+    /// A connection is kept until the desk has ended it too, for two seconds at most. No more than
+    /// 16 are kept.
+    fn end_closed(&mut self, now: u64)
+        ensures { self.new ≡ self.old }
+    {
+        self.wires.end_closed(now);
     }
 }

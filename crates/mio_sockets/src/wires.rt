@@ -80,4 +80,10 @@ pub trait Wires {
     fn close(&mut self, desk: u8)
         ensures told { Tells (wired self.old) (wired self.new) (Closed desk ∷ []) }
         ensures looks { Tells (looked self.old) (looked self.new) [] };
+
+    /// Goes on, at this moment, with connections that were closed, so that what was written on them
+    /// comes to their desks.
+    fn end_closed(&mut self, now: u64)
+        ensures told { Tells (wired self.old) (wired self.new) [] }
+        ensures looks { Tells (looked self.old) (looked self.new) [] };
 }

@@ -11,10 +11,11 @@ use crate::fault::ServeFault;
 use crate::twins::twins_in;
 use hall_file::service::Service;
 use mio_sockets::{DeskLinks, SocketClients, SocketLinks, SocketWires};
+use prompt_lines::PromptLines;
 use sealed::Doors;
 use std::alloc::{AllocError, Global};
 use std::io;
-use std::io::{ErrorKind, Stderr, Write};
+use std::io::{ErrorKind, Write};
 use std::net::{Net, SocketAddr, ToSocketAddrs};
 
 /// The first address of a text, an IP address or a host's name and a port.
@@ -124,7 +125,7 @@ pub fn links_to<'r>(
     service: Service<'_>,
     doors: Doors,
     clients: &SocketClients<'r, HostRuntime>,
-) -> Result<SocketLinks<'r, HostRuntime, Stderr>, ServeFault>
+) -> Result<SocketLinks<'r, HostRuntime, PromptLines>, ServeFault>
     ensures links { IfOk result
         (λ links. LeadTo (map (λ t. t.now) service.entry.addresses.now) links.lines) }
     ensures key { IfOk result (λ links. links.wires ≡ wires_of (hall_key doors)) }
@@ -140,10 +141,10 @@ pub fn links_to<'r>(
     let lines = if service.quiet {
         None
     } else {
-        let mut stderr = rt.stderr();
-        let _ = tell_twins(&mut stderr, service.addresses);
-        let _ = tell_missing(&mut stderr, service.addresses, &addresses);
-        Some(stderr)
+        let mut lines = PromptLines::new(rt.stderr(), rt.alloc());
+        let _ = tell_twins(&mut lines, service.addresses);
+        let _ = tell_missing(&mut lines, service.addresses, &addresses);
+        Some(lines)
     };
     match DeskLinks::new(
         rt.alloc(),
