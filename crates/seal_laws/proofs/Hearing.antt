@@ -1,5 +1,5 @@
 -- Each side of a sealed connection hears what the other was given to send.
-use Rattle.std.proofs.Common.{◌≡◌, ◌⊎◌, ℕ, List, [], ◌∷◌, ◌++◌, length}
+use Rattle.std.proofs.Common.{◌≡◌, ◌≢◌, ◌⊎◌, ℕ, List, [], ◌∷◌, ◌++◌, length}
 use Rattle.std.proofs.Common.{Option, Some, None, refl, sym, ap, subst, ◌∙◌, arith, inl, inr}
 use Rattle.std.proofs.Common.{append_assoc}
 use Rattle.std.proofs.lemmas.List.{append-nil, append_cancel_left, length-append}
@@ -22,7 +22,7 @@ use Rattle.sealed.specs.declared.callers.Locks.{Locks}
 use Rattle.sealed.specs.declared.ends.trouble.CallTrouble.{CallTrouble}
 use Rattle.sealed.specs.declared.ends.trouble.CallTrouble.TheVariants.{NoKey, OtherKey, HasKey}
 use Rattle.sealed.specs.Admitting.{Admits, IsNobody, IsSealed, comes_under, goes_under}
-use Rattle.sealed.specs.Calls.{caller_of}
+use Rattle.sealed.specs.Calls.{caller_of, held_by}
 use Rattle.sealed.specs.Fronts.{IsShort, IsUnsealed}
 use Rattle.sealed.specs.Sent.{IsSent, IsSentSealed, key_for}
 use Rattle.sealed.specs.Trials.{Hands, HandsBy}
@@ -267,6 +267,27 @@ desk_side None who locks key client server sent asked handed answered out sixtee
   record { bodies = []; each = tt; gives = sym g.0; whole = g.1 },
 )
 
+-- once something was asked, the desk knows whose key it is
+known_as : (w : Option Caller) (who : Holder) (locks : Locks)
+    (key client server sent asked handed : List ℕ) → length client ≡ 16
+    → key_for locks who ≡ Some key → IsNotTheHalls who locks client server sent
+    → Went key client server asked sent → Admits (Locked locks) server sent handed w
+    → handed ≡ asked → asked ≢ [] → w ≡ Some (held_by who)
+known_as (Some Anyone) who locks key client server sent asked handed sixteen is apart w a same
+    some =
+    absurd cc
+known_as (Some Passer) who locks key client server sent asked handed sixteen is apart w a same
+    some =
+    absurd (sealed_no client (records (comes_under client server key) 0 w.bodies)
+    (subst (λ (s : List ℕ). IsUnsealed s) w.whole a.3))
+known_as (Some (caller.Holder k)) who locks key client server sent asked handed sixteen is apart w a
+    same some =
+    let both = sealed_side who (Some k) a.0 locks key client server sent asked handed
+    (one_lock a.0 locks a.1) sixteen is apart w a.2 in
+    ap (λ (x : Holder). Some (held_by x)) (by_who k who both.1)
+known_as None who locks key client server sent asked handed sixteen is apart w a same some =
+    absurd (some (sym same ∙ a.2))
+
 -- ---- what the caller heard
 
 opened_is : (key client server answered out heard : List ℕ) (fault : Option OpenFault)
@@ -324,4 +345,11 @@ both_hear caller desk asked handed answered heard m =
     m.random.of_server d.1
     (tells_trouble (Some m.key) m.client (preface_of m.server ++ m.back) heard asked m.sent caller
     m.calls) in
-    record { questions = d.0; answers = c.0; fine = c.1 }
+    record {
+      questions = d.0;
+      answers = c.0;
+      fine = c.1;
+      known =
+          known_as (caller_of desk) m.who m.locks m.key m.client m.server m.sent asked handed
+          m.random.of_client m.held m.apart w here d.0;
+    }

@@ -1,3 +1,4 @@
 pub mod Telling
 pub mod Hearing
 pub mod Connected
+pub mod Colliding

@@ -18,7 +18,7 @@ one_way ToClient ToServer e = absurd (omega (arith, e))
 one_way ToClient ToClient e = refl
 
 -- lists that begin alike go on alike
-first_and_rest : (a b : ℕ) (x y : List ℕ) → a ∷ x ≡ b ∷ y → (a ≡ b) × (x ≡ y)
+pub first_and_rest : (a b : ℕ) (x y : List ℕ) → a ∷ x ≡ b ∷ y → (a ≡ b) × (x ≡ y)
 first_and_rest a b x y e = (cc, cc)
 
 one_number : (n m : ℕ) → n < 2 ^ 64 → m < 2 ^ 64 → to_be_bytes w64 n ≡ to_be_bytes w64 m → n ≡ m

@@ -1,5 +1,5 @@
 -- The two sides of a sealed connection: a caller that has one of a desk's keys, and the desk.
-use Rattle.std.specs.Prelude.{◌≡◌, ℕ, List, [], ◌++◌, Some, None}
+use Rattle.std.specs.Prelude.{◌≡◌, ◌≢◌, ℕ, List, [], ◌++◌, Some, None}
 use Rattle.seal.specs.Records.{IsBody, preface_of}
 use Rattle.seal.specs.Streams.{BeginsRecord}
 use Rattle.sealed.specs.declared.callers.Doors.TheVariants.{Locked}
@@ -7,7 +7,7 @@ use Rattle.sealed.specs.declared.callers.Holder.{Holder}
 use Rattle.sealed.specs.declared.callers.Holder.TheVariants.{Hall, Entry}
 use Rattle.sealed.specs.declared.callers.Locks.{Locks}
 use Rattle.sealed.specs.Admitting.{comes_under}
-use Rattle.sealed.specs.Calls.{CalledOf, Stands}
+use Rattle.sealed.specs.Calls.{CalledOf, Stands, caller_of, held_by}
 use Rattle.sealed.specs.Sent.{HasSent, key_for}
 use Rattle.sealed.specs.ends.Calls.{CallOf, trouble_of}
 use Rattle.sealed.specs.ends.Laws.{IsCall}
@@ -44,17 +44,20 @@ pub record AreConnected (caller : CallOf) (desk : CalledOf)
   pub gone : HasSent desk answered back
   pub apart : IsNotTheHalls who locks client server sent
 
--- each side is handed on just what the other was given, and the caller finds nothing wrong
-pub record HearEachOther (caller : CallOf) (asked handed answered heard : List ℕ) : Type 0 where
+-- Each side is handed on just what the other was given. The caller finds nothing wrong, and the
+-- desk knows whose key it is, once something was asked.
+pub record HearEachOther (caller : CallOf) (desk : CalledOf) (who : Holder)
+    (asked handed answered heard : List ℕ) : Type 0 where
   pub questions : handed ≡ asked
   pub answers : heard ≡ answered
   pub fine : trouble_of caller ≡ None
+  pub known : asked ≢ [] → caller_of desk ≡ Some (held_by who)
 
 abbrev pub BothSidesHear : Type 0
 BothSidesHear =
     (caller : CallOf) (desk : CalledOf) (asked handed answered heard : List ℕ)
-    → AreConnected caller desk asked handed answered heard
-    → HearEachOther caller asked handed answered heard
+    → (m : AreConnected caller desk asked handed answered heard)
+    → HearEachOther caller desk m.who asked handed answered heard
 
 -- whatever one body is asked and another answered, there is such a connection under the hall's key
 abbrev pub SidesAreConnected : Type 0

@@ -1,6 +1,8 @@
 //! The laws.
 
 ghost use Rattle.seal_laws.specs.BothSides.{BothSidesHear, SidesAreConnected};
+ghost use Rattle.seal_laws.specs.Collisions.{BackIsElsewhere, KeysTell, MacsTell};
+ghost use Rattle.seal_laws.specs.Collisions.{StopsUnlessTheyCollide};
 ghost use Rattle.seal_laws.specs.Keys.{KeysAreOfBothSides};
 ghost use Rattle.seal_laws.specs.Tags.{TagsAreOfRecords};
 ghost use Rattle.seal_laws.specs.WorkedHmac.{WorksHmac};
@@ -23,9 +25,20 @@ pub fn keys_are_of_both_sides()
 {}
 
 /// Where a caller has a key of a desk, and all that either sent came to the other, each was handed
-/// on just what the other was given to send, and nothing is wrong: a law. There is such a
-/// connection for whatever is asked and answered.
+/// on just what the other was given to send, nothing is wrong, and the desk knows whose key it is:
+/// a law. There is such a connection for whatever is asked and answered.
 pub fn both_sides_hear()
     ensures hear { BothSidesHear }
     ensures example { SidesAreConnected }
+{}
+
+/// What is sent again elsewhere ends a stream, or SHA-256 gives two texts one digest: a law. Under
+/// keys of 32 bytes two HMACs are the same only for one key and one text, or two of the texts that
+/// were hashed for them have one digest. So it is with the keys of two connections, and with a
+/// record that comes over another connection, in the other direction or with another number.
+pub fn replays_stop_or_collide()
+    ensures macs { MacsTell }
+    ensures keys { KeysTell }
+    ensures records { StopsUnlessTheyCollide }
+    ensures example { BackIsElsewhere }
 {}

@@ -4,4 +4,7 @@
 
 mod laws;
 
-pub use laws::{both_sides_hear, keys_are_of_both_sides, tags_are_of_records, worked_hmac};
+pub use laws::{
+    both_sides_hear, keys_are_of_both_sides, replays_stop_or_collide, tags_are_of_records,
+    worked_hmac,
+};
