@@ -24,34 +24,35 @@ five_items (p ∷ q ∷ r ∷ s ∷ t ∷ []) a b c d e len ha hb hc hd he = cc
 five_items (p ∷ q ∷ r ∷ s ∷ t ∷ u ∷ xs) a b c d e len ha hb hc hd he = grind arith
 
 -- what a field says that was read
-pub said : (unit : Measure) (was : List Value) (place : ℕ) (text shown : List ℕ)
-    (r : Result Said FieldFault) (it : Said) → shown ≡ text → r ≡ Ok it
-    → IfOk r (Says unit was place shown) → Says unit was place text it
-said unit was place text shown r it same is says =
-    subst (λ (t : List ℕ). Says unit was place t it) same
-    (subst (λ (q : Result Said FieldFault). IfOk q (Says unit was place shown)) is says)
+pub said : (unit : Measure) (was : List Value) (filled : List (List ℕ)) (place : ℕ)
+    (text shown : List ℕ) (r : Result Said FieldFault) (it : Said) → shown ≡ text → r ≡ Ok it
+    → IfOk r (Says unit was filled place shown) → Says unit was filled place text it
+said unit was filled place text shown r it same is says =
+    subst (λ (t : List ℕ). Says unit was filled place t it) same
+    (subst (λ (q : Result Said FieldFault). IfOk q (Says unit was filled place shown)) is says)
 
 -- what is said over the same and of the same texts
-pub say_same : (unit : Measure) (was seen : List Value) (xs texts : List (List ℕ))
-    (says : List Said) → seen ≡ was → texts ≡ xs → AllSay unit seen 0 texts says
-    → AllSay unit was 0 xs says
-say_same unit was seen xs texts says same are all =
-    subst (λ (ys : List (List ℕ)). AllSay unit was 0 ys says) are
-    (subst (λ (vs : List Value). AllSay unit vs 0 texts says) same all)
+pub say_same : (unit : Measure) (was seen : List Value) (filled given xs texts : List (List ℕ))
+    (says : List Said) → seen ≡ was → given ≡ filled → texts ≡ xs
+    → AllSay unit seen given 0 texts says → AllSay unit was filled 0 xs says
+say_same unit was seen filled given xs texts says same as_given are all =
+    subst (λ (ys : List (List ℕ)). AllSay unit was filled 0 ys says) are
+    (subst (λ (fs : List (List ℕ)). AllSay unit was fs 0 texts says) as_given
+    (subst (λ (vs : List Value). AllSay unit vs given 0 texts says) same all))
 
 -- each of five fields says what it says at its place
-pub all_say : (unit : Measure) (was : List Value) (xs : List (List ℕ)) (a b c d e : List ℕ)
+pub all_say : (unit : Measure) (was : List Value) (filled xs : List (List ℕ)) (a b c d e : List ℕ)
     (p q r s t : Said) → length xs ≡ 5 → a ≡ get_or xs 0 a → b ≡ get_or xs 1 b
-    → c ≡ get_or xs 2 c → d ≡ get_or xs 3 d → e ≡ get_or xs 4 e → Says unit was 0 a p
-    → Says unit was 1 b q → Says unit was 2 c r → Says unit was 3 d s → Says unit was 4 e t
-    → AllSay unit was 0 xs (p ∷ q ∷ r ∷ s ∷ t ∷ [])
-all_say unit was xs a b c d e p q r s t len ha hb hc hd he sa sb sc sd se =
-    subst (λ (ys : List (List ℕ)). AllSay unit was 0 ys (p ∷ q ∷ r ∷ s ∷ t ∷ []))
+    → c ≡ get_or xs 2 c → d ≡ get_or xs 3 d → e ≡ get_or xs 4 e → Says unit was filled 0 a p
+    → Says unit was filled 1 b q → Says unit was filled 2 c r → Says unit was filled 3 d s
+    → Says unit was filled 4 e t → AllSay unit was filled 0 xs (p ∷ q ∷ r ∷ s ∷ t ∷ [])
+all_say unit was filled xs a b c d e p q r s t len ha hb hc hd he sa sb sc sd se =
+    subst (λ (ys : List (List ℕ)). AllSay unit was filled 0 ys (p ∷ q ∷ r ∷ s ∷ t ∷ []))
     (sym (five_items xs a b c d e len ha hb hc hd he)) (sa, (sb, (sc, (sd, (se, tt)))))
 
 -- a form whose fields are no card together
 pub not_fit : (form : CardForm) (says : List Said) (why : CardReading)
-    → AllSay (unit_of form.round.event) form.was 0 form.attempts says
+    → AllSay (unit_of form.round.event) form.was form.filled 0 form.attempts says
     → IsUnfitAs form.was says why → IsNotRead form why
 not_fit form says (reading.Unread u) all h = absurd h
 not_fit form says (reading.Unfit why) all h = record { says = says; all = all; is = h }

@@ -33,6 +33,12 @@ fields_of pairs =
     value_of (codes "a1") pairs ∷ value_of (codes "a2") pairs ∷ value_of (codes "a3") pairs
     ∷ value_of (codes "a4") pairs ∷ value_of (codes "a5") pairs ∷ []
 
+-- what the page filled these fields in with, where the form says so
+abbrev pub filled_of : List Pair → List (List ℕ)
+filled_of pairs =
+    value_of (codes "f1") pairs ∷ value_of (codes "f2") pairs ∷ value_of (codes "f3") pairs
+    ∷ value_of (codes "f4") pairs ∷ value_of (codes "f5") pairs ∷ []
+
 -- the card of this id and round, over what its page showed
 abbrev pub form_with : ℕ → RoundId → List Value → List Pair → CardForm
 form_with id round was pairs = record {
@@ -40,6 +46,7 @@ form_with id round was pairs = record {
   round = round;
   number = value_of (codes "number") pairs;
   was = was;
+  filled = filled_of pairs;
   attempts = fields_of pairs;
 }
 

@@ -1,14 +1,16 @@
 -- The entries of what a form asks for.
-use Rattle.std.specs.Prelude.{ℕ, ◌+◌, if◌then◌else◌, nat_le, length, List, [], ◌∷◌}
-use Rattle.std.specs.Prelude.{Option, None, Some, Result, Ok, Err}
+use Rattle.std.specs.Prelude.{◌≡◌, ◌↔◌, ℕ, ◌+◌, Bool, true, if◌then◌else◌, bytes_eq, nat_le, length}
+use Rattle.std.specs.Prelude.{List, [], ◌∷◌, Option, None, Some, Result, Ok, Err}
 use Rattle.acceptor.specs.declared.entry.Entry.{Entry}
 use Rattle.texts.specs.declared.command.CardEntry.{CardEntry}
 use Rattle.texts.specs.declared.command.Command.{Command}
 use Rattle.texts.specs.declared.command.Command.TheVariants.{Card}
 use Rattle.texts.specs.declared.command.Remarked.{Remarked}
 use Rattle.texts.specs.declared.reading.CommandFault.{CommandFault}
+use Rattle.texts.specs.Fields.{cut_remark}
+use Rattle.texts.specs.Names.{is_remark}
 use Rattle.texts.specs.Reading.{command_of}
-use Rattle.texts.specs.Spelling.{spelling}
+use Rattle.texts.specs.Spelling.{spelling, told_spelling}
 
 abbrev pub entry_with : ℕ → List ℕ → Entry
 entry_with id text = record { id = id; text = text }
@@ -17,9 +19,22 @@ entry_with id text = record { id = id; text = text }
 abbrev pub entry_of : ℕ → List ℕ → Option Entry
 entry_of id text = if nat_le (length text) 600 then Some (entry_with id text) else None
 
--- a card is one entry: its text is the spelling of `CARD`, under the id of its form
-abbrev pub card_entry : ℕ → CardEntry → Option Entry
-card_entry id card = entry_of id (spelling (Card card))
+abbrev pub remark_of : List ℕ → Option (List ℕ)
+remark_of bytes = if is_remark bytes then Some bytes else None
+
+-- a card with these bytes as its remark, where they are one
+abbrev pub remarked : CardEntry → List ℕ → Remarked
+remarked card bytes = record { command = Card card; remark = remark_of bytes }
+
+-- its text, without the remark where it would have more than 600 bytes
+abbrev pub card_text : CardEntry → List ℕ → List ℕ
+card_text card bytes =
+    if nat_le (length (told_spelling (remarked card bytes))) 600
+    then told_spelling (remarked card bytes) else spelling (Card card)
+
+-- a card is one entry: its text is that of `CARD`, under the id of its form
+abbrev pub card_entry : ℕ → CardEntry → List ℕ → Option Entry
+card_entry id card bytes = entry_of id (card_text card bytes)
 
 -- the entries of commands: the first has this id, and each further one the next
 abbrev pub command_entries : ℕ → List (List ℕ) → List Entry
@@ -37,3 +52,14 @@ card_told (Ok told) = card_of told.command
 -- the card that a text spells, with whatever remark; none where it spells no `CARD`
 abbrev pub card_in : List ℕ → Option CardEntry
 card_in text = card_told (command_of text)
+
+-- ---- the same but for a remark
+
+abbrev pub is_same_but_remark : List ℕ → List ℕ → Bool
+is_same_but_remark one other = bytes_eq (cut_remark one).0 (cut_remark other).0
+
+-- two texts that spell cards are so exactly where they spell the same card
+abbrev pub SameWhereTheCardIs : Type 0
+SameWhereTheCardIs =
+    (one other : List ℕ) (c d : CardEntry) → card_in one ≡ Some c → card_in other ≡ Some d
+    → (is_same_but_remark one other ≡ true) ↔ (c ≡ d)

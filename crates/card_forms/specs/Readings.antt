@@ -43,9 +43,25 @@ number_of text = number_in (trimmed text)
 abbrev pub shown_at : Measure → List Value → ℕ → List ℕ
 shown_at unit was place = unwrap_or (option_map (value_text unit) (slice_get was place)) []
 
--- a field is as the page showed it, but for the white space around it
-abbrev pub is_untouched : Measure → List Value → ℕ → List ℕ → Bool
-is_untouched unit was place text = bytes_eq (trimmed text) (shown_at unit was place)
+-- the text that a page filled a field in with, where it carries one
+abbrev pub text_at : List (List ℕ) → ℕ → List ℕ
+text_at filled place = unwrap_or (slice_get filled place) []
+
+-- what the field of an attempt is filled in with: nothing where none stands; such a text, where
+-- there is one; and else what the attempt counts
+abbrev pub filled_by : Measure → Option Value → List ℕ → List ℕ
+filled_by unit None text = []
+filled_by unit (Some value) [] = value_text unit value
+filled_by unit (Some value) (b ∷ bs) = b ∷ bs
+
+-- what the page of a card filled the field at a place in with, where these stood
+abbrev pub filled_at : Measure → List Value → List (List ℕ) → ℕ → List ℕ
+filled_at unit was filled place = filled_by unit (slice_get was place) (text_at filled place)
+
+-- a field is as its page filled it in, but for the white space around it
+abbrev pub is_untouched : Measure → List Value → List (List ℕ) → ℕ → List ℕ → Bool
+is_untouched unit was filled place text =
+    bytes_eq (trimmed text) (filled_at unit was filled place)
 
 -- a field that was not touched leaves what stands
 abbrev pub left_at : List Value → ℕ → Said
@@ -61,16 +77,18 @@ abbrev pub SaysBy : Bool → Measure → List Value → ℕ → List ℕ → Sai
 SaysBy true unit was place text it = it ≡ left_at was place
 SaysBy false unit was place text it = SaysTyped unit text it
 
--- what the field at a place says, where the page showed that these stand
-abbrev pub Says : Measure → List Value → ℕ → List ℕ → Said → Type 0
-Says unit was place text it = SaysBy (is_untouched unit was place text) unit was place text it
+-- what the field at a place says, where the page showed that these stand, and filled its fields in
+-- with these texts
+abbrev pub Says : Measure → List Value → List (List ℕ) → ℕ → List ℕ → Said → Type 0
+Says unit was filled place text it =
+    SaysBy (is_untouched unit was filled place text) unit was place text it
 
 -- each field, from this place on, says what stands at its place
-abbrev pub AllSay : Measure → List Value → ℕ → List (List ℕ) → List Said → Type 0
-AllSay unit was place [] [] = Unit {0}
-AllSay unit was place (text ∷ texts) (it ∷ them) =
-    Says unit was place text it × AllSay unit was (suc place) texts them
-AllSay unit was place _ _ = ⊥
+abbrev pub AllSay : Measure → List Value → List (List ℕ) → ℕ → List (List ℕ) → List Said → Type 0
+AllSay unit was filled place [] [] = Unit {0}
+AllSay unit was filled place (text ∷ texts) (it ∷ them) =
+    Says unit was filled place text it × AllSay unit was filled (suc place) texts them
+AllSay unit was filled place _ _ = ⊥
 
 -- ---- a card
 
@@ -117,7 +135,7 @@ pub record IsReadAs (form : CardForm) (entry : CardEntry) : Type 0 where
   pub number : number_of form.number ≡ Ok entry.number
   pub was : entry.was ≡ form.was
   pub says : List Said
-  pub all : AllSay (unit_of form.round.event) form.was 0 form.attempts says
+  pub all : AllSay (unit_of form.round.event) form.was form.filled 0 form.attempts says
   pub fit : unfit form.was says ≡ None
   pub now : entry.now ≡ flat_map stands_by says
 
@@ -129,9 +147,9 @@ FaultsAs unit text field.NoMemory = Unit {0}
 FaultsAs unit text why = Reads unit text (Err why)
 
 -- what is wrong with a field: nothing, where it says something or is empty
-abbrev pub Faults : Measure → List Value → ℕ → List ℕ → Option FieldFault → Type 0
-Faults unit was place text None = (it : Said) × Says unit was place text it
-Faults unit was place text (Some why) = FaultsAs unit text why
+abbrev pub Faults : Measure → List Value → List (List ℕ) → ℕ → List ℕ → Option FieldFault → Type 0
+Faults unit was filled place text None = (it : Said) × Says unit was filled place text it
+Faults unit was filled place text (Some why) = FaultsAs unit text why
 
 abbrev pub fault_in : Result Said FieldFault → Option FieldFault
 fault_in (Ok it) = None
@@ -150,7 +168,7 @@ IsUnfitAs was says reading.NoMemory = Unit {0}
 -- the fields say this, and are no card
 pub record IsUnfit (form : CardForm) (why : CardFault) : Type 0 where
   pub says : List Said
-  pub all : AllSay (unit_of form.round.event) form.was 0 form.attempts says
+  pub all : AllSay (unit_of form.round.event) form.was form.filled 0 form.attempts says
   pub is : unfit form.was says ≡ Some why
 
 -- the form is not read: what is said of its number is what is wrong with it; or its fields are no

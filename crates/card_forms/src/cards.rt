@@ -1,7 +1,7 @@
 //! Cards as they are typed.
 
 ghost use Rattle.std.specs.Prelude.{◌≡◌, ◌↔◌, IfOk, Ok, Err};
-ghost use Rattle.card_forms.specs.Cards.{card_form_of, form_id_of, round_of, fields_of};
+ghost use Rattle.card_forms.specs.Cards.{card_form_of, fields_of, filled_of, form_id_of, round_of};
 ghost use Rattle.card_forms.specs.Pairs.{value_of};
 
 use crate::faults::CardFormFault;
@@ -21,6 +21,8 @@ pub struct CardForm {
     pub number: Typed,
     /// What the page showed that the attempts count.
     pub was: Was,
+    /// What the page filled the fields in with; empty where that is what the attempt counts.
+    pub filled: Fields,
     pub attempts: Fields,
 }
 
@@ -62,9 +64,24 @@ fn fields_of(alloc: Global, pairs: &Pairs) -> Result<Fields, AllocError>
     )
 }
 
+/// What the page filled these fields in with.
+fn filled_of(alloc: Global, pairs: &Pairs) -> Result<Fields, AllocError>
+    ensures { IfOk result (λ fields. fields ≡ filled_of pairs.now) }
+{
+    Fields::new(
+        alloc,
+        typed(alloc, pairs, "f1")?,
+        typed(alloc, pairs, "f2")?,
+        typed(alloc, pairs, "f3")?,
+        typed(alloc, pairs, "f4")?,
+        typed(alloc, pairs, "f5")?,
+    )
+}
+
 /// The card of a form: its `id`, `round` (as `333-1`), `number`, `was` (what the page showed, as
-/// `CARD` spells it), and `a1` to `a5`. A name that is not there has an empty value; of several
-/// pairs of a name the first counts.
+/// `CARD` spells it), `a1` to `a5`, and `f1` to `f5` (what the page filled these in with, where it
+/// says so). A name that is not there has an empty value; of several pairs of a name the first
+/// counts.
 ///
 /// The fault is `BadId`, else `BadRound`, else `BadWas`; `NoMemory` comes in place of a card.
 pub fn card_form(alloc: Global, pairs: &Pairs) -> Result<CardForm, CardFormFault>
@@ -80,12 +97,14 @@ pub fn card_form(alloc: Global, pairs: &Pairs) -> Result<CardForm, CardFormFault
     let round = round_of(pairs.value("round")).ok_or(CardFormFault::BadRound)?;
     let was = was_of(alloc, pairs.value("was"))?.ok_or(CardFormFault::BadWas)?;
     let number = typed(alloc, pairs, "number")?;
+    let filled = filled_of(alloc, pairs)?;
     let attempts = fields_of(alloc, pairs)?;
     Ok(CardForm {
         id,
         round,
         number,
         was,
+        filled,
         attempts,
     })
 }

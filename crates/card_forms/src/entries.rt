@@ -2,15 +2,25 @@
 
 ghost use Rattle.std.specs.Prelude.{◌≡◌, ◌+◌, ◌≤◌, ◌^◌, ◌++◌, ◌∷◌, [], IfOk, OnOk, length};
 ghost use Rattle.acceptor.specs.Entries.{IsId};
-ghost use Rattle.card_forms.specs.Entries.{card_entry, card_in, card_of, command_entries};
-ghost use Rattle.card_forms.specs.Entries.{entry_of, entry_with};
+ghost use Rattle.card_forms.specs.Entries.{SameWhereTheCardIs, card_entry, card_in, card_of};
+ghost use Rattle.card_forms.specs.Entries.{card_text, command_entries, entry_of, entry_with};
+ghost use Rattle.card_forms.specs.Entries.{is_same_but_remark, remark_of};
 
 use crate::command_text::CommandText;
 use crate::command_texts::CommandTexts;
 use crate::form_id::FormId;
 use acceptor::entry::{Entry, EntryFault};
 use std::alloc::{AllocError, Global};
-use texts::{CardEntry, Command, CommandFault, print, read};
+use texts::{
+    CardEntry, Command, CommandFault, Name, Remarked, cut_remark, is_clear_name, print,
+    print_remarked, read,
+};
+
+/// The most bytes of a command's text.
+const MOST_TEXT: usize = 600;
+
+/// The most bytes of a remark.
+const MOST_REMARK: usize = 80;
 
 /// The entry of a text, under this id. None: the text has more than 600 bytes.
 fn entry_of(alloc: Global, id: u64, text: &[u8]) -> Result<Option<Entry>, AllocError>
@@ -25,13 +35,59 @@ fn entry_of(alloc: Global, id: u64, text: &[u8]) -> Result<Option<Entry>, AllocE
     }
 }
 
-/// The entry of a card, under the id of its form. None: its command has more than 600 bytes.
-pub fn card_entry(alloc: Global, id: FormId, card: CardEntry) -> Result<Option<Entry>, AllocError>
-    ensures { IfOk result (λ entry. entry ≡ card_entry id card) }
+/// These bytes as a remark, if they are one.
+fn remark_of(alloc: Global, bytes: &[u8]) -> Result<Option<Name>, AllocError>
+    ensures { IfOk result (λ remark. remark ≡ remark_of bytes.now) }
 {
-    let text = print(alloc, &Command::Card(card))?;
+    if bytes.len() > MOST_REMARK || !is_clear_name(bytes) {
+        return Ok(None);
+    }
+    Ok(Some(Name::new(Vec::from_slice(alloc, bytes)?)))
+}
+
+/// The text of a card, with these bytes as its remark. It has none where they are no remark, or
+/// where it would have more than 600 bytes with it.
+fn card_text(alloc: Global, card: CardEntry, remark: &[u8]) -> Result<Vec<u8>, AllocError>
+    ensures { IfOk result (λ text. text.items ≡ card_text card remark.now) }
+{
+    let told = Remarked {
+        command: Command::Card(card),
+        remark: remark_of(alloc, remark)?,
+    };
+    let text = print_remarked(alloc, &told)?;
+    if text.len() <= MOST_TEXT {
+        return Ok(text);
+    }
+    print(alloc, &told.command)
+}
+
+/// The entry of a card, under the id of its form, with a remark: who entered it, and when. The
+/// remark is left out where it is none, or where it would make the text exceed 600 bytes. None: the
+/// command has more than 600 bytes without a remark.
+pub fn card_entry(
+    alloc: Global,
+    id: FormId,
+    card: CardEntry,
+    remark: &[u8],
+) -> Result<Option<Entry>, AllocError>
+    ensures { IfOk result (λ entry. entry ≡ card_entry id card remark.now) }
+{
+    let text = card_text(alloc, card, remark)?;
     entry_of(alloc, id.number(), &text)
 }
+
+/// Whether two texts are the same but for a remark.
+pub fn is_same_but_remark(one: &[u8], other: &[u8]) -> bool
+    ensures { result ≡ is_same_but_remark one.now other.now }
+{
+    cut_remark(one).0 == cut_remark(other).0
+}
+
+/// A law: two texts that spell cards are the same but for a remark exactly where they spell the
+/// same card.
+pub fn same_where_the_card_is()
+    ensures { SameWhereTheCardIs }
+{}
 
 /// The card of a command, if it is one.
 fn card_of(command: Command) -> Option<CardEntry>

@@ -3,7 +3,7 @@
 //! [`Pairs`] are the names and values of a body of `application/x-www-form-urlencoded`. From them
 //! [`card_form`] takes a card as it was typed, and [`command_form`] a command as it will be sent.
 //! [`card_of`] reads the fields of a card, over what its page showed. [`card_entry`] and
-//! [`command_entries`] are the entries of what a form asks for: a card is one.
+//! [`command_entries`] are the entries of what a form asks for: a card is one, with a remark.
 #![tactic(auto)]
 
 mod asking;
@@ -25,9 +25,11 @@ pub use cards::{CardForm, card_form, form_id_of, round_of};
 pub use command_faults::{CommandFormFault, Field, Wrong};
 pub use command_text::CommandText;
 pub use command_texts::CommandTexts;
-pub use entries::{card_entry, card_in, command_entries};
+pub use entries::{
+    card_entry, card_in, command_entries, is_same_but_remark, same_where_the_card_is,
+};
 pub use faults::{CardFault, CardFormFault, CardReading, NumberFault, Unread};
 pub use form_id::FormId;
 pub use pairs::{Pair, Pairs};
-pub use reading::{card_of, is_untouched, number_of};
+pub use reading::{card_of, is_untouched, number_of, text_at};
 pub use typed::{Fields, Typed};

@@ -5,14 +5,16 @@ ghost use Rattle.std.specs.Prelude.{◌≤◌, ◌<◌, ◌⊎◌, None, Some, l
 ghost use Rattle.std.specs.List.{list_all, list_any};
 ghost use Rattle.formats.specs.Events.{unit_of};
 ghost use Rattle.scorecard.specs.Spelling.{trimmed};
-ghost use Rattle.card_forms.specs.Readings.{changes_nothing, fault_in, gap_in, left_at, unfit};
-ghost use Rattle.card_forms.specs.Readings.{number_fault, number_in, number_of, says_something};
-ghost use Rattle.card_forms.specs.Readings.{shown_at, is_untouched, stands_by, stays, unfit_by};
+ghost use Rattle.card_forms.specs.Readings.{changes_nothing, fault_in, filled_at, filled_by};
+ghost use Rattle.card_forms.specs.Readings.{gap_in, left_at, number_fault, number_in, number_of};
+ghost use Rattle.card_forms.specs.Readings.{says_something, text_at, is_untouched, stands_by};
+ghost use Rattle.card_forms.specs.Readings.{stays, unfit, unfit_by};
 ghost use Rattle.card_forms.specs.Readings.{Faults, Says, SaysTyped, IsReadAs, IsNotRead};
 ghost use Rattle.card_forms.specs.Readings.{IsUnfitAs};
 
 use crate::cards::CardForm;
 use crate::faults::{CardFault, CardReading, NumberFault, Unread};
+use crate::typed::Typed;
 use attempts::{Unit, Value, print_value};
 use formats::{Event, unit_of};
 use scorecard::read;
@@ -58,28 +60,58 @@ pub fn number_of(text: &[u8]) -> Result<u16, NumberFault>
     number_in(trimmed(text))
 }
 
-/// What the page of a card shows of the attempt at a place, counted from 0, where these stand.
-fn shown_at(alloc: Global, unit: Unit, was: &[Value], place: usize) -> Result<Vec<u8>, AllocError>
-    ensures { IfOk result (λ text. text.items ≡ shown_at unit was.now place) }
+/// The text that a page filled a field in with, where it carries one.
+pub fn text_at(filled: &[Typed], place: usize) -> &[u8]
+    ensures { result.now ≡ text_at filled.now place }
+{
+    match filled.get(place) {
+        Some(text) => text.as_bytes(),
+        None => &[],
+    }
+}
+
+/// What the field of an attempt that counts this is filled in with: this text, where it is not
+/// empty, and else what the attempt counts.
+fn filled_by(alloc: Global, unit: Unit, value: Value, text: &[u8]) -> Result<Vec<u8>, AllocError>
+    ensures { IfOk result (λ it. it.items ≡ filled_by unit (Some value) text.now) }
+{
+    if text.is_empty() {
+        print_value(alloc, value, unit)
+    } else {
+        Vec::from_slice(alloc, text)
+    }
+}
+
+/// What the page of a card filled the field at a place in with, counted from 0, where these stood,
+/// and it carries these texts.
+fn filled_at(
+    alloc: Global,
+    unit: Unit,
+    was: &[Value],
+    filled: &[Typed],
+    place: usize,
+) -> Result<Vec<u8>, AllocError>
+    ensures { IfOk result (λ text. text.items ≡ filled_at unit was.now filled.now place) }
 {
     match was.get(place) {
-        Some(value) => print_value(alloc, *value, unit),
+        Some(value) => filled_by(alloc, unit, *value, text_at(filled, place)),
         None => Ok(Vec::new(alloc)),
     }
 }
 
-/// Whether the field at a place, counted from 0, is as the page showed it, where these stood, but
-/// for the white space around it.
+/// Whether the field at a place, counted from 0, is as its page filled it in, where these stood and
+/// it carries these texts, but for the white space around it.
 pub fn is_untouched(
     alloc: Global,
     unit: Unit,
     was: &[Value],
+    filled: &[Typed],
     place: usize,
     text: &[u8],
 ) -> Result<bool, AllocError>
-    ensures { IfOk result (λ is. is ≡ is_untouched unit was.now place text.now) }
+    ensures { IfOk result (λ is. is ≡ is_untouched unit was.now filled.now place text.now) }
 {
-    let shown = shown_at(alloc, unit, was, place)?;
+    let shown = filled_at(alloc, unit, was, filled, place)?;
     Ok(trimmed(text) == shown.as_slice())
 }
 
@@ -97,7 +129,7 @@ fn left_at(was: &[Value], place: usize) -> Said
 /// What was typed into a field.
 fn typed_of(alloc: Global, event: Event, text: &[u8]) -> Result<Said, scorecard::CardFault>
     ensures says { IfOk result (SaysTyped (unit_of event) text.now) }
-    ensures faults { IfErr result (λ why. Faults (unit_of event) [] 0 text.now (Some why)) }
+    ensures faults { IfErr result (λ why. Faults (unit_of event) [] [] 0 text.now (Some why)) }
 {
     if trimmed(text).is_empty() {
         return Ok(Said::Nothing);
@@ -108,19 +140,21 @@ fn typed_of(alloc: Global, event: Event, text: &[u8]) -> Result<Said, scorecard:
     }
 }
 
-/// What the field at a place says, counted from 0, where the page showed that these stand.
+/// What the field at a place says, counted from 0, where the page showed that these stand, and it
+/// carries these texts.
 fn said_at(
     alloc: Global,
     event: Event,
     was: &[Value],
+    filled: &[Typed],
     place: usize,
     text: &[u8],
 ) -> Result<Said, scorecard::CardFault>
-    ensures says { IfOk result (Says (unit_of event) was.now place text.now) }
+    ensures says { IfOk result (Says (unit_of event) was.now filled.now place text.now) }
     ensures faults { IfErr result
-        (λ why. Faults (unit_of event) was.now place text.now (Some why)) }
+        (λ why. Faults (unit_of event) was.now filled.now place text.now (Some why)) }
 {
-    match is_untouched(alloc, unit_of(event), was, place, text) {
+    match is_untouched(alloc, unit_of(event), was, filled, place, text) {
         Ok(true) => Ok(left_at(was, place)),
         Ok(false) => typed_of(alloc, event, text),
         Err(_) => Err(scorecard::CardFault::NoMemory),
@@ -296,8 +330,8 @@ fn was_again(alloc: Global, was: &Was) -> Result<Was, AllocError>
 }
 
 /// The card that a form says, over what its page showed; or what is wrong with each of its fields,
-/// or with all of them together. A field that is as the page showed it stays as it stands. One of
-/// white space alone says nothing; what the others may say, `scorecard::read` says. `NoMemory`
+/// or with all of them together. A field that is as its page filled it in stays as it stands. One
+/// of white space alone says nothing; what the others may say, `scorecard::read` says. `NoMemory`
 /// comes in place of any answer.
 pub fn card_of(alloc: Global, form: &CardForm) -> Result<CardEntry, CardReading>
     ensures read { IfOk result (IsReadAs form.now) }
@@ -306,12 +340,13 @@ pub fn card_of(alloc: Global, form: &CardForm) -> Result<CardEntry, CardReading>
     let texts = form.attempts.as_slice();
     let event = form.round.event;
     let was = form.was.as_slice();
+    let filled = form.filled.as_slice();
     let number = number_of(form.number.as_bytes());
-    let first = said_at(alloc, event, was, 0, texts[0].as_bytes());
-    let second = said_at(alloc, event, was, 1, texts[1].as_bytes());
-    let third = said_at(alloc, event, was, 2, texts[2].as_bytes());
-    let fourth = said_at(alloc, event, was, 3, texts[3].as_bytes());
-    let fifth = said_at(alloc, event, was, 4, texts[4].as_bytes());
+    let first = said_at(alloc, event, was, filled, 0, texts[0].as_bytes());
+    let second = said_at(alloc, event, was, filled, 1, texts[1].as_bytes());
+    let third = said_at(alloc, event, was, filled, 2, texts[2].as_bytes());
+    let fourth = said_at(alloc, event, was, filled, 3, texts[3].as_bytes());
+    let fifth = said_at(alloc, event, was, filled, 4, texts[4].as_bytes());
     let faults = Unread {
         number: number_fault(number),
         attempts: [

@@ -125,7 +125,8 @@ card_head id settings =
     ++ settings_words id.event settings ++ codes "</p>\n"
 
 -- what is said of the card, and its fields
-abbrev pub card_fields : List Command → RoundId → Format → List Value → Draft → List ℕ
-card_fields accepted id format values draft =
+abbrev pub card_fields : List Command → RoundId → Format → List Value → List (List ℕ) → Draft
+    → List ℕ
+card_fields accepted id format values filled draft =
     told (notes_of draft) ++ flat_map (note_at 6) (notes_of draft) ++ number_field accepted draft
-    ++ fields draft (unit_of id.event) values format
+    ++ fields draft (unit_of id.event) values filled format

@@ -1,10 +1,11 @@
 -- The fields of a card's form.
 use Rattle.std.specs.Prelude.{ℕ, ◌-◌, List, [], ◌∷◌, ◌++◌, codes, decimal, flat_map, slice_get}
 use Rattle.std.specs.Prelude.{Bool, true, false, Option, None, Some, option_map, unwrap_or}
+use Rattle.std.specs.Prelude.{if◌then◌else◌, length, nat_lt}
 use Rattle.attempts.specs.declared.Unit.{Unit as Measure}
 use Rattle.attempts.specs.declared.Value.{Value}
 use Rattle.markup.specs.board_page.Escaped.{escaped}
-use Rattle.card_forms.specs.Readings.{is_untouched, shown_at}
+use Rattle.card_forms.specs.Readings.{is_untouched, shown_at, text_at}
 use Rattle.card_forms.specs.declared.cards.CardForm.{CardForm}
 use Rattle.formats.specs.declared.events.Format.{Format}
 use Rattle.rounds.specs.Tables.{Table}
@@ -45,26 +46,49 @@ number_text Empty = []
 number_text (Number number) = decimal number
 number_text (Typed form notes) = escaped form.now.number
 
--- a field that is as its page showed it has what stands now, and else what was typed
+-- the text of the field at a place, counted from 0: what was entered for its attempt, where that
+-- stands and is known
+abbrev pub own_text : List Value → List (List ℕ) → ℕ → List ℕ
+own_text values filled place = if nat_lt place (length values) then text_at filled place else []
+
+abbrev pub inside_by : Measure → List Value → ℕ → List ℕ → List ℕ
+inside_by unit values place [] = shown_at unit values place
+inside_by unit values place (b ∷ bs) = escaped (b ∷ bs)
+
+-- what fills a field in: its own text, where it has one, and else what the attempt counts
+abbrev pub inside : Measure → List Value → List (List ℕ) → ℕ → List ℕ
+inside unit values filled place = inside_by unit values place (own_text values filled place)
+
+-- a field that is as its page filled it in has what fills it in now, and else what was typed
 abbrev pub typed_or : Bool → List ℕ → List ℕ → List ℕ
 typed_or true stands text = stands
 typed_or false stands text = escaped text
 
-abbrev pub typed_by : CardForm → Measure → List Value → ℕ → Option (List ℕ) → List ℕ
-typed_by form unit values place None = []
-typed_by form unit values place (Some text) =
-    typed_or (is_untouched unit form.was place text) (shown_at unit values place) text
+abbrev pub typed_by : CardForm → Measure → List Value → List (List ℕ) → ℕ → Option (List ℕ)
+    → List ℕ
+typed_by form unit values filled place None = []
+typed_by form unit values filled place (Some text) =
+    typed_or (is_untouched unit form.was form.filled place text) (inside unit values filled place)
+    text
 
 -- what was typed into the field at a place, counted from 0
-abbrev pub typed_filled : CardForm → Measure → List Value → ℕ → List ℕ
-typed_filled form unit values place =
-    typed_by form unit values place (slice_get form.attempts place)
+abbrev pub typed_filled : CardForm → Measure → List Value → List (List ℕ) → ℕ → List ℕ
+typed_filled form unit values filled place =
+    typed_by form unit values filled place (slice_get form.attempts place)
 
--- what an attempt's field is filled in with: what stands, or what was typed
-abbrev pub filled : Draft → Measure → List Value → ℕ → List ℕ
-filled Empty unit values place = []
-filled (Number number) unit values place = shown_at unit values place
-filled (Typed form notes) unit values place = typed_filled form.now unit values place
+-- what an attempt's field is filled in with: what was entered or counts, or what was typed
+abbrev pub filled : Draft → Measure → List Value → List (List ℕ) → ℕ → List ℕ
+filled Empty unit values texts place = []
+filled (Number number) unit values texts place = inside unit values texts place
+filled (Typed form notes) unit values texts place = typed_filled form.now unit values texts place
+
+-- the text that fills a field in, unseen, where it has its own
+abbrev pub carried : ℕ → List ℕ → List ℕ
+carried attempt [] = []
+carried attempt (b ∷ bs) = joined (
+    codes "<input type=\"hidden\" name=\"f" ∷ decimal attempt ∷ codes "\" value=\""
+    ∷ escaped (b ∷ bs) ∷ codes "\">" ∷ []
+    )
 
 -- ---- the fields
 
@@ -102,11 +126,13 @@ beside_field draft unit values attempt =
     ++ said_at attempt (notes_of draft) ++ codes "</p>\n"
 
 -- the field of an attempt, with what stands beside it and what is said of it
-unfoldable pub field : Draft → Measure → List Value → ℕ → List ℕ
-field draft unit values attempt =
-    field_start attempt ++ filled draft unit values (attempt - 1)
-    ++ field_end attempt (notes_of draft) ++ beside_field draft unit values attempt
+unfoldable pub field : Draft → Measure → List Value → List (List ℕ) → ℕ → List ℕ
+field draft unit values texts attempt =
+    field_start attempt ++ filled draft unit values texts (attempt - 1)
+    ++ field_end attempt (notes_of draft) ++ carried attempt (own_text values texts (attempt - 1))
+    ++ beside_field draft unit values attempt
 
 -- a field for each attempt of the format
-abbrev pub fields : Draft → Measure → List Value → Format → List ℕ
-fields draft unit values format = flat_map (field draft unit values) (numbers_in format)
+abbrev pub fields : Draft → Measure → List Value → List (List ℕ) → Format → List ℕ
+fields draft unit values texts format =
+    flat_map (field draft unit values texts) (numbers_in format)

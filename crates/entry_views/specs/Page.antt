@@ -12,7 +12,7 @@ use Rattle.table_views.specs.Frame.{top, bottom}
 use Rattle.table_views.specs.Logs.{accepted_in}
 use Rattle.table_views.specs.Recent.{recent_section}
 use Rattle.entry_views.specs.declared.draft.Draft.{Draft}
-use Rattle.entry_views.specs.declared.origin.Origin.{Origin}
+use Rattle.entry_views.specs.declared.past.Past.{Past}
 use Rattle.entry_views.specs.Beside.{IsBeside}
 use Rattle.entry_views.specs.Bounds.{best_in}
 use Rattle.entry_views.specs.Card.{card_head, card_fields, closed_line, form_start, form_end, spare}
@@ -23,14 +23,14 @@ use Rattle.entry_views.specs.Origin.{origin_line}
 -- the form of the card carries the token, the first id and the others as spare ones, and what the
 -- page shows that stands; it says where that comes from, and links to where somebody without an
 -- attempt is withdrawn
-unfoldable pub card_form : Around → RoundId → Settings × Table → Draft → Option Origin → List ℕ
-card_form around id round draft origin =
+unfoldable pub card_form : Around → RoundId → Settings × Table → Draft → Past → List ℕ
+card_form around id round draft past =
     form_start around.token.now (get_or around.ids.now 0 0)
     (flat_map spare (drop 1 around.ids.now)) id round.0 (best_in round.1)
     (standing_of round.1 draft)
-    ++ origin_line origin ++ leaving_line round.1 draft
+    ++ origin_line past.origin ++ leaving_line round.1 draft
     ++ card_fields (accepted_in around.mirror.now) id round.0.format (standing_of round.1 draft)
-    draft ++ form_end
+    past.filled.now draft ++ form_end
 
 abbrev pub card_path : RoundId → List ℕ
 card_path id = codes "/card/" ++ round_name id
@@ -41,36 +41,36 @@ no_form around id =
     edition_form around.token.now (get_or around.ids.now 0 0) (card_path id)
     ++ codes "</section>\n"
 
-abbrev pub form_if : Bool → Around → RoundId → Settings × Table → Draft → Option Origin → List ℕ
-form_if true around id round draft origin = card_form around id round draft origin
-form_if false around id round draft origin = no_form around id
+abbrev pub form_if : Bool → Around → RoundId → Settings × Table → Draft → Past → List ℕ
+form_if true around id round draft past = card_form around id round draft past
+form_if false around id round draft past = no_form around id
 
 -- the section of the card: the round and its rules, whether it is closed, and the form. In a hall
 -- of an earlier edition no card is taken.
-unfoldable pub card_section : Around → RoundId → Settings × Table → Draft → Option Origin → List ℕ
-card_section around id round draft origin =
+unfoldable pub card_section : Around → RoundId → Settings × Table → Draft → Past → List ℕ
+card_section around id round draft past =
     card_head id round.0 ++ closed_line id round.1.is_closed
-    ++ form_if (is_latest (accepted_in around.mirror.now)) around id round draft origin
+    ++ form_if (is_latest (accepted_in around.mirror.now)) around id round draft past
 
 -- what stands before the round
-unfoldable pub front : Around → RoundId → Settings × Table → Draft → Option Origin → List ℕ
-front around id round draft origin =
+unfoldable pub front : Around → RoundId → Settings × Table → Draft → Past → List ℕ
+front around id round draft past =
     top (codes "entry") (round_words id round.0.advance) around.desks.now (length around.mirror.now)
-    ++ card_section around id round draft origin
+    ++ card_section around id round draft past
     ++ recent_section around
 
 -- this text is the page of a card of a round
-abbrev pub IsPageOf : Around → RoundId → Settings × Table → Draft → Option Origin → List ℕ → Type 0
-IsPageOf around id round draft origin page =
+abbrev pub IsPageOf : Around → RoundId → Settings × Table → Draft → Past → List ℕ → Type 0
+IsPageOf around id round draft past page =
     (sheet : List ℕ) × (beside : List ℕ)
     × (table_sheet (accepted_in around.mirror.now) id.event id.round ≡ Some sheet)
     × IsBeside id round.0 round.1 sheet beside
-    × (page ≡ front around id round draft origin ++ beside ++ bottom)
+    × (page ≡ front around id round draft past ++ beside ++ bottom)
 
 -- the page of a card, where the round was opened
-abbrev pub IsCardPage : Around → RoundId → Draft → Option Origin → Option (Settings × Table)
+abbrev pub IsCardPage : Around → RoundId → Draft → Past → Option (Settings × Table)
     → Option (List ℕ) → Type 0
-IsCardPage around id draft origin None page = page ≡ None
-IsCardPage around id draft origin (Some round) None = ⊥
-IsCardPage around id draft origin (Some round) (Some page) =
-    IsPageOf around id round draft origin page
+IsCardPage around id draft past None page = page ≡ None
+IsCardPage around id draft past (Some round) None = ⊥
+IsCardPage around id draft past (Some round) (Some page) =
+    IsPageOf around id round draft past page

@@ -12,7 +12,7 @@ use crate::fields::{notes_of, push_fields, push_number_field};
 use crate::notes::{Note, WHOLE, has_fault, push_note_word, push_notes};
 use acceptor::NoMemory;
 use attempts::{Unit, Value};
-use card_forms::FormId;
+use card_forms::{FormId, Typed};
 use commands::{Meet, print_cutoff, print_limit};
 use formats::{Format, unit_of};
 use markup::{Piece, push_pieces};
@@ -259,16 +259,17 @@ pub(crate) fn push_card_fields(
     id: RoundId,
     format: Format,
     values: &[Value],
+    filled: &[Typed],
     draft: Draft<'_>,
 ) -> Result<(), NoMemory>
     ensures { OnOk result (out.new.items ≡ out.old.items ++ card_fields meet.now.accepted id
-        format values.now draft.entry) }
+        format values.now filled.now draft.entry) }
 {
     let attempts = numbers_in(format);
     push_told(out, notes_of(draft))?;
     push_notes(out, WHOLE, notes_of(draft))?;
     push_number_field(out, meet, draft)?;
-    push_fields(out, draft, values, attempts, unit_of(id.event))?;
+    push_fields(out, draft, values, filled, attempts, unit_of(id.event))?;
     Ok(())
 }
 

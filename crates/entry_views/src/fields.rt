@@ -2,15 +2,16 @@
 
 ghost use Rattle.std.specs.Prelude.{◌≡◌, ◌++◌, OnOk, flat_map};
 ghost use Rattle.card_forms.specs.Readings.{shown_at};
-ghost use Rattle.entry_views.specs.Fields.{beside_field, competitor_of, field, field_start};
-ghost use Rattle.entry_views.specs.Fields.{filled, name_if, notes_of, number_field, number_text};
+ghost use Rattle.entry_views.specs.Fields.{beside_field, carried, competitor_of, field};
+ghost use Rattle.entry_views.specs.Fields.{field_start, filled, inside, inside_by, name_if};
+ghost use Rattle.entry_views.specs.Fields.{notes_of, number_field, number_text, own_text};
 ghost use Rattle.entry_views.specs.Fields.{standing_of, typed_filled, who};
 
 use crate::draft::Draft;
 use crate::notes::{Note, push_field_end, push_said};
 use acceptor::NoMemory;
 use attempts::{Unit, Value};
-use card_forms::{CardForm, is_untouched};
+use card_forms::{CardForm, Typed, is_untouched, text_at};
 use commands::Meet;
 use markup::board_page::push_escaped;
 use markup::{Piece, push_pieces};
@@ -79,24 +80,77 @@ fn push_standing(
     }
 }
 
-/// Adds what was typed into the field at a place, counted from 0; what stands now, where the field
-/// is as its page showed it.
-fn push_typed(
+/// The text of the field at a place, counted from 0: what was entered for its attempt, where that
+/// stands and is known; empty elsewhere.
+fn own_text<'a>(values: &[Value], texts: &'a [Typed], place: usize) -> &'a [u8]
+    ensures { result.now ≡ own_text values.now texts.now place }
+{
+    if place < values.len() {
+        text_at(texts, place)
+    } else {
+        &[]
+    }
+}
+
+/// Adds what fills a field in: its own text, where it has one, and else what stands.
+fn push_inside_by(
     out: &mut Vec<u8>,
-    form: &CardForm,
     values: &[Value],
+    place: usize,
+    unit: Unit,
+    text: &[u8],
+) -> Result<(), NoMemory>
+    ensures { OnOk result (out.new.items
+        ≡ out.old.items ++ inside_by unit values.now place text.now) }
+{
+    if text.is_empty() {
+        push_standing(out, values, place, unit)
+    } else {
+        push_escaped(out, text)
+    }
+}
+
+/// Adds what fills the field at a place in, counted from 0.
+fn push_inside(
+    out: &mut Vec<u8>,
+    values: &[Value],
+    texts: &[Typed],
     place: usize,
     unit: Unit,
 ) -> Result<(), NoMemory>
     ensures { OnOk result (out.new.items
-        ≡ out.old.items ++ typed_filled form.now unit values.now place) }
+        ≡ out.old.items ++ inside unit values.now texts.now place) }
+{
+    push_inside_by(out, values, place, unit, own_text(values, texts, place))
+}
+
+/// Adds what was typed into the field at a place, counted from 0; what fills it in now, where the
+/// field is as its page filled it in.
+fn push_typed(
+    out: &mut Vec<u8>,
+    form: &CardForm,
+    values: &[Value],
+    texts: &[Typed],
+    place: usize,
+    unit: Unit,
+) -> Result<(), NoMemory>
+    ensures { OnOk result (out.new.items
+        ≡ out.old.items ++ typed_filled form.now unit values.now texts.now place) }
 {
     let Some(text) = form.attempts.as_slice().get(place) else {
         return Ok(());
     };
     let alloc = *out.allocator();
-    if is_untouched(alloc, unit, form.was.as_slice(), place, text.as_bytes())? {
-        push_standing(out, values, place, unit)
+    let before = form.filled.as_slice();
+    if is_untouched(
+        alloc,
+        unit,
+        form.was.as_slice(),
+        before,
+        place,
+        text.as_bytes(),
+    )? {
+        push_inside(out, values, texts, place, unit)
     } else {
         push_escaped(out, text.as_bytes())
     }
@@ -107,17 +161,37 @@ fn push_filled(
     out: &mut Vec<u8>,
     draft: Draft<'_>,
     values: &[Value],
+    texts: &[Typed],
     place: usize,
     unit: Unit,
 ) -> Result<(), NoMemory>
     ensures { OnOk result (out.new.items
-        ≡ out.old.items ++ filled draft.entry unit values.now place) }
+        ≡ out.old.items ++ filled draft.entry unit values.now texts.now place) }
 {
     match draft {
         Draft::Empty => Ok(()),
-        Draft::Number(_) => push_standing(out, values, place, unit),
-        Draft::Typed { form, .. } => push_typed(out, form, values, place, unit),
+        Draft::Number(_) => push_inside(out, values, texts, place, unit),
+        Draft::Typed { form, .. } => push_typed(out, form, values, texts, place, unit),
     }
+}
+
+/// Adds the text that fills a field in, unseen, where it has its own.
+fn push_carried(out: &mut Vec<u8>, attempt: u8, text: &[u8]) -> Result<(), NoMemory>
+    ensures { OnOk result (out.new.items ≡ out.old.items ++ carried attempt text.now) }
+{
+    if text.is_empty() {
+        return Ok(());
+    }
+    push_pieces(
+        out,
+        &[
+            Piece::Html(b"<input type=\"hidden\" name=\"f"),
+            Piece::Number(attempt as u64),
+            Piece::Html(b"\" value=\""),
+            Piece::Text(text),
+            Piece::Html(b"\">"),
+        ],
+    )
 }
 
 fn push_field_start(out: &mut Vec<u8>, attempt: u8) -> Result<(), NoMemory>
@@ -165,16 +239,18 @@ fn push_field(
     out: &mut Vec<u8>,
     draft: Draft<'_>,
     values: &[Value],
+    texts: &[Typed],
     attempt: u8,
     unit: Unit,
 ) -> Result<(), NoMemory>
     ensures { OnOk result (out.new.items
-        ≡ out.old.items ++ field draft.entry unit values.now attempt) }
+        ≡ out.old.items ++ field draft.entry unit values.now texts.now attempt) }
 {
     let place = usize::from(attempt).saturating_sub(1);
     push_field_start(out, attempt)?;
-    push_filled(out, draft, values, place, unit)?;
+    push_filled(out, draft, values, texts, place, unit)?;
     push_field_end(out, attempt, notes_of(draft))?;
+    push_carried(out, attempt, own_text(values, texts, place))?;
     push_beside(out, draft, values, attempt, unit)?;
     Ok(())
 }
@@ -184,14 +260,15 @@ pub(crate) fn push_fields(
     out: &mut Vec<u8>,
     draft: Draft<'_>,
     values: &[Value],
+    texts: &[Typed],
     attempts: &[u8],
     unit: Unit,
 ) -> Result<(), NoMemory>
-    ensures { OnOk result (out.new.items
-        ≡ out.old.items ++ flat_map (field draft.entry unit values.now) attempts.now) }
+    ensures { OnOk result (out.new.items ≡ out.old.items
+        ++ flat_map (field draft.entry unit values.now texts.now) attempts.now) }
 {
     for attempt in attempts {
-        push_field(out, draft, values, *attempt, unit)?;
+        push_field(out, draft, values, texts, *attempt, unit)?;
     }
     Ok(())
 }

@@ -11,9 +11,11 @@ mod notes;
 mod origin;
 mod page;
 pub mod paper;
+mod past;
 
 pub use bounds::{best_in, floor_of, single_of};
 pub use draft::Draft;
 pub use notes::{Note, note_word};
 pub use origin::Origin;
 pub use page::card_page;
+pub use past::Past;

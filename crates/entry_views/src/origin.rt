@@ -1,18 +1,22 @@
 //! Where what stands on a card comes from.
 
 ghost use Rattle.std.specs.Prelude.{◌≡◌, ◌++◌, OnOk};
-ghost use Rattle.entry_views.specs.Origin.{origin_line, origin_words, place_words};
+ghost use Rattle.std.specs.Option.{option_copied};
+ghost use Rattle.entry_views.specs.Origin.{entry_words, origin_line, origin_words, place_words};
+ghost use Rattle.entry_views.specs.Origin.{remark_words};
 
 use acceptor::NoMemory;
 use markup::{Piece, push_pieces};
 
 /// Which entry of the log said last what stands of a competitor's attempts.
-#[derive(Clone, Copy, Debug, PartialEq, Eq)]
-pub struct Origin {
+#[derive(Clone, Copy)]
+pub struct Origin<'a> {
     /// How many entries the log has up to and with this one, 1 to 65,536.
     pub position: u32,
     /// Whether it is known to have been entered at this table.
     pub here: bool,
+    /// Its remark, if it has one: who entered it, when, why. It is told, and nothing depends on it.
+    pub remark: Option<&'a [u8]>,
 }
 
 /// Where an entry was entered.
@@ -26,24 +30,51 @@ fn place_words(here: bool) -> &'static [u8]
     }
 }
 
-fn push_words(out: &mut Vec<u8>, origin: Origin) -> Result<(), NoMemory>
-    ensures { OnOk result (out.new.items ≡ out.old.items ++ origin_words origin) }
+/// Adds which entry it is, and where it was entered.
+fn push_entry(out: &mut Vec<u8>, position: u32, here: bool) -> Result<(), NoMemory>
+    ensures { OnOk result (out.new.items ≡ out.old.items ++ entry_words position here) }
 {
     push_pieces(
         out,
         &[
             Piece::Html(b"<p class=\"origin\">Entry "),
-            Piece::Number(origin.position as u64),
+            Piece::Number(position as u64),
             Piece::Html(b" of the log, "),
-            Piece::Html(place_words(origin.here)),
-            Piece::Html(b"</p>\n"),
+            Piece::Html(place_words(here)),
         ],
     )
 }
 
+/// Adds the remark of an entry, if it has one.
+fn push_remark(out: &mut Vec<u8>, remark: Option<&[u8]>) -> Result<(), NoMemory>
+    ensures { OnOk result (out.new.items
+        ≡ out.old.items ++ remark_words (option_copied remark.entry)) }
+{
+    match remark {
+        Some(remark) => push_pieces(
+            out,
+            &[
+                Piece::Html(b", with the remark <q dir=\"auto\">"),
+                Piece::Text(remark),
+                Piece::Html(b"</q>"),
+            ],
+        ),
+        None => Ok(()),
+    }
+}
+
+fn push_words(out: &mut Vec<u8>, origin: Origin<'_>) -> Result<(), NoMemory>
+    ensures { OnOk result (out.new.items ≡ out.old.items ++ origin_words origin.entry) }
+{
+    push_entry(out, origin.position, origin.here)?;
+    push_remark(out, origin.remark)?;
+    out.extend_from_slice(b"</p>\n")?;
+    Ok(())
+}
+
 /// Adds where what stands comes from, if that is known.
-pub(crate) fn push_origin(out: &mut Vec<u8>, origin: Option<Origin>) -> Result<(), NoMemory>
-    ensures { OnOk result (out.new.items ≡ out.old.items ++ origin_line origin) }
+pub(crate) fn push_origin(out: &mut Vec<u8>, origin: Option<Origin<'_>>) -> Result<(), NoMemory>
+    ensures { OnOk result (out.new.items ≡ out.old.items ++ origin_line origin.entry) }
 {
     match origin {
         Some(origin) => push_words(out, origin),

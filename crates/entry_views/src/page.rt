@@ -17,7 +17,8 @@ use crate::card::{
 use crate::draft::Draft;
 use crate::fields::standing_of;
 use crate::leaving::push_leaving;
-use crate::origin::{Origin, push_origin};
+use crate::origin::push_origin;
+use crate::past::Past;
 use acceptor::NoMemory;
 use commands::Meet;
 use round_counts::{Opened, round_opened};
@@ -54,10 +55,10 @@ fn push_form(
     id: RoundId,
     round: Opened<'_>,
     draft: Draft<'_>,
-    origin: Option<Origin>,
+    past: Past<'_>,
 ) -> Result<(), NoMemory>
     ensures { OnOk result (out.new.items ≡ out.old.items ++ card_form around.entry.now id
-        (round.entry.settings, round.entry.table.now) draft.entry origin) }
+        (round.entry.settings, round.entry.table.now) draft.entry past.entry) }
 {
     let values = standing_of(round.table, draft);
     let best = best_in(round.table)?;
@@ -70,7 +71,7 @@ fn push_form(
         best,
         values,
     )?;
-    push_origin(out, origin)?;
+    push_origin(out, past.origin)?;
     push_leaving(out, round.table, draft)?;
     push_card_fields(
         out,
@@ -78,6 +79,7 @@ fn push_form(
         id,
         round.settings.format,
         values,
+        past.filled.as_slice(),
         draft,
     )?;
     push_form_end(out)?;
@@ -110,14 +112,14 @@ fn push_form_if(
     id: RoundId,
     round: Opened<'_>,
     draft: Draft<'_>,
-    origin: Option<Origin>,
+    past: Past<'_>,
 ) -> Result<(), NoMemory>
     ensures { OnOk result (out.new.items ≡ out.old.items
         ++ form_if (is_latest (accepted_in around.entry.now.mirror.now)) around.entry.now id
-        (round.entry.settings, round.entry.table.now) draft.entry origin) }
+        (round.entry.settings, round.entry.table.now) draft.entry past.entry) }
 {
     if is_latest(around.mirror.meet()) {
-        push_form(out, around, id, round, draft, origin)
+        push_form(out, around, id, round, draft, past)
     } else {
         push_no_form(out, around, id)
     }
@@ -131,14 +133,14 @@ fn push_card(
     id: RoundId,
     round: Opened<'_>,
     draft: Draft<'_>,
-    origin: Option<Origin>,
+    past: Past<'_>,
 ) -> Result<(), NoMemory>
     ensures { OnOk result (out.new.items ≡ out.old.items ++ card_section around.entry.now id
-        (round.entry.settings, round.entry.table.now) draft.entry origin) }
+        (round.entry.settings, round.entry.table.now) draft.entry past.entry) }
 {
     push_head(out, id, round.settings)?;
     push_closed(out, id, round.table.is_closed())?;
-    push_form_if(out, around, id, round, draft, origin)?;
+    push_form_if(out, around, id, round, draft, past)?;
     Ok(())
 }
 
@@ -149,14 +151,14 @@ fn push_front(
     id: RoundId,
     round: Opened<'_>,
     draft: Draft<'_>,
-    origin: Option<Origin>,
+    past: Past<'_>,
 ) -> Result<(), NoMemory>
     ensures { OnOk result (out.new.items ≡ out.old.items ++ front around.entry.now id
-        (round.entry.settings, round.entry.table.now) draft.entry origin) }
+        (round.entry.settings, round.entry.table.now) draft.entry past.entry) }
 {
     let title = title_of(*out.allocator(), id, round.settings.advance)?;
     push_top(out, around.desks, around.mirror.len(), b"entry", &title)?;
-    push_card(out, around, id, round, draft, origin)?;
+    push_card(out, around, id, round, draft, past)?;
     push_recent(out, around)?;
     Ok(())
 }
@@ -168,14 +170,14 @@ fn page_of(
     id: RoundId,
     round: Opened<'_>,
     draft: Draft<'_>,
-    origin: Option<Origin>,
+    past: Past<'_>,
 ) -> Result<Vec<u8>, NoMemory>
     ensures { IfOk result (λ page. IsPageOf around.entry.now id
-        (round.entry.settings, round.entry.table.now) draft.entry origin page.items) }
+        (round.entry.settings, round.entry.table.now) draft.entry past.entry page.items) }
 {
     let sheet = sheet_of(alloc, around.mirror.meet(), id)?;
     let mut page = Vec::new(alloc);
-    push_front(&mut page, around, id, round, draft, origin)?;
+    push_front(&mut page, around, id, round, draft, past)?;
     push_round(&mut page, id, round, &sheet)?;
     push_bottom(&mut page)?;
     Ok(page)
@@ -185,24 +187,26 @@ fn page_of(
 ///
 /// It says whether the round is closed. It has the form of the card, filled in with the draft, that
 /// carries the token, the first of the ids, what the page shows that stands and below which a time
-/// is asked about; it says which entry of the log was the last on these attempts, where `origin`
-/// says so, with a link for a competitor who can withdraw; and it has the cards and commands of
-/// late, and the round, whose cells are the fields of its sheet. In a hall of an earlier edition it
-/// has the form that enters edition 4 in place of the card's.
+/// is asked about. Where `past` has what was entered for an attempt that stands, the field has that
+/// in place of what it counts, and the form carries it. The page says which entry of the log was
+/// the last on these attempts, with its remark, where `past` says so, with a link for a competitor
+/// who can withdraw; and it has the cards and commands of late, and the round, whose cells are the
+/// fields of its sheet. In a hall of an earlier edition it has the form that enters edition 4 in
+/// place of the card's.
 pub fn card_page(
     alloc: Global,
     around: &Around<'_>,
     id: RoundId,
     draft: Draft<'_>,
-    origin: Option<Origin>,
+    past: Past<'_>,
 ) -> Result<Option<Vec<u8>>, NoMemory>
-    ensures { IfOk result (λ page. IsCardPage around.entry.now id draft.entry origin
+    ensures { IfOk result (λ page. IsCardPage around.entry.now id draft.entry past.entry
         (round_by (accepted_in around.entry.now.mirror.now) id)
         (option_map (λ text. text.items) page)) }
 {
     let Some(round) = round_opened(around.mirror.meet(), id) else {
         return Ok(None);
     };
-    let page = page_of(alloc, around, id, round, draft, origin)?;
+    let page = page_of(alloc, around, id, round, draft, past)?;
     Ok(Some(page))
 }

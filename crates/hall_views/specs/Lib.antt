@@ -15,3 +15,4 @@ pub mod Scrambles
 pub mod Rounds
 pub mod Importing
 pub mod Preview
+pub mod Waiting

@@ -19,6 +19,7 @@ mod reopening;
 mod round_forms;
 mod scrambles;
 mod unfinished;
+mod waiting;
 
 pub use all_rounds::overview;
 pub use importing::import_page;
@@ -27,3 +28,4 @@ pub use person::person_page;
 pub use preview::{Tried, preview_page};
 pub use refused::{faults_page, refused_page};
 pub use round_forms::rounds_page;
+pub use waiting::waiting_page;

@@ -1,6 +1,8 @@
-//! Which entry of a log last changed the attempts of a competitor.
+//! Which entry of a log last changed the attempts of a competitor, and which last entered each.
 #![tactic(auto)]
 
+mod entering;
 mod origins;
 
+pub use entering::{entered_at, last_entering};
 pub use origins::last_change;

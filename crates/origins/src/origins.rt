@@ -55,7 +55,7 @@ fn reads_change_at(
 }
 
 /// Whether the entry at a position was accepted.
-fn is_accepted(mirror: &Mirror, position: u32) -> bool
+pub(crate) fn is_accepted(mirror: &Mirror, position: u32) -> bool
     ensures { result ≡ is_accepted mirror.now position }
 {
     match mirror.answer(position) {

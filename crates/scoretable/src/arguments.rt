@@ -15,7 +15,9 @@ use pages::Terms;
 use std::alloc::{AllocError, Global};
 use std::io::Write;
 use std::net::SocketAddr;
-use table_service::{End, FileFault, Opened, PROGRAM, hall_name, open_journal, serve};
+use table_service::{
+    End, FileFault, Opened, PROGRAM, hall_name, is_table_name, open_journal, serve,
+};
 
 const ABOUT: &str = "Takes scorecards in a browser, and enters them at the desks of a hall.";
 
@@ -23,6 +25,13 @@ const VERSION: &str = "1.0.0";
 
 /// The title of the sheets on paper where the arguments do not say it.
 const TITLE: &str = "Results";
+
+/// The name of the table where the arguments do not say it.
+const NAME: &str = "A";
+
+/// What is said of another one that is none.
+const NO_NAME: &str = "--name has to be 1 to 60 bytes of text, with single spaces, without double \
+                       quotes or hidden characters";
 
 /// The journal where the arguments name none.
 const JOURNAL: &str = "scoretable.journal";
@@ -34,7 +43,9 @@ const AFTER: &str = "\
 Shows the rounds of the hall at http://ADDR/, and takes the scorecards of a round at
 http://ADDR/card/333-1. What is entered is put into the journal, submitted at a desk, and shown as
 saved once it is decided. ADDR is that of --listen. It prints `scoretable at ADDR` once it listens,
-and runs until it is stopped. What was not decided then is submitted after the next start.
+and runs until it is stopped. What was not decided then is submitted after the next start. The log
+keeps with each card who entered it and when: the name of --name and the machine's time, as in
+`A 14:05:33 UTC`.
 
 The desks are those of --hall and --to, or without these all desks of the hall that FILE describes.
 Where they have a key, it is in the file of --key, or in the one that FILE names. Standard error
@@ -66,6 +77,7 @@ struct Order {
     /// The hall, with one to five desks.
     hall: FoundHall,
     title: String,
+    name: String,
     listen: SocketAddr,
     journal: Opened,
 }
@@ -78,6 +90,7 @@ fn command<'a>(alloc: Global) -> Result<Command<'a>, AllocError> {
         .after_help(AFTER);
     let listen = "Where browsers find the score table, as 127.0.0.1:8081";
     let title = "The title of the sheets on paper; without this option Results";
+    let name = "The name of this table in the log, 1 to 60 bytes; without this option A";
     let journal = "The file that keeps what was entered; without this option scoretable.journal";
     let open = Arg::new(alloc, "open-network")
         .long("open-network")
@@ -86,6 +99,7 @@ fn command<'a>(alloc: Global) -> Result<Command<'a>, AllocError> {
     with_desks(alloc, plain)?
         .arg(option(alloc, "listen", "ADDR", listen, ValueParser::string()).required(true))?
         .arg(option(alloc, "title", "TEXT", title, ValueParser::string()))?
+        .arg(option(alloc, "name", "TEXT", name, ValueParser::string()))?
         .arg(option(alloc, "journal", "FILE", journal, ValueParser::string()))?
         .arg(open)
 }
@@ -95,6 +109,8 @@ fn command<'a>(alloc: Global) -> Result<Command<'a>, AllocError> {
 enum Refusal<'a> {
     /// The options are wrong.
     Wrong(Mistake<'a>),
+    /// No table can have the name of `--name`.
+    Name,
     /// Other machines reach the address of `--listen`, and `--open-network` is not given.
     Open,
     /// Browsers can't name the address of `--listen`.
@@ -114,8 +130,21 @@ impl<'a> From<Mistake<'a>> for Refusal<'a> {
     }
 }
 
+/// The name of the table.
+fn name_of<'a>(rt: &HostRuntime, found: &ArgMatches<'a>) -> Result<String, Refusal<'a>> {
+    let name = found.get_str("name").unwrap_or(NAME);
+    if !is_table_name(name.as_bytes()) {
+        return Err(Refusal::Name);
+    }
+    match String::from_str(rt.alloc(), name) {
+        Ok(name) => Ok(name),
+        Err(_) => Err(Refusal::Wrong(Mistake::NoMemory)),
+    }
+}
+
 /// What the arguments ask for. The journal is opened last.
 fn order_of<'a>(rt: &HostRuntime, found: &ArgMatches<'a>) -> Result<Order, Refusal<'a>> {
+    let name = name_of(rt, found)?;
     let hall = hall_of(rt, found)?;
     let listen = address_at(rt, found, "listen")?;
     if listen.ip().is_unspecified() {
@@ -128,13 +157,14 @@ fn order_of<'a>(rt: &HostRuntime, found: &ArgMatches<'a>) -> Result<Order, Refus
         return Err(Refusal::Wrong(Mistake::NoMemory));
     };
     let path = found.get_str("journal").unwrap_or(JOURNAL);
-    let Ok(name) = hall_name(rt.alloc(), hall.hall, &hall.desks) else {
+    let Ok(named) = hall_name(rt.alloc(), hall.hall, &hall.desks) else {
         return Err(Refusal::Wrong(Mistake::NoMemory));
     };
-    match open_journal(rt, path, &name, 0) {
+    match open_journal(rt, path, &named, 0) {
         Ok(journal) => Ok(Order {
             hall,
             title,
+            name,
             listen,
             journal,
         }),
@@ -146,6 +176,7 @@ fn order_of<'a>(rt: &HostRuntime, found: &ArgMatches<'a>) -> Result<Order, Refus
 fn tell_refusal<F: Write>(faults: &mut F, refusal: Refusal<'_>) -> u8 {
     match refusal {
         Refusal::Wrong(mistake) => tell_mistake(faults, PROGRAM, mistake),
+        Refusal::Name => tell(faults, PROGRAM, NO_NAME, 2),
         Refusal::Open => {
             let why = "other machines reach the address of --listen: see --open-network";
             tell(faults, PROGRAM, why, 4)
@@ -178,6 +209,7 @@ fn run_order<W: Write, F: Write>(
     let Order {
         hall,
         title,
+        name,
         listen,
         journal,
     } = order;
@@ -202,7 +234,9 @@ fn run_order<W: Write, F: Write>(
         addresses: &hall.desks,
         key: hall.key,
     };
-    match serve(rt, alloc, asked, title, journal, browsers, writer, faults) {
+    match serve(
+        rt, alloc, asked, title, name, journal, browsers, writer, faults,
+    ) {
         Ok(End::Failed) => tell(faults, PROGRAM, "cannot go on", 4),
         Ok(End::Broken) => tell(faults, PROGRAM, BROKEN, 4),
         Err(error) => tell_system(faults, PROGRAM, &error, "cannot go on"),

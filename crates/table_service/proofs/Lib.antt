@@ -15,3 +15,4 @@ pub mod Secured
 pub mod Served
 pub mod Taken
 pub mod Handed
+pub mod Steps

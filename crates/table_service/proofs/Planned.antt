@@ -48,8 +48,9 @@ use Rattle.table_service.specs.Laws.{AsksAgain, AsksBack, AsksFor, IsForm}
 use Rattle.table_service.specs.Lists.{LooksAt, PlansAsked, PlansLines, PlansListOf, is_known}
 use Rattle.table_service.specs.Lists.{would_be_done}
 use Rattle.table_service.specs.Plans.{HoldsCard, PlansCardAs, PlansCardEntry, PlansCardIf}
-use Rattle.table_service.specs.Plans.{PlansCommand, PlansForm, PlansSpelled, ShowsView, card_place}
-use Rattle.table_service.specs.Plans.{cards_place, is_entered, page_after}
+use Rattle.table_service.specs.Plans.{PlansCommand, PlansFit, PlansForm, PlansSpelled, ShowsView}
+use Rattle.table_service.specs.Plans.{card_place, cards_place, is_entered, page_after}
+use Rattle.table_service.specs.Remarks.{remark_of}
 use Rattle.table_service.specs.Replying.{GoesTo, ShowsAs, refuses, shows}
 use Rattle.table_service.specs.Requests.{is_post, is_read, path_of, query_of, sent_pairs}
 use Rattle.table_service.specs.Sent.{PlansAt, PlansAtAnswers, PlansAtLast, PlansAtLines, PlansBy}
@@ -57,43 +58,44 @@ use Rattle.table_service.specs.Sent.{PlansFormAt, PlansPosted}
 use Rattle.table_service.specs.Services.{IsAround, Plans, PlansIf, PlansWith, ServiceOf}
 use Rattle.table_service.specs.Undoing.{PlansUndoCard, PlansUndoEntry, PlansUndoId, PlansUndoIf}
 use Rattle.table_service.specs.Undoing.{PlansUndoItem, may_undo, undone_entry}
-use Rattle.table_service.specs.Taking.{AreTaken, PlansOther, PlansRoom, has_room, other_in}
+use Rattle.table_service.specs.Taking.{AreTaken, PlansOther, PlansRoom, has_room, is_sent, other_in}
 
 -- the browser is sent on
 abbrev pub GoesOn : Reply → Type 0
 GoesOn answer = (location : List ℕ) × GoesTo location answer
 
--- entries that are taken are what the pairs at a path ask for, the browser is sent on, and so much
--- holds besides
-abbrev pub FoundBy : Type 0 → ItemsOf → List ℕ → List Pair → Reply → Effect → Type 0
-FoundBy More q path pairs answer effect.Nothing = Unit {0}
-FoundBy More q path pairs answer effect.Ids = Unit {0}
-FoundBy More q path pairs answer (effect.Take them) =
-    More × AsksFor q path pairs them.items × GoesOn answer
-FoundBy More q path pairs answer (effect.Again entry of) =
-    More × AsksFor q path pairs (entry ∷ []) × GoesOn answer
-FoundBy More q path pairs answer (effect.Answer of) = Unit {0}
+-- entries that are taken are what the pairs at a path ask for, with this remark of a card, the
+-- browser is sent on, and so much holds besides
+abbrev pub FoundBy : Type 0 → ItemsOf → List ℕ → List Pair → List ℕ → Reply → Effect → Type 0
+FoundBy More q path pairs remark answer effect.Nothing = Unit {0}
+FoundBy More q path pairs remark answer effect.Ids = Unit {0}
+FoundBy More q path pairs remark answer (effect.Take them) =
+    More × AsksFor q path pairs remark them.items × GoesOn answer
+FoundBy More q path pairs remark answer (effect.Again entry of) =
+    More × AsksFor q path pairs remark (entry ∷ []) × GoesOn answer
+FoundBy More q path pairs remark answer (effect.Answer of) = Unit {0}
 
-module _ (More : Type 0) (q : ItemsOf) (path : List ℕ) (pairs : List Pair) (plan : Plan) where
+module _ (More : Type 0) (q : ItemsOf) (path : List ℕ) (pairs : List Pair) (remark : List ℕ)
+    (plan : Plan) where
   abbrev Found : Type 0
-  Found = FoundBy More q path pairs plan.reply plan.effect
+  Found = FoundBy More q path pairs remark plan.reply plan.effect
 
   refused : (why : Problem) → plan ≡ refuses why → Found
   refused why is =
-      subst (λ (p : Plan). FoundBy More q path pairs p.reply p.effect) (sym is) tt
+      subst (λ (p : Plan). FoundBy More q path pairs remark p.reply p.effect) (sym is) tt
 
   shown : (answer : Reply) → plan ≡ shows answer → Found
   shown answer is =
-      subst (λ (p : Plan). FoundBy More q path pairs p.reply p.effect) (sym is) tt
+      subst (λ (p : Plan). FoundBy More q path pairs remark p.reply p.effect) (sym is) tt
 
   nothing : plan.effect ≡ effect.Nothing → Found
-  nothing is = subst (λ (e : Effect). FoundBy More q path pairs plan.reply e) (sym is) tt
+  nothing is = subst (λ (e : Effect). FoundBy More q path pairs remark plan.reply e) (sym is) tt
 
   ids : plan.effect ≡ effect.Ids → Found
-  ids is = subst (λ (e : Effect). FoundBy More q path pairs plan.reply e) (sym is) tt
+  ids is = subst (λ (e : Effect). FoundBy More q path pairs remark plan.reply e) (sym is) tt
 
   answered : (of : ℕ) → plan.effect ≡ effect.Answer of → Found
-  answered of is = subst (λ (e : Effect). FoundBy More q path pairs plan.reply e) (sym is) tt
+  answered of is = subst (λ (e : Effect). FoundBy More q path pairs remark plan.reply e) (sym is) tt
 
   page : (status : Shown) (is : Option (List ℕ)) → ShowsAs status is plan → Found
   page status None is = refused problem.NotFound is
@@ -128,28 +130,30 @@ module _ (More : Type 0) (q : ItemsOf) (path : List ℕ) (pairs : List Pair) (pl
   body around bytes None plans = refused problem.BadForm plans
   body around bytes (Some boundary) plans = parts_if around (parts_of boundary bytes) plans
 
-  module _ (more : More) (around : Around) where
-    taken_as : (entries : List Entry) → AsksFor q path pairs entries → (what : Effect)
-        → AreTaken entries what → GoesOn plan.reply → FoundBy More q path pairs plan.reply what
+  module _ (more : More) (around : Around) (says : around.remark.now ≡ remark) where
+    taken_as : (entries : List Entry) → AsksFor q path pairs remark entries → (what : Effect)
+        → AreTaken entries what → GoesOn plan.reply
+        → FoundBy More q path pairs remark plan.reply what
     taken_as entries asks effect.Nothing are on = absurd are
     taken_as entries asks effect.Ids are on = absurd are
     taken_as entries asks (effect.Take them) are on =
-        (more, subst (λ (es : List Entry). AsksFor q path pairs es) (sym are) asks, on)
+        (more, subst (λ (es : List Entry). AsksFor q path pairs remark es) (sym are) asks, on)
     taken_as entries asks (effect.Again entry of) are on = absurd are
     taken_as entries asks (effect.Answer of) are on = absurd are
 
-    module _ (place : List ℕ) (entries : List Entry) (asks : AsksFor q path pairs entries) where
-      room : (has : Bool) → PlansRoom has place entries plan → Found
-      room false plans = refused problem.Busy plans
-      room true plans = taken_as entries asks plan.effect plans.takes (place, plans.goes)
+    module _ (place : List ℕ) (entries : List Entry) (asks : AsksFor q path pairs remark entries)
+      where
+        room : (has : Bool) → PlansRoom has place entries plan → Found
+        room false plans = refused problem.Busy plans
+        room true plans = taken_as entries asks plan.effect plans.takes (place, plans.goes)
 
-      other : (known : Option (List ℕ × List ℕ))
-          → PlansOther known q around place entries plan → Found
-      other (Some both) plans = ids plans.1
-      other None plans = room (has_room q (length entries)) plans
+        other : (known : Option (List ℕ × List ℕ))
+            → PlansOther known q around place entries plan → Found
+        other (Some both) plans = ids plans.1
+        other None plans = room (has_room q (length entries)) plans
 
-      taken : PlansOther (other_in q entries) q around place entries plan → Found
-      taken plans = other (other_in q entries) plans
+        taken : PlansOther (other_in q entries) q around place entries plan → Found
+        taken plans = other (other_in q entries) plans
 
     -- ---- a card
 
@@ -160,8 +164,8 @@ module _ (More : Type 0) (q : ItemsOf) (path : List ℕ) (pairs : List Pair) (pl
     module _ (at : path ≡ codes "/card") (form : CardForm) (sent : card_form_of pairs ≡ Ok form)
       where
         card_entered : (card : CardEntry) → IsReadAs form card → (entry : Entry)
-            → card_entry form.id card ≡ Some entry → (notes : List Note) (entered : Bool)
-            → PlansCardEntry q around form notes entry entered plan → Found
+            → card_entry form.id card around.remark.now ≡ Some entry → (notes : List Note)
+            (entered : Bool) → PlansCardEntry q around form notes entry entered plan → Found
         card_entered card read entry is notes true plans =
             taken (card_place form) (entry ∷ [])
             (inl (
@@ -172,23 +176,31 @@ module _ (More : Type 0) (q : ItemsOf) (path : List ℕ) (pairs : List Pair) (pl
                 card = card;
                 read = read;
                 entry = entry;
-                is = is;
+                is = subst (λ (r : List ℕ). card_entry form.id card r ≡ Some entry) says is;
                 alone = refl;
               },
             ))
             plans
         card_entered card read entry is notes false plans = held form notes _ plans
 
-        card_spelled : (card : CardEntry) → IsReadAs form card → (sure : List ℕ) (entry : Entry)
-            → card_entry form.id card ≡ Some entry → (spelled : Option CardEntry)
-            → PlansSpelled q around form sure entry spelled plan → Found
-        card_spelled card read sure entry is None plans = refused problem.BadForm plans
-        card_spelled card read sure entry is (Some it) plans =
+        card_fit : (card : CardEntry) → IsReadAs form card → (sure : List ℕ) (entry : Entry)
+            → card_entry form.id card around.remark.now ≡ Some entry → (it : CardEntry)
+            (known : Bool) → PlansFit known q around form sure entry it plan → Found
+        card_fit card read sure entry is it true plans = nothing plans.1
+        card_fit card read sure entry is it false plans =
             card_entered card read entry is (doubts (accepted_in around.mirror.now) it)
             (is_entered q entry.id sure (doubts (accepted_in around.mirror.now) it)) plans
 
+        card_spelled : (card : CardEntry) → IsReadAs form card → (sure : List ℕ) (entry : Entry)
+            → card_entry form.id card around.remark.now ≡ Some entry
+            → (spelled : Option CardEntry) → PlansSpelled q around form sure entry spelled plan
+            → Found
+        card_spelled card read sure entry is None plans = refused problem.BadForm plans
+        card_spelled card read sure entry is (Some it) plans =
+            card_fit card read sure entry is it (is_sent q entry) plans
+
         card_as : (card : CardEntry) → IsReadAs form card → (sure : List ℕ)
-            (entry : Option Entry) → card_entry form.id card ≡ entry
+            (entry : Option Entry) → card_entry form.id card around.remark.now ≡ entry
             → PlansCardAs q around form sure entry plan → Found
         card_as card read sure None is plans = held form _ _ plans
         card_as card read sure (Some entry) is plans =
@@ -198,8 +210,8 @@ module _ (More : Type 0) (q : ItemsOf) (path : List ℕ) (pairs : List Pair) (pl
         → card_form_of pairs ≡ r → PlansForm q around sure r plan → Found
     card_form at sure (Err why) is plans = refused problem.BadForm plans
     card_form at sure (Ok form) is (inl reads) =
-        card_as at form is reads.entry reads.read sure (card_entry form.id reads.entry) refl
-        reads.plans
+        card_as at form is reads.entry reads.read sure
+        (card_entry form.id reads.entry around.remark.now) refl reads.plans
     card_form at sure (Ok form) is (inr unread) = held form _ _ unread.2
 
     card_if : path ≡ codes "/card" → (latest : Bool) → PlansCardIf latest around q pairs plan
@@ -263,22 +275,23 @@ module _ (More : Type 0) (q : ItemsOf) (path : List ℕ) (pairs : List Pair) (pl
     -- ---- what was typed, over what stands now
 
     entry_of : (enters : Bool) (id : ℕ) (card : CardEntry) (was : List Value) (entry : Entry)
-        → again_entry enters id card was ≡ Some entry
-        → card_entry id (card_over card was) ≡ Some entry
+        → again_entry enters id card around.remark.now was ≡ Some entry
+        → card_entry id (card_over card was) remark ≡ Some entry
     entry_of false id card was entry is = absurd (cc)
-    entry_of true id card was entry is = is
+    entry_of true id card was entry is =
+        subst (λ (r : List ℕ). card_entry id (card_over card was) r ≡ Some entry) says is
 
     module _ (at : path ≡ codes "/again") (of : ℕ) (named : id_of pairs ≡ Some of) where
-      again_as : (entry : Entry) → AsksAgain q pairs (entry ∷ []) → GoesOn plan.reply
+      again_as : (entry : Entry) → AsksAgain q pairs remark (entry ∷ []) → GoesOn plan.reply
           → plan.effect ≡ effect.Again entry of → Found
       again_as entry asks on is =
-          subst (λ (e : Effect). FoundBy More q path pairs plan.reply e) (sym is)
+          subst (λ (e : Effect). FoundBy More q path pairs remark plan.reply e) (sym is)
           (more, inr (inr (inr (inl (at, asks)))), on)
 
       module _ (item : Item) (known : item_in q of ≡ Some item) where
         again_entered : (card : CardEntry) → card_in item.entry.text ≡ Some card
             → (was : List Value) (enters : Bool) (id : ℕ) (has : Bool) (entry : Option Entry)
-            → again_entry enters id card was ≡ entry
+            → again_entry enters id card around.remark.now was ≡ entry
             → PlansAgainEntry has around q of card entry plan → Found
         again_entered card typed was enters id has None is plans = ids plans.1
         again_entered card typed was enters id false (Some entry) is plans =
@@ -307,7 +320,8 @@ module _ (More : Type 0) (q : ItemsOf) (path : List ℕ) (pairs : List Pair) (pl
         again_card (Some was) (Some card) typed plans =
             again_entered card typed was (enters_later (length was) card.now)
             (get_or around.ids.now 0 0) (has_room q 1)
-            (again_entry (enters_later (length was) card.now) (get_or around.ids.now 0 0) card was)
+            (again_entry (enters_later (length was) card.now) (get_or around.ids.now 0 0) card
+            around.remark.now was)
             refl plans
 
         again_if : (may : Bool) → PlansAgainIf may around q pairs of item plan → Found
@@ -344,16 +358,16 @@ module _ (More : Type 0) (q : ItemsOf) (path : List ℕ) (pairs : List Pair) (pl
     -- ---- taking a card back
 
     module _ (at : path ≡ codes "/undo") (of : ℕ) (named : id_of pairs ≡ Some of) where
-      back_as : (entry : Entry) → AsksBack q pairs (entry ∷ []) → GoesOn plan.reply
+      back_as : (entry : Entry) → AsksBack q pairs remark (entry ∷ []) → GoesOn plan.reply
           → plan.effect ≡ effect.Again entry of → Found
       back_as entry asks on is =
-          subst (λ (e : Effect). FoundBy More q path pairs plan.reply e) (sym is)
+          subst (λ (e : Effect). FoundBy More q path pairs remark plan.reply e) (sym is)
           (more, inr (inr (inr (inr (at, asks)))), on)
 
       module _ (item : Item) (known : item_in q of ≡ Some item) where
         back_entered : (card : CardEntry) → card_in item.entry.text ≡ Some card → (id : ℕ)
             (has : Bool) (entry : Option Entry)
-            → undone_entry (accepted_in around.mirror.now) id card ≡ entry
+            → undone_entry (accepted_in around.mirror.now) id card around.remark.now ≡ entry
             → PlansUndoEntry has around of card.id entry plan → Found
         back_entered card typed id has None is plans = ids plans.1
         back_entered card typed id false (Some entry) is plans = refused problem.Busy plans
@@ -369,7 +383,10 @@ module _ (More : Type 0) (q : ItemsOf) (path : List ℕ) (pairs : List Pair) (pl
               accepted = accepted_in around.mirror.now;
               entry = entry;
               id = id;
-              is = is;
+              is = subst
+                  (λ (r : List ℕ).
+                  undone_entry (accepted_in around.mirror.now) id card r ≡ Some entry)
+                  says is;
               alone = refl;
             }
             (cards_place card.id, plans.0) plans.1
@@ -379,8 +396,9 @@ module _ (More : Type 0) (q : ItemsOf) (path : List ℕ) (pairs : List Pair) (pl
         back_card None typed plans = refused problem.BadForm plans
         back_card (Some card) typed plans =
             back_entered card typed (get_or around.ids.now 0 0) (has_room q 1)
-            (undone_entry (accepted_in around.mirror.now) (get_or around.ids.now 0 0) card) refl
-            plans
+            (undone_entry (accepted_in around.mirror.now) (get_or around.ids.now 0 0) card
+            around.remark.now)
+            refl plans
 
         back_if : (may : Bool) → PlansUndoIf may around q of item plan → Found
         back_if false plans = nothing plans.1
@@ -436,10 +454,13 @@ module _ (More : Type 0) (q : ItemsOf) (path : List ℕ) (pairs : List Pair) (pl
 -- ---- a request
 
 module _ (s : ServiceOf) (request : Request (List ℕ)) (plan : Plan) where
+  abbrev remark : List ℕ
+  remark = remark_of s.name s.clock
+
   abbrev FoundFor : Type 0
   FoundFor =
-      FoundBy (IsForm s request) s.outbox.list (path_of request) (sent_pairs request) plan.reply
-      plan.effect
+      FoundBy (IsForm s request) s.outbox.list (path_of request) (sent_pairs request) remark
+      plan.reply plan.effect
 
   module _ (own : is_own s.hosts request ≡ true) where
     module _ (set : List ℕ) (around : Around) (is : IsAround s set around) where
@@ -448,22 +469,22 @@ module _ (s : ServiceOf) (request : Request (List ℕ)) (plan : Plan) where
           → PlansPosted around s.outbox.list (path_of request) (sent_pairs request) carries plan
           → FoundFor
       posted post false not-so plans =
-          refused (IsForm s request) s.outbox.list (path_of request) (sent_pairs request) plan
-          problem.Foreign plans
+          refused (IsForm s request) s.outbox.list (path_of request) (sent_pairs request) remark
+          plan problem.Foreign plans
       posted post true so plans =
-          sent (IsForm s request) s.outbox.list (path_of request) (sent_pairs request) plan
+          sent (IsForm s request) s.outbox.list (path_of request) (sent_pairs request) remark plan
           record {
             own = own;
             method = post;
             token = subst (λ (t : List ℕ). has_token t (sent_pairs request) ≡ true) is.token so;
           }
-          around (bytes_eq (path_of request) (codes "/card"))
+          around is.remark (bytes_eq (path_of request) (codes "/card"))
           (bytes_eq (path_of request) (codes "/command")) refl refl plans
 
       by_form : is_post request ≡ true → (imports : Bool)
           → PlansFormAt around s.outbox.list request imports plan → FoundFor
       by_form post true plans =
-          body (IsForm s request) s.outbox.list (path_of request) (sent_pairs request) plan
+          body (IsForm s request) s.outbox.list (path_of request) (sent_pairs request) remark plan
           around request.body (boundary_in request) plans
       by_form post false plans =
           posted post (has_token around.token.now (sent_pairs request)) refl plans
@@ -471,24 +492,24 @@ module _ (s : ServiceOf) (request : Request (List ℕ)) (plan : Plan) where
       by_method : (read post : Bool) → is_post request ≡ post
           → PlansBy around s.title s.outbox.list request read post plan → FoundFor
       by_method true post so plans =
-          view (IsForm s request) s.outbox.list (path_of request) (sent_pairs request) plan
+          view (IsForm s request) s.outbox.list (path_of request) (sent_pairs request) remark plan
           around s.title (asked_at (path_of request) (query_of request)) plans
       by_method false true so plans =
           by_form so (bytes_eq (path_of request) (codes "/import")) plans
       by_method false false so plans =
-          refused (IsForm s request) s.outbox.list (path_of request) (sent_pairs request) plan
-          problem.Method plans
+          refused (IsForm s request) s.outbox.list (path_of request) (sent_pairs request) remark
+          plan problem.Method plans
 
     by_ids : (set : Option (List ℕ)) → PlansWith s request set plan → FoundFor
     by_ids None plans =
-        refused (IsForm s request) s.outbox.list (path_of request) (sent_pairs request) plan
+        refused (IsForm s request) s.outbox.list (path_of request) (sent_pairs request) remark plan
         problem.Busy plans
     by_ids (Some set) plans =
         by_method set plans.around plans.is (is_read request) (is_post request) refl plans.plans
 
   by_own : (own : Bool) → is_own s.hosts request ≡ own → PlansIf s request own plan → FoundFor
   by_own false so plans =
-      refused (IsForm s request) s.outbox.list (path_of request) (sent_pairs request) plan
+      refused (IsForm s request) s.outbox.list (path_of request) (sent_pairs request) remark plan
       problem.Foreign plans
   by_own true so plans = by_ids so (slice_get s.ids 0) plans
 

@@ -9,7 +9,8 @@ use Rattle.std.proofs.lemmas.Option.{get_or_from_slice_get, slice_get_within}
 use Rattle.acceptor.specs.declared.entry.Entry.{Entry}
 use Rattle.attempts.specs.declared.Value.{Value}
 use Rattle.attempts.specs.declared.Value.TheVariants as value
-use Rattle.card_forms.specs.Entries.{card_in, card_of, card_told}
+use Rattle.card_forms.specs.Entries.{card_in, card_told}
+use Rattle.card_forms.proofs.SameCards.{card_is_of}
 use Rattle.commands.specs.Accepted.{are_values, card_values, counts_in, is_of, is_value, round_by}
 use Rattle.commands.specs.Accepted.{round_of, scramble_of, values_now}
 use Rattle.commands.specs.model.Cards.{scrambles_of, with_outcomes}
@@ -146,11 +147,6 @@ module _ (before : List Command) (card : CardEntry) (seen : AreSeen before card)
   }
 
 -- ---- what is told
-
-card_is_of : (command : Command) (card : CardEntry) → card_of command ≡ Some card
-    → command ≡ Card card
-card_is_of (Card one) card is = ap Card (ap (λ (o : Option CardEntry). unwrap_or o one) is)
-card_is_of _ card is = absurd (cc)
 
 says_by : (entry : Entry) (card : CardEntry) (r : Result Remarked CommandFault)
     → command_of entry.text ≡ r → card_told r ≡ Some card → Says entry (Card card)

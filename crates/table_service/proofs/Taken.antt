@@ -13,6 +13,7 @@ use Rattle.table_service.specs.declared.plan.Reply.{Reply}
 use Rattle.table_service.specs.declared.plan.Reply.TheVariants as reply
 use Rattle.table_service.specs.Disks.{IsSynced}
 use Rattle.table_service.specs.Laws.{AsksFor, IsForm, IsTaken, TakesNothing}
+use Rattle.table_service.specs.Remarks.{remark_of}
 use Rattle.table_service.specs.Replies.{Writes}
 use Rattle.table_service.specs.Requests.{path_of, sent_pairs}
 use Rattle.table_service.specs.Services.{Answers, AnswersIt, DoesAs, IsKept, IsTakenAgain}
@@ -48,7 +49,7 @@ module _ (old new : ServiceOf) (request : Request (List ℕ)) (response : Respon
   abbrev FoundAs : Effect → Type 0
   FoundAs what =
       FoundBy (IsForm old request) old.outbox.list (path_of request) (sent_pairs request)
-      plan.reply what
+      (remark_of old.name old.clock) plan.reply what
 
   module _ (entries : List Entry) (list : ItemsOf)
       (takes : TakesAll old.outbox.list entries old.time list) where
@@ -59,7 +60,8 @@ module _ (old new : ServiceOf) (request : Request (List ℕ)) (response : Respon
 
   module _ (entries : List Entry) (list : ItemsOf)
       (takes : TakesAll old.outbox.list entries old.time list)
-      (asks : AsksFor old.outbox.list (path_of request) (sent_pairs request) entries)
+      (asks : AsksFor old.outbox.list (path_of request) (sent_pairs request)
+      (remark_of old.name old.clock) entries)
       (form : IsForm old request) (on : GoesOn plan.reply) where
     taken : TakesNone list old response new
         ⊎ (KeepsList true list old new × Writes plan.reply response) → Comes

@@ -65,10 +65,10 @@ PlansAgainEntry false around q of card (Some entry) plan = plan ≡ refuses prob
 PlansAgainEntry true around q of card (Some entry) plan =
     Sends (cards_place card.id) (effect.Again entry of) plan
 
--- under an id, where what was to stay stands
-abbrev pub again_entry : Bool → ℕ → CardEntry → List Value → Option Entry
-again_entry false id card was = None
-again_entry true id card was = card_entry id (card_over card was)
+-- under an id, with a remark, where what was to stay stands
+abbrev pub again_entry : Bool → ℕ → CardEntry → List ℕ → List Value → Option Entry
+again_entry false id card remark was = None
+again_entry true id card remark was = card_entry id (card_over card was) remark
 
 abbrev pub PlansAgainCard : Around → ItemsOf → ℕ → Option (List Value) → Option CardEntry → Plan
     → Type 0
@@ -76,7 +76,9 @@ PlansAgainCard around q of None card plan = plan ≡ refuses problem.BadForm
 PlansAgainCard around q of (Some was) None plan = plan ≡ refuses problem.BadForm
 PlansAgainCard around q of (Some was) (Some card) plan =
     PlansAgainEntry (has_room q 1) around q of card
-    (again_entry (enters_later (length was) card.now) (get_or around.ids.now 0 0) card was) plan
+    (again_entry (enters_later (length was) card.now) (get_or around.ids.now 0 0) card
+    around.remark.now was)
+    plan
 
 abbrev pub PlansAgainIf : Bool → Around → ItemsOf → List Pair → ℕ → Item → Plan → Type 0
 PlansAgainIf false around q pairs of item plan =

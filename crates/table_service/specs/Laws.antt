@@ -34,6 +34,7 @@ use Rattle.table_service.specs.declared.plan.Problem.TheVariants as problem
 use Rattle.table_service.specs.Answering.{card_over, id_of}
 use Rattle.table_service.specs.Disks.{IsSynced, lines_in}
 use Rattle.table_service.specs.Gate.{has_token, is_own}
+use Rattle.table_service.specs.Remarks.{remark_of}
 use Rattle.table_service.specs.Replies.{IsProblem, security}
 use Rattle.table_service.specs.Requests.{is_post, path_of, sent_pairs}
 use Rattle.table_service.specs.Undoing.{undone_entry}
@@ -48,14 +49,15 @@ pub record IsForm (s : ServiceOf) (request : Request (List ℕ)) : Type 0 where
   pub method : is_post request ≡ true
   pub token : has_token s.token (sent_pairs request) ≡ true
 
--- the form of a card is read as this one command, over what its page showed, under its own id
-pub record AsksForCard (pairs : List Pair) (entries : List Entry) : Type 0 where
+-- the form of a card is read as this one command, over what its page showed, under its own id, with
+-- this remark
+pub record AsksForCard (pairs : List Pair) (remark : List ℕ) (entries : List Entry) : Type 0 where
   pub form : CardForm
   pub sent : card_form_of pairs ≡ Ok form
   pub card : CardEntry
   pub read : IsReadAs form card
   pub entry : Entry
-  pub is : card_entry form.id card ≡ Some entry
+  pub is : card_entry form.id card remark ≡ Some entry
   pub alone : entries ≡ entry ∷ []
 
 -- the command that a command's form asks for
@@ -76,7 +78,8 @@ pub record AsksForAll (pairs : List Pair) (entries : List Entry) : Type 0 where
   pub are : entries ≡ command_entries id texts
 
 -- what was typed into a card that was not saved, over what the form's page showed that stands
-pub record AsksAgain (q : ItemsOf) (pairs : List Pair) (entries : List Entry) : Type 0 where
+pub record AsksAgain (q : ItemsOf) (pairs : List Pair) (remark : List ℕ) (entries : List Entry)
+    : Type 0 where
   pub of : ℕ
   pub named : id_of pairs ≡ Some of
   pub card : CardEntry
@@ -86,11 +89,12 @@ pub record AsksAgain (q : ItemsOf) (pairs : List Pair) (entries : List Entry) : 
   pub was : List Value
   pub entry : Entry
   pub id : ℕ
-  pub is : card_entry id (card_over card was) ≡ Some entry
+  pub is : card_entry id (card_over card was) remark ≡ Some entry
   pub alone : entries ≡ entry ∷ []
 
 -- what stood before a card that is saved, over what that card left, by these accepted commands
-pub record AsksBack (q : ItemsOf) (pairs : List Pair) (entries : List Entry) : Type 0 where
+pub record AsksBack (q : ItemsOf) (pairs : List Pair) (remark : List ℕ) (entries : List Entry)
+    : Type 0 where
   pub of : ℕ
   pub named : id_of pairs ≡ Some of
   pub card : CardEntry
@@ -100,17 +104,17 @@ pub record AsksBack (q : ItemsOf) (pairs : List Pair) (entries : List Entry) : T
   pub accepted : List Command
   pub entry : Entry
   pub id : ℕ
-  pub is : undone_entry accepted id card ≡ Some entry
+  pub is : undone_entry accepted id card remark ≡ Some entry
   pub alone : entries ≡ entry ∷ []
 
--- the entries that the pairs at a path ask for
-abbrev pub AsksFor : ItemsOf → List ℕ → List Pair → List Entry → Type 0
-AsksFor q path pairs entries =
-    ((path ≡ codes "/card") × AsksForCard pairs entries)
+-- the entries that the pairs at a path ask for; a card has this remark
+abbrev pub AsksFor : ItemsOf → List ℕ → List Pair → List ℕ → List Entry → Type 0
+AsksFor q path pairs remark entries =
+    ((path ≡ codes "/card") × AsksForCard pairs remark entries)
     ⊎ ((path ≡ codes "/command") × AsksForOne pairs entries)
     ⊎ ((path ≡ codes "/commands") × AsksForAll pairs entries)
-    ⊎ ((path ≡ codes "/again") × AsksAgain q pairs entries)
-    ⊎ ((path ≡ codes "/undo") × AsksBack q pairs entries)
+    ⊎ ((path ≡ codes "/again") × AsksAgain q pairs remark entries)
+    ⊎ ((path ≡ codes "/undo") × AsksBack q pairs remark entries)
 
 -- no item is taken
 abbrev pub TakesNothing : ServiceOf → ServiceOf → Type 0
@@ -123,7 +127,8 @@ pub record IsTaken (old : ServiceOf) (request : Request (List ℕ)) (response : 
   pub entries : List Entry
   pub list : ItemsOf
   pub form : IsForm old request
-  pub asked : AsksFor old.outbox.list (path_of request) (sent_pairs request) entries
+  pub asked : AsksFor old.outbox.list (path_of request) (sent_pairs request)
+      (remark_of old.name old.clock) entries
   pub taken : TakesAll old.outbox.list entries old.time list
   pub items : new.outbox.list.items ≡ list.items
   pub synced : IsSynced new.file

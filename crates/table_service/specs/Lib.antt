@@ -1,4 +1,5 @@
 pub mod Gate
+pub mod Remarks
 pub mod Imports
 pub mod Requests
 pub mod Replies
@@ -16,3 +17,4 @@ pub mod Recents
 pub mod Services
 pub mod Laws
 pub mod Lists
+pub mod Steps

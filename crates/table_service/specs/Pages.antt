@@ -1,24 +1,37 @@
 -- The pages that are made of the mirror.
-use Rattle.std.specs.Prelude.{◌≡◌, ℕ, ◌+◌, List, Option, None, Some, is_some, slice_get}
+use Rattle.std.specs.Prelude.{◌≡◌, ℕ, ◌+◌, ◌-◌, Bool, true, false, nat_lt, List, [], ◌∷◌}
+use Rattle.std.specs.Prelude.{Option, None, Some, get_or, is_some, length, map, min, slice_get}
+use Rattle.std.specs.Option.{option_copied}
 use Rattle.acceptor.specs.declared.entry.Entry.{Entry}
 use Rattle.card_forms.specs.Readings.{number_of}
+use Rattle.outbox.specs.declared.item.Item.{Item}
+use Rattle.outbox.specs.declared.state.State.{State}
+use Rattle.outbox.specs.declared.state.State.TheVariants as state
 use Rattle.outbox.specs.Items.{ItemsOf, item_in}
+use Rattle.outbox.specs.States.{state_of}
 use Rattle.commands.specs.Accepted.{round_by}
 use Rattle.entry_views.specs.declared.draft.Draft.{Draft}
 use Rattle.entry_views.specs.declared.draft.Draft.TheVariants as draft
 use Rattle.entry_views.specs.declared.origin.Origin.{Origin}
+use Rattle.entry_views.specs.declared.past.Past.{Past}
 use Rattle.entry_views.specs.Page.{IsCardPage}
 use Rattle.hall_views.specs.Importing.{import_page}
 use Rattle.hall_views.specs.Overview.{overview}
 use Rattle.hall_views.specs.People.{IsPeoplePage}
 use Rattle.hall_views.specs.Person.{person_page}
 use Rattle.hall_views.specs.Rounds.{rounds_page}
+use Rattle.hall_views.specs.Waiting.{waiting_page}
 use Rattle.origins.specs.Changes.{IsLastChange}
+use Rattle.origins.specs.Entering.{AreLastEntering, places, text_enters}
 use Rattle.entry_views.specs.paper.Scorecards.{IsScorecards}
 use Rattle.entry_views.specs.paper.Wall.{IsWallSheet}
 use Rattle.table_views.specs.declared.around.Around.{Around}
 use Rattle.table_views.specs.Logs.{accepted_in}
+use Rattle.table_views.specs.Standing.{standing}
+use Rattle.table_views.specs.Typed.{entered_typed}
+use Rattle.texts.specs.declared.command.Entered.{Entered}
 use Rattle.texts.specs.declared.command.RoundId.{RoundId}
+use Rattle.texts.specs.Fields.{cut_remark}
 use Rattle.table_service.specs.Asked.{number_if}
 use Rattle.table_service.specs.declared.reading.View.{View}
 use Rattle.table_service.specs.declared.reading.View.TheVariants as view
@@ -30,28 +43,65 @@ draft_of (Some number) = draft.Number number
 
 -- ---- a card
 
-abbrev pub origin_by : ItemsOf → ℕ → Option Entry → Option Origin
-origin_by q position None = None
-origin_by q position (Some entry) =
-    Some (record { position = position + 1; here = is_some (item_in q entry.id) })
+-- what is told of the entry at a position: how many entries there are up to it, whether it was
+-- sent from this table, and its remark
+pub record TellsEntry (q : ItemsOf) (at : ℕ) (entry : Entry) (origin : Origin) : Type 0 where
+  pub position : origin.position ≡ at + 1
+  pub here : origin.here ≡ is_some (item_in q entry.id)
+  pub remark : option_copied origin.remark ≡ (cut_remark entry.text).1
 
--- the entry at a position, by how many entries there are up to it, and whether it was sent
--- from this table
-abbrev pub origin_at : ItemsOf → List Entry → ℕ → Option Origin
-origin_at q log position = origin_by q position (slice_get log position)
+abbrev pub TellsEntryIf : ItemsOf → ℕ → Option Entry → Option Origin → Type 0
+TellsEntryIf q position None origin = origin ≡ None
+TellsEntryIf q position (Some entry) None = ⊥
+TellsEntryIf q position (Some entry) (Some origin) = TellsEntry q position entry origin
 
-abbrev pub origin_if : ItemsOf → List Entry → Option ℕ → Option Origin
-origin_if q log None = None
-origin_if q log (Some position) = origin_at q log position
+-- the same of the entry of a log at a position
+abbrev pub TellsEntryAt : ItemsOf → List Entry → ℕ → Option Origin → Type 0
+TellsEntryAt q log position origin =
+    TellsEntryIf q position (slice_get log position) origin
+
+abbrev pub TellsLast : ItemsOf → List Entry → Option ℕ → Option Origin → Type 0
+TellsLast q log None origin = origin ≡ None
+TellsLast q log (Some position) origin = TellsEntryAt q log position origin
 
 -- by which entry of the log the attempts of a competitor in a round stand as they do, if by any
 abbrev pub IsOrigin : ItemsOf → List Entry → RoundId → ℕ → Option Origin → Type 0
 IsOrigin q log round number origin =
-    (last : Option ℕ) × IsLastChange log round number last × (origin ≡ origin_if q log last)
+    (last : Option ℕ) × IsLastChange log round number last × TellsLast q log last origin
 
 abbrev pub IsOriginFor : ItemsOf → List Entry → RoundId → Option ℕ → Option Origin → Type 0
 IsOriginFor q log round None origin = origin ≡ None
 IsOriginFor q log round (Some number) origin = IsOrigin q log round number origin
+
+-- what was entered, as it may be typed
+abbrev pub typed_if : Option Entered → List ℕ
+typed_if None = []
+typed_if (Some x) = entered_typed x
+
+-- what the entry at a position enters for the attempt at a place, if it is known
+abbrev pub typed_at : List Entry → RoundId → ℕ → ℕ → Option ℕ → List ℕ
+typed_at log round number place None = []
+typed_at log round number place (Some position) =
+    typed_if (text_enters log round number place position)
+
+abbrev pub all_typed_at : List Entry → RoundId → ℕ → List (Option ℕ) → List (List ℕ)
+all_typed_at log round number last =
+    map (λ place. typed_at log round number place (get_or last place None)) places
+
+-- how many attempts of a competitor stand in a round, at most five
+abbrev pub stands_of : List Entry → RoundId → ℕ → ℕ
+stands_of log round number = min (length (standing (accepted_in log) round number)) 5
+
+-- of each attempt that stands what was entered last for it, as it may be typed
+abbrev pub AreFilled : List Entry → RoundId → ℕ → List (List ℕ) → Type 0
+AreFilled log round number filled =
+    (last : List (Option ℕ))
+    × AreLastEntering log round number (stands_of log round number) last
+    × (filled ≡ all_typed_at log round number last)
+
+abbrev pub AreFilledFor : List Entry → RoundId → Option ℕ → List (List ℕ) → Type 0
+AreFilledFor log round None filled = filled ≡ [] ∷ [] ∷ [] ∷ [] ∷ [] ∷ []
+AreFilledFor log round (Some number) filled = AreFilled log round number filled
 
 -- the number of the competitor of a card, if it has one
 abbrev pub number_in : Draft → Option ℕ
@@ -62,10 +112,38 @@ number_in (draft.Typed form notes) = number_if (number_of form.now.number)
 -- the page of a card of a round, with this draft
 pub record IsCard (q : ItemsOf) (around : Around) (round : RoundId) (draft : Draft)
     (page : Option (List ℕ)) : Type 0 where
-  pub origin : Option Origin
-  pub from : IsOriginFor q around.mirror.now round (number_in draft) origin
-  pub is : IsCardPage around round draft origin
+  pub past : Past
+  pub from : IsOriginFor q around.mirror.now round (number_in draft) past.origin
+  pub filled : AreFilledFor around.mirror.now round (number_in draft) past.filled.now
+  pub is : IsCardPage around round draft past
       (round_by (accepted_in around.mirror.now) round) page
+
+-- ---- the page after the form of a card
+
+-- an item of which this became waits, and was taken less than two seconds ago
+abbrev pub waits_since : State → ℕ → Bool
+waits_since state.Waits ago = nat_lt ago 2000
+waits_since (state.Saved position) ago = false
+waits_since (state.Changed position) ago = false
+waits_since (state.Refused position why) ago = false
+waits_since (state.OtherText position) ago = false
+
+abbrev pub item_waits : Around → Option Item → Bool
+item_waits around None = false
+item_waits around (Some item) =
+    waits_since (state_of around.mirror.now item.entry) (around.now - item.since)
+
+-- a card that was sent under this id waits, since less than two seconds
+abbrev pub waits : ItemsOf → Around → Option ℕ → Bool
+waits q around None = false
+waits q around (Some id) = item_waits around (item_in q id)
+
+-- the page of a card, or the page that waits for the one that was sent before it
+abbrev pub IsCardAfter : Bool → ItemsOf → Around → RoundId → Draft → Option (List ℕ) → Type 0
+IsCardAfter true q around round draft page = page ≡ Some (waiting_page around round)
+IsCardAfter false q around round draft page = IsCard q around round draft page
+
+-- ---- all pages
 
 abbrev pub IsPeople : Around → Option (List ℕ) → Type 0
 IsPeople around None = ⊥
@@ -79,7 +157,8 @@ IsPage q around title view.People page = IsPeople around page
 IsPage q around title (view.Person number) page = page ≡ person_page around number
 IsPage q around title view.Import page = page ≡ Some (import_page around)
 IsPage q around title (view.Rounds round) page = page ≡ Some (rounds_page around round)
-IsPage q around title (view.Card round number) page = IsCard q around round (draft_of number) page
+IsPage q around title (view.Card round number sent) page =
+    IsCardAfter (waits q around sent) q around round (draft_of number) page
 IsPage q around title (view.Wall round) page =
     IsWallSheet title around.mirror.now round (round_by (accepted_in around.mirror.now) round) page
 IsPage q around title (view.Scorecards round) page =

@@ -29,6 +29,7 @@ use Rattle.table_views.specs.Editions.{is_latest}
 use Rattle.table_views.specs.Logs.{accepted_in}
 use Rattle.texts.specs.declared.command.CardEntry.{CardEntry}
 use Rattle.texts.specs.declared.command.RoundId.{RoundId}
+use Rattle.table_service.specs.declared.plan.Effect.TheVariants as effect
 use Rattle.table_service.specs.declared.plan.Plan.{Plan}
 use Rattle.table_service.specs.declared.plan.Problem.TheVariants as problem
 use Rattle.table_service.specs.declared.plan.Reply.TheVariants as reply
@@ -39,9 +40,9 @@ use Rattle.table_service.specs.declared.reading.Asked.TheVariants as asked
 use Rattle.table_service.specs.Asked.{asked_at, number_below, round_below}
 use Rattle.table_service.specs.Checks.{doubts, unread_notes}
 use Rattle.table_service.specs.Pages.{IsCard, IsPage}
-use Rattle.table_service.specs.Replying.{ShowsAs, ShowsIf, ShowsPage, refuses, shows}
+use Rattle.table_service.specs.Replying.{Sends, ShowsAs, ShowsIf, ShowsPage, refuses, shows}
 use Rattle.table_service.specs.Requests.{path_of, query_of}
-use Rattle.table_service.specs.Taking.{PlansEntries}
+use Rattle.table_service.specs.Taking.{PlansEntries, is_sent}
 
 -- ---- a request that only reads
 
@@ -102,17 +103,24 @@ PlansCardEntry q around form notes entry true plan =
 PlansCardEntry q around form notes entry false plan =
     HoldsCard q around form notes shown.Asked plan
 
--- with these notes on its card
+-- with these notes on its card, of which the form confirms some
 abbrev pub PlansNoted : ItemsOf → Around → CardForm → List ℕ → Entry → List Note → Plan → Type 0
 PlansNoted q around form sure entry notes plan =
     PlansCardEntry q around form notes entry (is_entered q entry.id sure notes) plan
 
--- by the card that its entry spells: what is to be confirmed of that card is asked first
+-- what was sent already is what it was; else what is to be confirmed of this card is asked first
+abbrev pub PlansFit : Bool → ItemsOf → Around → CardForm → List ℕ → Entry → CardEntry → Plan
+    → Type 0
+PlansFit true q around form sure entry card plan = Sends (card_place form) effect.Nothing plan
+PlansFit false q around form sure entry card plan =
+    PlansNoted q around form sure entry (doubts (accepted_in around.mirror.now) card) plan
+
+-- by the card that its entry spells
 abbrev pub PlansSpelled : ItemsOf → Around → CardForm → List ℕ → Entry → Option CardEntry → Plan
     → Type 0
 PlansSpelled q around form sure entry None plan = plan ≡ refuses problem.BadForm
 PlansSpelled q around form sure entry (Some card) plan =
-    PlansNoted q around form sure entry (doubts (accepted_in around.mirror.now) card) plan
+    PlansFit (is_sent q entry) q around form sure entry card plan
 
 -- by the entry of the card, if its command has one
 abbrev pub PlansCardAs : ItemsOf → Around → CardForm → List ℕ → Option Entry → Plan → Type 0
@@ -126,7 +134,7 @@ pub record PlansReadCard (q : ItemsOf) (around : Around) (form : CardForm) (sure
     (plan : Plan) : Type 0 where
   pub entry : CardEntry
   pub read : IsReadAs form entry
-  pub plans : PlansCardAs q around form sure (card_entry form.id entry) plan
+  pub plans : PlansCardAs q around form sure (card_entry form.id entry around.remark.now) plan
 
 -- what is said of fields that are no card
 abbrev pub fault_notes : CardReading → List Note

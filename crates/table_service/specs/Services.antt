@@ -18,15 +18,17 @@ use Rattle.table_service.specs.declared.plan.Problem.TheVariants as problem
 use Rattle.table_service.specs.Disks.{JournalOf, Keeps}
 use Rattle.table_service.specs.Gate.{is_own}
 use Rattle.table_service.specs.Recents.{AreRecent}
+use Rattle.table_service.specs.Remarks.{remark_of}
 use Rattle.table_service.specs.Replies.{IsProblem, Writes}
 use Rattle.table_service.specs.Replying.{refuses}
 use Rattle.table_service.specs.Sent.{PlansOwn}
 
--- the title of the hall, the hosts and the token of the program, the mirror with what keeps it up,
--- what is known of the desks, what was entered, the ids for the forms of pages, a set for each
--- page, the time, and the journal
+-- the title of the hall, the name of the table, the hosts and the token of the program, the mirror
+-- with what keeps it up, what is known of the desks, what was entered, the ids for the forms of
+-- pages, a set for each page, the time, the machine's clock, and the journal
 pub record ServiceOf : Type 0 where
   pub title : List ℕ
+  pub name : List ℕ
   pub hosts : List (List ℕ)
   pub token : List ℕ
   pub mirroring : MirroringOf
@@ -34,12 +36,14 @@ pub record ServiceOf : Type 0 where
   pub outbox : OutboxOf
   pub ids : List (List ℕ)
   pub time : ℕ
+  pub clock : Option ℕ
   pub file : JournalOf
 
-abbrev pub service : List ℕ → List (List ℕ) → List ℕ → MirroringOf → Desks → OutboxOf
-    → List (List ℕ) → ℕ → JournalOf → ServiceOf
-service title hosts token mirroring desks outbox ids time file = record {
+abbrev pub service : List ℕ → List ℕ → List (List ℕ) → List ℕ → MirroringOf → Desks → OutboxOf
+    → List (List ℕ) → ℕ → Option ℕ → JournalOf → ServiceOf
+service title name hosts token mirroring desks outbox ids time clock file = record {
   title = title;
+  name = name;
   hosts = hosts;
   token = token;
   mirroring = mirroring;
@@ -47,6 +51,7 @@ service title hosts token mirroring desks outbox ids time file = record {
   outbox = outbox;
   ids = ids;
   time = time;
+  clock = clock;
   file = file;
 }
 
@@ -68,6 +73,7 @@ pub record IsAround (s : ServiceOf) (set : List ℕ) (around : Around) : Type 0 
   pub desks : around.desks.now ≡ s.desks
   pub token : around.token.now ≡ s.token
   pub ids : around.ids.now ≡ set
+  pub remark : around.remark.now ≡ remark_of s.name s.clock
   pub recent : AreRecent s.mirroring.entries s.outbox.list around.recent.now
   pub time : around.now ≡ s.time
 
@@ -185,11 +191,11 @@ pub record Answers (old : ServiceOf) (request : Request (List ℕ)) (response : 
 -- ---- what the other calls change
 
 -- no ids are given, and no time is said; what stands in no journal is no item
-pub record IsNew (title : List ℕ) (hosts : List (List ℕ)) (token : List ℕ) (mirroring : MirroringOf)
-    (outbox : OutboxOf) (file : JournalOf) (s : ServiceOf) : Type 0 where
+pub record IsNew (title name : List ℕ) (hosts : List (List ℕ)) (token : List ℕ)
+    (mirroring : MirroringOf) (outbox : OutboxOf) (file : JournalOf) (s : ServiceOf) : Type 0 where
   pub desks : Desks
-  pub is : s ≡ service title hosts token mirroring desks
-      (with_list outbox (taken_back outbox.list)) [] 0 file
+  pub is : s ≡ service title name hosts token mirroring desks
+      (with_list outbox (taken_back outbox.list)) [] 0 None file
 
 -- nothing but the mirror
 abbrev pub IsKeptBut : ServiceOf → ServiceOf → Type 0

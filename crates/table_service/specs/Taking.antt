@@ -2,6 +2,7 @@
 use Rattle.std.specs.Prelude.{◌≡◌, ℕ, ◌-◌, ◌<◌, ◌++◌, Bool, true, false, if◌then◌else◌, bytes_eq}
 use Rattle.std.specs.Prelude.{codes, nat_le, length, List, [], ◌∷◌, Option, None, Some, All, IfSome}
 use Rattle.acceptor.specs.declared.entry.Entry.{Entry}
+use Rattle.card_forms.specs.Entries.{is_same_but_remark}
 use Rattle.hall_views.specs.Refused.{faults_page}
 use Rattle.outbox.specs.declared.item.Item.{Item}
 use Rattle.outbox.specs.Items.{ItemsOf, item_in}
@@ -19,6 +20,14 @@ use Rattle.table_service.specs.Replying.{GoesTo, ShowsPage, refuses}
 pub record IsFitCard (card : CardEntry) : Type 0 where
   pub few : length card.now < 256
   pub entered : All (λ o. IfSome o IsEntered) card.now
+
+abbrev pub sent_as : Option Item → Entry → Bool
+sent_as None entry = false
+sent_as (Some item) entry = is_same_but_remark item.entry.text entry.text
+
+-- the id of an entry is known with its text, whatever the remarks are
+abbrev pub is_sent : ItemsOf → Entry → Bool
+is_sent q entry = sent_as (item_in q entry.id) entry
 
 abbrev pub other_by : Option Item → Entry → Option (List ℕ)
 other_by None entry = None

@@ -73,25 +73,27 @@ back_of unit limit left was =
 
 -- ---- the card
 
-abbrev pub undone_by : ℕ → CardEntry → List Value → Option (List (Option Entered)) → Option Entry
-undone_by id card left None = None
-undone_by id card left (Some now) = card_entry id (over card.id card.number left now)
+abbrev pub undone_by : ℕ → CardEntry → List ℕ → List Value → Option (List (Option Entered))
+    → Option Entry
+undone_by id card remark left None = None
+undone_by id card remark left (Some now) =
+    card_entry id (over card.id card.number left now) remark
 
-abbrev pub undone_over : ℕ → CardEntry → Settings → List Value → Option Entry
-undone_over id card settings left =
-    undone_by id card left (back_of (unit_of card.id.event) settings.limit left card.was)
+abbrev pub undone_over : ℕ → CardEntry → List ℕ → Settings → List Value → Option Entry
+undone_over id card remark settings left =
+    undone_by id card remark left (back_of (unit_of card.id.event) settings.limit left card.was)
 
-abbrev pub undone_in : List Command → ℕ → CardEntry → Option Settings → Option Entry
-undone_in accepted id card None = None
-undone_in accepted id card (Some settings) =
-    undone_over id card settings
+abbrev pub undone_in : List Command → ℕ → CardEntry → List ℕ → Option Settings → Option Entry
+undone_in accepted id card remark None = None
+undone_in accepted id card remark (Some settings) =
+    undone_over id card remark settings
     (card_values (scramble_of accepted card.id.event card.id.round) card settings)
 
--- the entry of the card that takes this one back, under an id: it is over what this card leaves,
--- and enters what stood before it
-abbrev pub undone_entry : List Command → ℕ → CardEntry → Option Entry
-undone_entry accepted id card =
-    undone_in accepted id card (option_map (λ round. round.0) (round_by accepted card.id))
+-- the entry of the card that takes this one back, under an id, with a remark: it is over what this
+-- card leaves, and enters what stood before it
+abbrev pub undone_entry : List Command → ℕ → CardEntry → List ℕ → Option Entry
+undone_entry accepted id card remark =
+    undone_in accepted id card remark (option_map (λ round. round.0) (round_by accepted card.id))
 
 -- ---- taking it back
 
@@ -118,7 +120,9 @@ abbrev pub PlansUndoCard : Around → ItemsOf → ℕ → Option CardEntry → P
 PlansUndoCard around q of None plan = plan ≡ refuses problem.BadForm
 PlansUndoCard around q of (Some card) plan =
     PlansUndoEntry (has_room q 1) around of card.id
-    (undone_entry (accepted_in around.mirror.now) (get_or around.ids.now 0 0) card) plan
+    (undone_entry (accepted_in around.mirror.now) (get_or around.ids.now 0 0) card
+    around.remark.now)
+    plan
 
 abbrev pub PlansUndoIf : Bool → Around → ItemsOf → ℕ → Item → Plan → Type 0
 PlansUndoIf false around q of item plan =

@@ -100,15 +100,17 @@ fn enters_later(stands: usize, now: &[Option<Entered>]) -> bool
     now.iter().skip(stands).all(|outcome| outcome.is_some())
 }
 
-/// The entry of a card over these values, under an id; none where less stands than it lets stay.
+/// The entry of a card over these values, under an id, with a remark; none where less stands than
+/// it lets stay.
 fn again_entry(
     alloc: Global,
     id: FormId,
     card: CardEntry,
+    remark: &[u8],
     was: Was,
 ) -> Result<Option<Entry>, AllocError>
     ensures { IfOk result (λ entry. entry
-        ≡ again_entry (enters_later (length was) card.now) id card was) }
+        ≡ again_entry (enters_later (length was) card.now) id card remark.now was) }
 {
     if !enters_later(was.as_slice().len(), card.now.as_slice()) {
         return Ok(None);
@@ -125,7 +127,7 @@ fn again_entry(
         was,
         now,
     };
-    card_entry(alloc, id, again)
+    card_entry(alloc, id, again, remark)
 }
 
 /// What is to be done for a card over what its page showed that stands now.
@@ -141,7 +143,8 @@ fn plan_again_card(
         (Some card)) }
 {
     let place = cards_place(alloc, card.id)?;
-    let Some(entry) = again_entry(alloc, first_id(around.ids), card, was)? else {
+    let id = first_id(around.ids);
+    let Some(entry) = again_entry(alloc, id, card, around.remark, was)? else {
         return refuse(alloc, around, &place, LESS);
     };
     if !has_room(outbox, 1) {

@@ -1,43 +1,48 @@
 //! The page of a card, with what its attempts come from that stand.
 
-ghost use Rattle.std.specs.Prelude.{◌≡◌, ◌<◌, IfOk, length};
-ghost use Rattle.std.specs.Option.{option_map};
-ghost use Rattle.table_service.specs.Pages.{IsCard, IsOrigin, IsOriginFor, number_in, origin_at};
+ghost use Rattle.std.specs.Prelude.{◌≡◌, ◌<◌, ◌≤◌, IfOk, length};
+ghost use Rattle.std.specs.Option.{option_copied, option_map};
+ghost use Rattle.origins.specs.Entering.{entered_told};
+ghost use Rattle.texts.specs.Reading.{command_of};
+ghost use Rattle.table_service.specs.Pages.{AreFilled, AreFilledFor, IsCard, IsOrigin};
+ghost use Rattle.table_service.specs.Pages.{IsOriginFor, TellsEntryAt, all_typed_at, number_in};
+ghost use Rattle.table_service.specs.Pages.{stands_of, typed_at, typed_if};
 
 use acceptor::entry::Entry;
-use card_forms::number_of;
-use entry_views::{Draft, Origin, card_page};
+use card_forms::{Fields, Typed, number_of};
+use entry_views::{Draft, Origin, Past, card_page};
 use learner::log::Log;
 use mirror::Mirror;
-use origins::last_change;
+use origins::{entered_at, last_change, last_entering};
 use outbox::Outbox;
 use std::alloc::{AllocError, Global};
-use table_views::Around;
-use texts::RoundId;
+use table_views::{Around, push_entered, standing};
+use texts::{CommandFault, Entered, RoundId, cut_remark, read};
 
 /// What an entry at a position of the log says of where it comes from.
-fn origin_at(outbox: &Outbox, log: &Log, position: u32) -> Option<Origin>
+fn origin_at<'a>(outbox: &Outbox, log: &'a Log, position: u32) -> Option<Origin<'a>>
     requires { position < length log.now.entries }
-    ensures { result ≡ origin_at outbox.now.list log.now.entries position }
+    ensures { TellsEntryAt outbox.now.list log.now.entries position result }
 {
     let _most = log.len();
     match log.entry(position) {
         Some(entry) => Some(Origin {
             position: position + 1,
             here: outbox.find(entry.id()).is_some(),
+            remark: cut_remark(entry.text()).1,
         }),
         None => None,
     }
 }
 
 /// By which entry the attempts of a competitor in a round stand as they do, if by any.
-fn origin_of(
+fn origin_of<'a>(
     alloc: Global,
     outbox: &Outbox,
-    mirror: &Mirror,
+    mirror: &'a Mirror,
     round: RoundId,
     number: u16,
-) -> Result<Option<Origin>, AllocError>
+) -> Result<Option<Origin<'a>>, AllocError>
     ensures { IfOk result (IsOrigin outbox.now.list mirror.now round number) }
 {
     match last_change(alloc, mirror, round, number)? {
@@ -47,13 +52,13 @@ fn origin_of(
 }
 
 /// The same, if the competitor is known.
-fn origin_for(
+fn origin_for<'a>(
     alloc: Global,
     outbox: &Outbox,
-    mirror: &Mirror,
+    mirror: &'a Mirror,
     round: RoundId,
     number: Option<u16>,
-) -> Result<Option<Origin>, AllocError>
+) -> Result<Option<Origin<'a>>, AllocError>
     ensures { IfOk result (IsOriginFor outbox.now.list mirror.now round number) }
 {
     match number {
@@ -76,6 +81,124 @@ fn number_in(draft: Draft<'_>) -> Option<u16>
     }
 }
 
+/// What was entered, as it may be typed; empty where nothing was.
+fn typed_of(alloc: Global, entered: Option<&Entered>) -> Result<Typed, AllocError>
+    ensures { IfOk result (λ text. text ≡ typed_if (option_copied entered.entry)) }
+{
+    let mut text = Vec::new(alloc);
+    if let Some(entered) = entered {
+        push_entered(&mut text, entered)?;
+    }
+    Ok(Typed::new(text))
+}
+
+/// What a text enters for the attempt at a place, counted from 0, as it may be typed.
+fn typed_in(
+    alloc: Global,
+    round: RoundId,
+    number: u16,
+    place: usize,
+    text: &[u8],
+) -> Result<Typed, AllocError>
+    requires { place < 5 }
+    ensures { IfOk result (λ typed.
+        typed ≡ typed_if (entered_told round number place (command_of text.now))) }
+{
+    match read(alloc, text) {
+        Ok(told) => typed_of(alloc, entered_at(round, number, place, &told.command)),
+        Err(CommandFault::NoMemory) => Err(AllocError),
+        Err(CommandFault::TooLong | CommandFault::NotACommand | CommandFault::BadField { .. }) =>
+            typed_of(alloc, None),
+    }
+}
+
+/// What the entry at a position enters for it, if it is known, as it may be typed.
+fn typed_at(
+    alloc: Global,
+    log: &Log,
+    round: RoundId,
+    number: u16,
+    place: usize,
+    position: Option<u32>,
+) -> Result<Typed, AllocError>
+    requires { place < 5 }
+    ensures { IfOk result (λ typed.
+        typed ≡ typed_at log.now.entries round number place position) }
+{
+    let Some(position) = position else {
+        return typed_of(alloc, None);
+    };
+    match log.entry(position) {
+        Some(entry) => typed_in(alloc, round, number, place, entry.text()),
+        None => typed_of(alloc, None),
+    }
+}
+
+/// What the entries at these positions enter for the five attempts, as it may be typed.
+fn all_typed_at(
+    alloc: Global,
+    log: &Log,
+    round: RoundId,
+    number: u16,
+    last: [Option<u32>; 5],
+) -> Result<Fields, AllocError>
+    ensures { IfOk result (λ fields.
+        fields ≡ all_typed_at log.now.entries round number last) }
+{
+    Fields::new(
+        alloc,
+        typed_at(alloc, log, round, number, 0, last[0])?,
+        typed_at(alloc, log, round, number, 1, last[1])?,
+        typed_at(alloc, log, round, number, 2, last[2])?,
+        typed_at(alloc, log, round, number, 3, last[3])?,
+        typed_at(alloc, log, round, number, 4, last[4])?,
+    )
+}
+
+/// How many attempts of a competitor stand in a round, at most five.
+fn stands_of(mirror: &Mirror, round: RoundId, number: u16) -> usize
+    ensures stands { result ≡ stands_of mirror.now round number }
+    ensures few { result ≤ 5 }
+{
+    standing(mirror.meet(), round, number).len().min(5)
+}
+
+/// What was entered for each attempt of a competitor that stands, as it may be typed.
+fn filled_of(
+    alloc: Global,
+    mirror: &Mirror,
+    round: RoundId,
+    number: u16,
+) -> Result<Fields, AllocError>
+    ensures { IfOk result (AreFilled mirror.now round number) }
+{
+    let stands = stands_of(mirror, round, number);
+    let last = last_entering(alloc, mirror, round, number, stands)?;
+    all_typed_at(alloc, mirror.log(), round, number, last)
+}
+
+/// The same, if the competitor is known.
+fn filled_for(
+    alloc: Global,
+    mirror: &Mirror,
+    round: RoundId,
+    number: Option<u16>,
+) -> Result<Fields, AllocError>
+    ensures { IfOk result (AreFilledFor mirror.now round number) }
+{
+    match number {
+        Some(number) => filled_of(alloc, mirror, round, number),
+        None => Fields::new(
+            alloc,
+            typed_of(alloc, None)?,
+            typed_of(alloc, None)?,
+            typed_of(alloc, None)?,
+            typed_of(alloc, None)?,
+            typed_of(alloc, None)?,
+        ),
+    }
+}
+
 /// The page of a card of a round. None where the round was not opened.
 pub(crate) fn card(
     alloc: Global,
@@ -87,6 +210,12 @@ pub(crate) fn card(
     ensures { IfOk result (λ page. IsCard outbox.now.list around.entry.now round draft.entry
         (option_map (λ text. text.items) page)) }
 {
-    let origin = origin_for(alloc, outbox, around.mirror, round, number_in(draft))?;
-    card_page(alloc, around, round, draft, origin)
+    let number = number_in(draft);
+    let origin = origin_for(alloc, outbox, around.mirror, round, number)?;
+    let filled = filled_for(alloc, around.mirror, round, number)?;
+    let past = Past {
+        origin,
+        filled: &filled,
+    };
+    card_page(alloc, around, round, draft, past)
 }

@@ -1,6 +1,8 @@
 //! What is kept up with the desks of the hall.
 
+ghost use Rattle.std.specs.Prelude.{◌≡◌, IfOk, true};
 ghost use Rattle.wire.specs.Ranges.{IsDesk};
+ghost use Rattle.table_service.specs.Steps.{HandsOut, IsKeptUp};
 
 use crate::disk::Disk;
 use crate::service::TableService;
@@ -56,6 +58,8 @@ pub(crate) struct DesksSide<'a, R> {
     /// The place of the first item that waits, and when the one before it was decided.
     front: usize,
     moved_at: u64,
+    /// Whether it was said that a desk takes nothing for want of the key.
+    said_refused: bool,
     ghost in_range: { IsDesk desks × IsDesk aim },
 }
 
@@ -78,6 +82,18 @@ fn keep_asked<R: Net + RandomSource, F: Write>(
 fn waits_at<D: Disk>(service: &TableService<D>, place: usize) -> Option<bool> {
     let (_, item) = service.outbox().at(place)?;
     Some(state_of(service.mirroring().mirror(), &item.entry) == State::Waits)
+}
+
+/// The place of the first item from this one on that waits, or after the last one.
+fn first_waiting<D: Disk>(service: &TableService<D>, from: usize) -> usize {
+    let mut place = from;
+    for _item in 0..MOST_ITEMS {
+        if waits_at(service, place) != Some(false) {
+            return place;
+        }
+        place = place.saturating_add(1);
+    }
+    place
 }
 
 /// The item that the desk did not take when it was submitted last, and why.
@@ -117,26 +133,26 @@ impl<'a, R: Net + RandomSource> DesksSide<'a, R> {
             aimed_at: 0,
             front: 0,
             moved_at: 0,
+            said_refused: false,
         })
     }
 
-    /// Goes on to the first item that waits.
-    fn pass<D: Disk>(&mut self, service: &TableService<D>, now: u64) {
-        for _item in 0..MOST_ITEMS {
-            if waits_at(service, self.front) != Some(false) {
-                return;
-            }
-            self.front = self.front.saturating_add(1);
+    /// Goes on to the first item that waits, once the mirror had all that a desk's log had.
+    fn pass<D: Disk>(&mut self, service: &TableService<D>, now: u64)
+        ensures { self.new.caught_up ≡ self.old.caught_up }
+    {
+        let front = first_waiting(service, self.front);
+        if self.caught_up && front != self.front {
+            self.front = front;
             self.moved_at = now;
         }
     }
 
     /// Keeps the mirror up, and looks for what was decided. False: the hall is broken.
-    fn keep_mirror<D: Disk>(
-        &mut self,
-        service: &mut TableService<D>,
-        now: u64,
-    ) -> io::Result<bool> {
+    fn keep_mirror<D: Disk>(&mut self, service: &mut TableService<D>, now: u64) -> io::Result<bool>
+        ensures keeps { IsKeptUp service.old service.new }
+        ensures caught_up { self.old.caught_up ≡ true → self.new.caught_up ≡ true }
+    {
         if service.keep(&mut self.stream, now) == Kept::Broken {
             return Ok(false);
         }
@@ -145,9 +161,7 @@ impl<'a, R: Net + RandomSource> DesksSide<'a, R> {
             self.caught_up = self.caught_up || last.is_some();
         }
         service.look()?;
-        if self.caught_up {
-            self.pass(service, now);
-        }
+        self.pass(service, now);
         Ok(true)
     }
 
@@ -160,6 +174,7 @@ impl<'a, R: Net + RandomSource> DesksSide<'a, R> {
     /// Submits at this desk, 1 to 5, from now on.
     fn aim_at<D: Disk>(&mut self, service: &mut TableService<D>, desk: u8, now: u64)
         requires { IsDesk desk }
+        ensures { IsKeptUp service.old service.new }
     {
         self.aim = desk;
         self.aimed_at = now;
@@ -168,7 +183,9 @@ impl<'a, R: Net + RandomSource> DesksSide<'a, R> {
 
     /// Goes on to the desk that the mirror follows, where it is another one than before; and to the
     /// next desk, where nothing was decided for five seconds.
-    fn follow<D: Disk>(&mut self, service: &mut TableService<D>, now: u64) {
+    fn follow<D: Disk>(&mut self, service: &mut TableService<D>, now: u64)
+        ensures { IsKeptUp service.old service.new }
+    {
         let desk = service.mirroring().desk();
         if desk != self.followed {
             self.followed = desk;
@@ -177,14 +194,15 @@ impl<'a, R: Net + RandomSource> DesksSide<'a, R> {
         let Some(since) = self.still_since(service) else {
             return;
         };
-        if now.saturating_sub(since.max(self.aimed_at)) >= PATIENCE {
-            let next = if self.aim >= self.desks {
-                1
-            } else {
-                self.aim + 1
-            };
-            self.aim_at(service, next, now);
+        if now.saturating_sub(since.max(self.aimed_at)) < PATIENCE {
+            return;
         }
+        let next = if self.aim >= self.desks {
+            1
+        } else {
+            self.aim + 1
+        };
+        self.aim_at(service, next, now);
     }
 
     /// Whether something that a desk has taken waits to be decided.
@@ -195,17 +213,36 @@ impl<'a, R: Net + RandomSource> DesksSide<'a, R> {
     /// Asks the desk at once for what comes next, where what it has taken waits to be decided. Not
     /// as soon as it was taken: a desk takes few questions on one connection, and one that comes
     /// too early may be its last.
-    fn hurry<D: Disk>(&mut self, service: &mut TableService<D>, now: u64) {
+    fn hurry<D: Disk>(&mut self, service: &mut TableService<D>, now: u64)
+        ensures { IsKeptUp service.old service.new }
+    {
         if !self.is_taken(service) {
             self.hurried_at = now;
-        } else if now.saturating_sub(self.hurried_at) >= HURRY {
-            self.hurried_at = now;
-            service.hurry();
+            return;
         }
+        if now.saturating_sub(self.hurried_at) < HURRY {
+            return;
+        }
+        self.hurried_at = now;
+        service.hurry();
+    }
+
+    /// Submits what was taken, once the mirror had all that a desk's log had.
+    fn hand_out<D: Disk>(&mut self, service: &mut TableService<D>, now: u64)
+        ensures keeps { IsKeptUp service.old service.new }
+        ensures hands { self.old.caught_up ≡ true → HandsOut service.old service.new }
+    {
+        if !self.caught_up {
+            return;
+        }
+        self.follow(service, now);
+        let _kept = service.submit(&mut self.submits, now);
     }
 
     /// Says how the desks are doing.
-    fn tell<D: Disk>(&self, service: &mut TableService<D>, now: u64) -> io::Result<()> {
+    fn tell<D: Disk>(&self, service: &mut TableService<D>, now: u64) -> io::Result<()>
+        ensures { IsKeptUp service.old service.new }
+    {
         let lengths = self.asked.desks.lengths(self.alloc)?;
         let away = self.asked.desks.away(self.alloc)?;
         let undecided = match self.still_since(service) {
@@ -233,21 +270,36 @@ impl<'a, R: Net + RandomSource> DesksSide<'a, R> {
         service: &mut TableService<D>,
         now: u64,
         faults: &mut F,
-    ) -> io::Result<bool> {
+    ) -> io::Result<bool>
+        ensures keeps { IsKeptUp service.old service.new }
+        ensures hands { IfOk result (λ goes_on. goes_on ≡ true → self.old.caught_up ≡ true
+            → HandsOut service.old service.new) }
+    {
         keep_asked(&mut self.asked, now, faults);
         if !self.keep_mirror(service, now)? {
             return Ok(false);
         }
-        if self.caught_up {
-            self.follow(service, now);
-            let _kept = service.submit(&mut self.submits, now);
-        }
+        self.hand_out(service, now);
+        self.tell_refused(service, faults);
         self.hurry(service, now);
         if !self.keep_mirror(service, now)? {
             return Ok(false);
         }
         self.tell(service, now)?;
         Ok(true)
+    }
+
+    /// Says on a line, once, that a desk takes nothing for want of the key, where one refused to. A
+    /// line that can't be written is left out.
+    fn tell_refused<D: Disk, F: Write>(&mut self, service: &TableService<D>, faults: &mut F) {
+        let outbox = service.outbox();
+        if self.said_refused || outbox.refusal() != Some(ClientRefusal::NotAllowed) {
+            return;
+        }
+        let desk = outbox.desk();
+        let why = "takes nothing: this table has no key, or another one";
+        let _ = writeln!(faults, "{PROGRAM}: desk {desk} {why}");
+        self.said_refused = true;
     }
 
     /// How long browsers may be waited for.

@@ -3,7 +3,8 @@
 ghost use Rattle.std.specs.Prelude.{◌≡◌, IfOk, Ok, Some};
 ghost use Rattle.card_forms.specs.Readings.{IsReadAs};
 ghost use Rattle.table_service.specs.Plans.{HoldsCard, PlansCard, PlansCardAs, PlansCardEntry};
-ghost use Rattle.table_service.specs.Plans.{PlansForm, PlansReadCard, PlansSpelled, are_confirmed};
+ghost use Rattle.table_service.specs.Plans.{PlansForm, PlansNoted, PlansReadCard, PlansSpelled};
+ghost use Rattle.table_service.specs.Plans.{are_confirmed};
 ghost use Rattle.table_service.specs.Plans.{card_place, cards_place, has_word, is_confirmed};
 ghost use Rattle.table_service.specs.Plans.{is_entered};
 ghost use Rattle.table_service.specs.Taking.{IsFitCard};
@@ -11,8 +12,8 @@ ghost use Rattle.table_service.specs.Taking.{IsFitCard};
 use crate::cards::card;
 use crate::checks::{doubts_of, only, unread};
 use crate::commanding::refuse;
-use crate::entries::{fit_card, plan_entries};
-use crate::plan::{Plan, Problem, Shown};
+use crate::entries::{fit_card, is_sent, plan_entries};
+use crate::plan::{Effect, Plan, Problem, Shown};
 use acceptor::entry::Entry;
 use card_forms::{
     CardFault, CardForm, CardFormFault, CardReading, Pairs, card_entry, card_form, card_of,
@@ -132,9 +133,26 @@ fn plan_entry(
     plan_entries(alloc, outbox, around, place, entries)
 }
 
-/// What is to be done for an entry that spells this card: what is to be confirmed of the card is
-/// asked first.
+/// What is to be done for an entry that spells a card of which these notes are to be confirmed.
 fn plan_noted(
+    alloc: Global,
+    outbox: &Outbox,
+    around: &Around<'_>,
+    form: &CardForm,
+    sure: &[u8],
+    entry: Entry,
+    notes: &[Note],
+) -> Result<Plan, AllocError>
+    ensures { IfOk result
+        (PlansNoted outbox.now.list around.entry.now form.now sure.now entry notes.now) }
+{
+    let enters = is_entered(alloc, outbox, entry.id(), sure, notes)?;
+    plan_entry(alloc, outbox, around, form, notes, entry, enters)
+}
+
+/// What is to be done for an entry that spells this card. A card that was sent already, with
+/// whatever remark, is what it was; of another one what is to be confirmed is asked first.
+fn plan_fit(
     alloc: Global,
     outbox: &Outbox,
     around: &Around<'_>,
@@ -147,9 +165,12 @@ fn plan_noted(
     ensures { IfOk result (PlansSpelled outbox.now.list around.entry.now form.now sure.now entry
         (Some card.entry.now)) }
 {
+    if is_sent(outbox, &entry) {
+        let place = place_of(alloc, form)?;
+        return Ok(Plan::see(place, Effect::Nothing));
+    }
     let notes = doubts_of(alloc, card, around.mirror.meet())?;
-    let enters = is_entered(alloc, outbox, entry.id(), sure, &notes)?;
-    plan_entry(alloc, outbox, around, form, &notes, entry, enters)
+    plan_noted(alloc, outbox, around, form, sure, entry, &notes)
 }
 
 /// What is to be done for a card that has this entry.
@@ -165,7 +186,7 @@ fn plan_spelled(
         (PlansCardAs outbox.now.list around.entry.now form.now sure.now (Some entry)) }
 {
     match fit_card(alloc, entry.text())? {
-        Some(card) => plan_noted(alloc, outbox, around, form, sure, entry, &card),
+        Some(card) => plan_fit(alloc, outbox, around, form, sure, entry, &card),
         None => Ok(Plan::problem(Problem::BadForm)),
     }
 }
@@ -183,7 +204,7 @@ fn plan_read(
     ensures { IfOk result
         (PlansReadCard outbox.now.list around.entry.now form.now sure.now) }
 {
-    match card_entry(alloc, form.id, read)? {
+    match card_entry(alloc, form.id, read, around.remark)? {
         Some(entry) => plan_spelled(alloc, outbox, around, form, sure, entry),
         None => {
             let notes = only(alloc, Note::Card(CardFault::TooLong))?;

@@ -4,11 +4,12 @@ ghost use Rattle.std.specs.Prelude.{◌≡◌, IfOk, IfSome};
 ghost use Rattle.std.specs.Option.{option_map};
 ghost use Rattle.card_forms.specs.Entries.{card_in, card_of};
 ghost use Rattle.table_service.specs.Taking.{IsFitCard, PlansEntries, both_words, has_room};
-ghost use Rattle.table_service.specs.Taking.{other_in, other_of};
+ghost use Rattle.table_service.specs.Taking.{is_sent, other_in, other_of};
 
 use crate::commanding::tell;
 use crate::plan::{Effect, Plan, Problem};
 use acceptor::entry::Entry;
+use card_forms::is_same_but_remark;
 use outbox::Outbox;
 use std::alloc::{AllocError, Global};
 use table_views::Around;
@@ -39,6 +40,16 @@ pub(crate) fn fit_card(alloc: Global, text: &[u8]) -> Result<Option<CardEntry>, 
         Err(CommandFault::TooLong | CommandFault::NotACommand | CommandFault::BadField { .. }) => {
             Ok(None)
         }
+    }
+}
+
+/// Whether the id of an entry is known with its text, whatever the remarks are.
+pub(crate) fn is_sent(outbox: &Outbox, entry: &Entry) -> bool
+    ensures { result ≡ is_sent outbox.now.list entry.now }
+{
+    match outbox.find(entry.id()) {
+        Some(item) => is_same_but_remark(item.entry.text(), entry.text()),
+        None => false,
     }
 }
 

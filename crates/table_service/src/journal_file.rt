@@ -161,11 +161,17 @@ fn bytes_of(alloc: Global, file: &File) -> Result<Vec<u8>, FileFault> {
 }
 
 /// The journal that a file has, whose last line is taken out of it where it was not written to its
-/// end.
+/// end. What was read is synced: a program that was killed before its sync may have left lines that
+/// a crash would take.
 fn opened_over(disk: SystemFile, journal: Journal) -> Result<Opened, FileFault> {
     let mut disk = disk;
     let length = journal.whole as u64;
-    if journal.cut && !cut_back(&mut disk, length) {
+    let stands = if journal.cut {
+        cut_back(&mut disk, length)
+    } else {
+        disk.sync()
+    };
+    if !stands {
         return Err(FileFault::System);
     }
     let file = JournalFile {

@@ -22,12 +22,14 @@ mod posting;
 mod reading;
 mod recents;
 mod refusing;
+mod remarks;
 mod replies;
 mod service;
 mod serving;
 mod setup;
 mod showing;
 mod undoing;
+mod waiting;
 
 pub use desks_side::PROGRAM;
 pub use disk::{Disk, SystemFile};
@@ -36,6 +38,7 @@ pub use laws::{
     answers_are_secured, calls_are_of_the_outbox, foreign_requests_are_refused,
     forms_alone_are_taken, saved_is_the_card,
 };
+pub use remarks::is_table_name;
 pub use service::TableService;
 pub use serving::{End, hall_name, serve};
 pub use setup::Setup;

@@ -12,6 +12,7 @@ use crate::journal_file::JournalFile;
 use crate::plan::{Effect, Plan, Problem};
 use crate::posting::plan_own;
 use crate::recents::recents_of;
+use crate::remarks::remark_of;
 use crate::replies::{tell_problem, write};
 use crate::setup::Setup;
 use acceptor::NoMemory;
@@ -44,8 +45,10 @@ pub struct TableService<D: Disk> {
     outbox: Outbox,
     /// Ids for the forms of pages, a set for each page.
     ids: VecDeque<[FormId; 32]>,
-    /// The milliseconds of the clock.
+    /// The milliseconds of the clock by which items say since when they wait.
     time: u64,
+    /// The seconds since 1970 by the machine's clock, where it tells them.
+    clock: Option<u64>,
     file: JournalFile<D>,
 }
 
@@ -55,8 +58,9 @@ impl<D: Disk> Model for TableService<D> {
 
     ghost Value = { ServiceOf };
 
-    ghost view = { λ s. service (string_bytes s.setup.title) (map string_bytes s.setup.hosts.items)
-        (string_bytes s.setup.token) s.mirroring s.desks s.outbox s.ids.items s.time s.file };
+    ghost view = { λ s. service (string_bytes s.setup.title) (string_bytes s.setup.name)
+        (map string_bytes s.setup.hosts.items) (string_bytes s.setup.token) s.mirroring s.desks
+        s.outbox s.ids.items s.time s.clock s.file };
 
     ghost invariant = { λ s. IsKept s.outbox };
 }
@@ -105,8 +109,8 @@ fn list_of(alloc: Global, entry: Entry) -> Result<Vec<Entry>, NoMemory>
 }
 
 impl<D: Disk> TableService<D> {
-    ghost use Rattle.std.specs.Prelude.{◌++◌, ◌-◌, ◌∷◌, [], length, map, string_bytes, IfOk};
-    ghost use Rattle.std.specs.Prelude.{OnErr, OnOk};
+    ghost use Rattle.std.specs.Prelude.{ℕ, ◌++◌, ◌-◌, ◌∷◌, [], length, map, string_bytes, IfOk};
+    ghost use Rattle.std.specs.Prelude.{OnErr, OnOk, take};
     ghost use Rattle.table_service.specs.Services.{AnswersIt, IsKeptBut, IsNew, IsSentBut};
     ghost use Rattle.table_service.specs.Services.{Plans, PlansAround, TakesAgainFor, TakesFor};
     ghost use Rattle.table_service.specs.Services.{with_ids_used};
@@ -123,8 +127,9 @@ impl<D: Disk> TableService<D> {
         outbox: Outbox,
         file: JournalFile<D>,
     ) -> TableService<D>
-        ensures { IsNew (string_bytes setup.title) (map string_bytes setup.hosts.items)
-            (string_bytes setup.token) mirroring outbox file result }
+        ensures { IsNew (string_bytes setup.title) (string_bytes setup.name)
+            (map string_bytes setup.hosts.items) (string_bytes setup.token) mirroring outbox file
+            result }
     {
         let mut outbox = outbox;
         outbox.not_kept();
@@ -136,6 +141,7 @@ impl<D: Disk> TableService<D> {
             outbox,
             ids: VecDeque::new(alloc),
             time: 0,
+            clock: None,
             file,
         }
     }
@@ -177,6 +183,13 @@ impl<D: Disk> TableService<D> {
         self.time = now;
     }
 
+    /// Says what the machine's clock tells, in seconds since 1970, if it tells it.
+    pub fn set_clock(&mut self, clock: Option<u64>)
+        ensures { self.new ≡ record self.old { clock = clock } }
+    {
+        self.clock = clock;
+    }
+
     /// Says how the desks are doing.
     pub fn set_desks(&mut self, desks: Desks)
         ensures { self.new ≡ record self.old { desks = desks } }
@@ -210,7 +223,9 @@ impl<D: Disk> TableService<D> {
         ensures ok { OnOk result (self.new ≡ record self.old {
           outbox = looked self.old.outbox self.old.mirroring.entries;
         }) }
-        ensures others { IsSentBut self.old self.new }
+        ensures err { OnErr result ((count : ℕ) × (self.new ≡ record self.old {
+          outbox = looked self.old.outbox (take count self.old.mirroring.entries);
+        })) }
     {
         self.outbox.look(self.mirroring.mirror().log())
     }
@@ -259,11 +274,14 @@ impl<D: Disk> TableService<D> {
         ensures { IfOk result (PlansAround self.now ids.now request.now) }
     {
         let recent = recents_of(self.alloc, &self.outbox, self.mirroring.mirror())?;
+        let name = self.setup.name.as_bytes();
+        let remark = remark_of(self.alloc, name, self.clock)?;
         let around = Around {
             mirror: self.mirroring.mirror(),
             desks: &self.desks,
             token: self.setup.token.as_bytes(),
             ids,
+            remark: &remark,
             recent: &recent,
             now: self.time,
         };

@@ -28,6 +28,14 @@ pub enum End {
     Broken,
 }
 
+/// The seconds since 1970 by the machine's clock; none where it does not tell them.
+fn clock_of<R: Clock>(runtime: &R) -> Option<u64> {
+    match runtime.since_1970() {
+        Ok(since) => Some(since.as_secs()),
+        Err(_) => None,
+    }
+}
+
 /// Says where it listens, and serves until it can't go on. Pages are given ids for their forms as
 /// they use them up.
 fn serve_on<D: Disk, R: Net + RandomSource + Clock + Drop, W: Write, F: Write>(
@@ -45,6 +53,7 @@ fn serve_on<D: Disk, R: Net + RandomSource + Clock + Drop, W: Write, F: Write>(
             let ids = drawn_ids(runtime)?;
             service.give(ids)?;
         }
+        service.set_clock(clock_of(runtime));
         let wait = side.wait(service, now);
         let Some(after) = round(browsers, service, wait) else {
             return Ok(End::Failed);
@@ -79,17 +88,18 @@ pub fn hall_name(
     Ok(HallName::new(number, named))
 }
 
-/// The service of the pages of a hall under this title, over a journal. It is lent for as long as
-/// the program runs, and is never dropped.
+/// The service of the pages of a hall under this title, for the table of this name, over a journal.
+/// It is lent for as long as the program runs, and is never dropped.
 fn service_of<'a, R: RandomSource>(
     runtime: &R,
     alloc: Global,
     hall: Hall<'_>,
     address: SocketAddr,
     title: String,
+    name: String,
     opened: Opened,
 ) -> io::Result<&'a mut TableService<SystemFile>> {
-    let setup = Setup::new(runtime, alloc, address, title)?;
+    let setup = Setup::new(runtime, alloc, address, title, name)?;
     let mirroring = Mirroring::new(alloc, hall.number, count_desks(hall.addresses))?;
     let Opened { journal, file } = opened;
     let service = TableService::new(alloc, setup, mirroring, journal.outbox, file);
@@ -109,21 +119,22 @@ fn side_of<'a, R: Net + RandomSource + Clock + Drop>(
     Ok(Box::leak(kept))
 }
 
-/// Says where it listens, and serves the pages of a hall under this title, over this journal, to
-/// these browsers until it can't go on. What is wrong with the key of a desk is said on a line of
-/// `faults`.
+/// Says where it listens, and serves the pages of a hall under this title, for the table of this
+/// name, over this journal, to these browsers until it can't go on. What is wrong with the key of a
+/// desk is said on a line of `faults`.
 pub fn serve<'a, R: Net + RandomSource + Clock + Drop, W: Write, F: Write>(
     runtime: &'a R,
     alloc: Global,
     hall: Hall<'_>,
     title: String,
+    name: String,
     opened: Opened,
     browsers: &mut Browsers<BrowserSockets<'a, R>>,
     writer: &mut W,
     faults: &mut F,
 ) -> io::Result<End> {
     let address = address_of(browsers)?;
-    let service = service_of(runtime, alloc, hall, address, title, opened)?;
+    let service = service_of(runtime, alloc, hall, address, title, name, opened)?;
     let side = side_of(runtime, alloc, hall, browsers)?;
     serve_on(runtime, browsers, service, side, writer, faults)
 }

@@ -12,6 +12,8 @@ use std::random::RandomSource;
 pub struct Setup {
     /// The name of the hall, for paper.
     pub title: String,
+    /// The name of the table, for the remarks of what is entered.
+    pub name: String,
     /// The hosts under which browsers find it, as `127.0.0.1:8080` and `localhost:8080`. A request
     /// that names another one is refused.
     pub hosts: Vec<String>,
@@ -28,8 +30,10 @@ impl Setup {
         alloc: Global,
         address: SocketAddr,
         title: String,
+        name: String,
     ) -> io::Result<Setup>
-        ensures { IfOk result (λ s. s.title ≡ title) }
+        ensures title { IfOk result (λ s. s.title ≡ title) }
+        ensures name { IfOk result (λ s. s.name ≡ name) }
     {
         let mut hosts = Vec::new(alloc);
         hosts.push(format!(in alloc; "{address}")?)?;
@@ -46,6 +50,7 @@ impl Setup {
         let token = format!(in alloc; "{first:016x}{last:016x}")?;
         Ok(Setup {
             title,
+            name,
             hosts,
             token,
         })

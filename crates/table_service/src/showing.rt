@@ -7,9 +7,9 @@ ghost use Rattle.table_service.specs.Plans.{PlansRead};
 ghost use Rattle.table_service.specs.Replying.{ShowsIf};
 ghost use Rattle.table_service.specs.Requests.{query_of};
 
-use crate::cards::card;
 use crate::plan::{Plan, Problem, Reply, Shown};
 use crate::reading::{Asked, View, asked_at};
+use crate::waiting::card_after;
 use bytes::Bytes;
 use entry_views::Draft;
 use entry_views::paper::{scorecards, wall_sheet};
@@ -46,7 +46,11 @@ fn page_of(
         View::Person(number) => person_page(alloc, around, number),
         View::Import => Ok(Some(import_page(alloc, around)?)),
         View::Rounds(round) => Ok(Some(rounds_page(alloc, around, round)?)),
-        View::Card { round, number } => card(alloc, outbox, around, round, draft_of(number)),
+        View::Card {
+            round,
+            number,
+            sent,
+        } => card_after(alloc, outbox, around, round, draft_of(number), sent),
         View::Wall(round) => wall_sheet(alloc, around.mirror, title, round),
         View::Scorecards(round) => scorecards(alloc, around.mirror, title, round),
     }

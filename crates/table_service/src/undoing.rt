@@ -121,17 +121,19 @@ fn back_of(
     Ok(Some(Now::new(now)))
 }
 
-/// The entry of the card that takes this one back, under an id; none where what stood cannot be
-/// typed.
+/// The entry of the card that takes this one back, under an id, with a remark; none where what
+/// stood cannot be typed.
 fn undone_entry(
     alloc: Global,
     id: FormId,
     meet: &Meet,
     card: &CardEntry,
+    remark: &[u8],
 ) -> Result<Option<Entry>, AllocError>
     requires few { length card.now.now < 256 }
     requires entered { All (λ o. IfSome o IsEntered) card.now.now }
-    ensures { IfOk result (λ entry. entry ≡ undone_entry meet.now.accepted id card.entry.now) }
+    ensures { IfOk result (λ entry. entry
+        ≡ undone_entry meet.now.accepted id card.entry.now remark.now) }
 {
     let Some(settings) = meet.settings(card.id.event, card.id.round) else {
         return Ok(None);
@@ -147,7 +149,7 @@ fn undone_entry(
         was: Was::new(left),
         now,
     };
-    card_entry(alloc, id, undone)
+    card_entry(alloc, id, undone, remark)
 }
 
 /// What is to be done for a card that is to be taken back.
@@ -164,7 +166,8 @@ fn plan_undo_card(
 {
     let place = cards_place(alloc, card.id)?;
     let meet = around.mirror.meet();
-    let Some(entry) = undone_entry(alloc, first_id(around.ids), meet, card)? else {
+    let id = first_id(around.ids);
+    let Some(entry) = undone_entry(alloc, id, meet, card, around.remark)? else {
         return refuse(alloc, around, &place, UNTYPED);
     };
     if !has_room(outbox, 1) {

@@ -26,6 +26,8 @@ pub struct Around<'a> {
     /// Ids for the forms of the page. The form of a card has the first one, and the others are
     /// spare.
     pub ids: &'a [FormId; 32],
+    /// What stands behind a card that is entered now: who entered it, and when.
+    pub remark: &'a [u8],
     /// What was sent of late, newest first, and all that was sent before and is not saved, until
     /// a scoretaker has answered it.
     pub recent: &'a [Recent<'a>],

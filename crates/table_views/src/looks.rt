@@ -35,7 +35,7 @@ body.entry main { display: grid; grid-template-columns: 30rem minmax(0, 1fr); ga
   grid-template-areas: \"card round\" \"recent round\"; grid-template-rows: auto 1fr; }
 #card { grid-area: card; }
 #recent { grid-area: recent; }
-#beside { grid-area: round; }
+#beside { grid-area: round; contain: layout style; }
 body:has(#blind:checked) #round { visibility: hidden; }
 [hidden] { display: none; }
 .field { display: grid; grid-template-columns: 6rem 9rem minmax(0, 1fr) auto; gap: .1rem .6rem;
@@ -70,7 +70,10 @@ kbd { padding: 0 .25rem; border: 1px solid var(--line); border-radius: .2rem; }
 caption { text-align: left; font-size: .85rem; padding: .15rem 0; }
 table { border-collapse: collapse; width: 100%; font-variant-numeric: tabular-nums; }
 th, td { padding: .15rem .4rem; border-bottom: 1px solid var(--line); text-align: right; }
-#round th { position: sticky; top: 0; background: var(--paper); }
+#round thead { position: sticky; top: 0; background: var(--paper); }
+#round :is(table, caption, thead, tbody) { display: block; }
+#round tr { display: grid; grid-template-columns: 3rem 3.5rem minmax(10rem, 1fr);
+  grid-auto-columns: minmax(4.4rem, 6.2rem); grid-auto-flow: column; }
 #round th:nth-child(3), #round td:nth-child(3), body.hall th, body.hall td { text-align: left; }
 #round td:nth-child(3) { overflow-wrap: anywhere; min-width: 8rem; unicode-bidi: plaintext; }
 #round td:last-child, #round th:last-child { display: none; }
@@ -80,7 +83,7 @@ tr.absent td:first-child { border-left: .3rem solid var(--line); }
 tr.done td:first-child { border-left: .3rem solid var(--good); }
 td.changed { animation: changed 5s; }
 @keyframes changed { from, 80% { background: var(--mark); } }
-tr.hidden { display: none; }
+#round tr.hidden { display: none; }
 tr.read td:nth-child(2)::after { content: \" \\2713\"; color: var(--good); }
 tr.current td { border-top: 2px solid var(--link); border-bottom: 2px solid var(--link); }
 body.hall form { display: flex; flex-wrap: wrap; gap: .6rem; align-items: end; }
@@ -132,6 +135,11 @@ const fields = form ? all('input[id^=a]', form) : [];
 const beside = (field, selector) => field.parentNode.querySelector(selector);
 const make = (tag, text) => Object.assign(document.createElement(tag), { textContent: text });
 const pageOf = (text) => new DOMParser().parseFromString(text, 'text/html');
+// The rows of a round, each of which is a line of its page; and the page without them.
+const rowsIn = (text) => [...text.matchAll(/^(<tr class=.*?<td>)([^<]*)(.*?number=([0-9]+).*)/gm)]
+  .map(([, start, place, rest, number]) => ({ place, number, html: start + rest }));
+const byNumber = (found) => new Map(found.map(({ number, html }) => [number, html]));
+const pageBeside = (text) => pageOf(text.replace(/^<tr class=.*/gm, ''));
 const say = (it, textContent, wrong) =>
   Object.assign(it, { textContent, className: wrong ? 'wrong' : '' });
 // ---- what is typed, read as the program reads it
@@ -216,9 +224,11 @@ function standing(place) {
   const value = form.elements.was.value.split(',')[place];
   return text && { value: isNaN(value) ? value : Number(value), result: text, words: '' };
 }
+// What a field is filled in with: what was entered, where that is known, else what it counts.
+const entered = (field) => beside(field, '[type=hidden]');
+const inside = (field) => (entered(field) || {}).value || beside(field, '.stands').textContent;
 // What was typed into a field; null where it is as it stands.
-const touched = (field) =>
-  field.value.trim() === beside(field, '.stands').textContent ? null : field.value;
+const touched = (field) => field.value.trim() === inside(field) ? null : field.value;
 const readAt = (field, place) =>
   touched(field) === null ? standing(place) || null : read(field.value, place);
 // Digits and signs of an input method become those of the keyboard.
@@ -282,7 +292,8 @@ function update() {
 // Shows a card over what stands: `was` as the log has it, and its texts. What was typed is null
 // where it was not touched.
 function show(number, name, was, texts, typed) {
-  for (const old of all('strong, .told, .origin, [name=sure]', form)) old.remove();
+  const old = all('strong, .told, .origin, [name=sure], .field [type=hidden]', form);
+  for (const it of old) it.remove();
   $('number').value = whose = number;
   say($('who'), name);
   form.elements.was.value = was;
@@ -293,7 +304,7 @@ function show(number, name, was, texts, typed) {
   });
   warned = null;
   suggest([]);
-  update(), mark();
+  update(), point();
 }
 // What stands changed while the card is open: fields that were typed in stay as they are.
 function keepUp() {
@@ -305,6 +316,7 @@ function keepUp() {
     const here = field === document.activeElement, { result } = read(field.value, place) || {};
     if (typed === null || (result === text && !here)) field.value = text;
     if (typed === null && here) field.select();
+    if (entered(field)) entered(field).remove();
     stands.textContent = text;
     stands.classList.add('changed');
   });
@@ -336,8 +348,22 @@ const typedIn = (line) =>
 // Says by which entry of the log a card stands so, and where one without attempts is withdrawn.
 async function tell(row) {
   const answer = await fetch(location.pathname + '?number=' + cell(row, 1)).catch(() => null);
-  const said = answer ? all('.origin', pageOf(await answer.text())) : [];
-  if (whose === cell(row, 1) && !isBlind()) form.prepend(...said);
+  const page = pageBeside(answer ? await answer.text() : '');
+  if (whose !== cell(row, 1) || isBlind()) return;
+  form.prepend(...all('.origin', page));
+  fill(page.querySelector('form[data-unit]'));
+}
+// Fields that were not touched are filled in with what was entered, where a card stands so.
+function fill(card) {
+  if (!card || card.elements.was.value !== form.elements.was.value) return;
+  for (const it of all('.field [type=hidden]', card)) {
+    const field = fields[it.name.slice(1) - 1], typed = touched(field);
+    if (entered(field)) continue;
+    field.after(it);
+    if (typed !== null) continue;
+    field.value = it.value;
+    if (field === document.activeElement) field.select();
+  }
 }
 // ---- whose card it is
 const letters = { '\\u0142': 'l', '\\u00f8': 'o', '\\u0111': 'd', '\\u0131': 'i', '\\u00df': 'ss',
@@ -345,12 +371,18 @@ const letters = { '\\u0142': 'l', '\\u00f8': 'o', '\\u0111': 'd', '\\u0131': 'i'
 const folded = (text) => text.normalize('NFKD').toLowerCase().replace(/\\p{M}|['\\u2019`]/gu, '')
   .replace(/[^\\0-\\x7f]/gu, (letter) => letters[letter] || letter);
 const wordsOf = (text) => ' ' + folded(text).split(/[^\\p{L}\\p{N}]+/u).filter(Boolean).join(' ');
+// How a name may be typed, kept by the name.
+const typings = new Map();
+function typingsOf(name) {
+  const apart = () => name.replace(/['\\u2019`]/g, ' ');
+  if (!typings.has(name)) typings.set(name, wordsOf(name) + wordsOf(apart()));
+  return typings.get(name);
+}
 // Those of whose name a part begins so.
 function candidates() {
   const text = wordsOf($('number').value);
-  const fits = (name) => wordsOf(name) + wordsOf(name.replace(/['\\u2019`]/g, ' '));
-  const found = rows().filter((row) => fits(cell(row, 2)).includes(text));
-  return text === ' ' || /^ [0-9]/.test(text) ? [] : found.slice(0, 8);
+  if (text === ' ' || /^ [0-9]/.test(text)) return [];
+  return rows().filter((row) => typingsOf(cell(row, 2)).includes(text)).slice(0, 8);
 }
 function suggest(found) {
   chosen = Math.max(0, Math.min(chosen, found.length - 1));
@@ -369,7 +401,7 @@ function nameIt() {
   const row = rowOf($('number').value || '-');
   chosen = 0;
   say($('who'), row ? cell(row, 2) : '');
-  suggest(candidates()), mark();
+  suggest(candidates()), point();
 }
 // Opens the card of a row. What was typed for another number comes along, and is asked about.
 function take(row) {
@@ -530,6 +562,7 @@ async function send() {
     const answer = await fetch('/card', { method: 'POST', body: card.body, redirect: 'manual' })
       .catch(() => ({ status: 500 }));
     const taken = answer.status !== 403 && answer.status < 500;
+    askOften();
     say($('unsent'), taken ? '' : sending.length + ' wait in this page: leave it open', true);
     if (!taken) await new Promise((done) => setTimeout(done, 1000));
     else if (sending.shift() && answer.type === 'opaqueredirect') sent.push({ ...card, asked });
@@ -538,29 +571,65 @@ async function send() {
   busy = false;
 }
 // ---- keeping up with the log
-const shown = {}, states = new Map();
-let asked = 0, answered = 0, waits = true;
+const shown = {}, states = new Map(), asks = {};
+let asked = 0, since = 0, waits = true;
 function mark() {
   const filter = folded($('filter').value), cards = rows().filter(hasAny);
+  const read = new Set(cards.filter(isRead));
   for (const row of rows()) {
-    row.classList.toggle('hidden', !folded(nameOf(row)).includes(filter));
-    row.classList.toggle('current', cell(row, 1) === $('number').value);
-    row.classList.toggle('read', hasAny(row) && isRead(row));
+    row.classList.toggle('hidden', filter !== '' && !folded(nameOf(row)).includes(filter));
+    row.classList.toggle('read', read.has(row));
   }
-  say($('read'), cards.filter(isRead).length + ' of ' + cards.length + ' read again');
+  say($('read'), read.size + ' of ' + cards.length + ' read again');
+  point();
 }
-// Puts a section of a page in the place of the one that is shown, and marks the cells that differ.
-function replace(id, now) {
-  if (!now || !$(id) || shown[id] === now.outerHTML) return;
-  shown[id] = now.outerHTML;
+// Marks the row whose number is typed.
+function point() {
+  const { value } = $('number');
+  for (const row of rows()) row.classList.toggle('current', cell(row, 1) === value);
+}
+// Puts what was entered of late in the place of what is shown.
+function replaceRecent(page) {
+  const now = page.getElementById('recent');
+  if (!now || shown.recent === now.outerHTML) return;
+  shown.recent = now.outerHTML;
+  $('recent').replaceWith(now);
+  announce();
+}
+// Puts the round of a page in the place of the one that is shown: rows that are as they were stay
+// as they are, and cells that differ are marked.
+function replaceRound(page, text) {
+  const heads = (root) => all('#round > :not(table), #round thead', root), now = heads(page);
+  heads(document).forEach((it) => {
+    const next = now.shift();
+    if (it.outerHTML !== next.outerHTML) it.replaceWith(next);
+  });
+  const lines = rowsIn(text), body = document.querySelector('#round tbody'), made = make('tbody');
   const before = new Map(rows().map((row) => [cell(row, 1), row]));
-  for (const row of id === 'round' ? all('tbody tr', now) : []) {
-    const was = before.get(cell(row, 1)) || row;
-    [...row.cells].forEach((it, place) => {
-      if (place > 2 && cell(was, place) !== it.textContent) it.className = 'changed';
-    });
+  let at = body.firstElementChild;
+  for (const { number, place, html } of lines) {
+    let row = before.get(number);
+    if (!row || shown.rows.get(number) !== html) {
+      made.innerHTML = html;
+      row = become(row, made.firstElementChild);
+    }
+    if (cell(row, 0) !== place) row.cells[0].textContent = place;
+    if (row === at) at = at.nextElementSibling;
+    else body.insertBefore(row, at);
   }
-  $(id).replaceWith(now);
+  for (const row of rows().slice(lines.length)) row.remove();
+  shown.rows = byNumber(lines);
+}
+// A row of the same competitor becomes as another one is.
+function become(row, now) {
+  if (!row) return now;
+  Object.assign(row, { className: now.className }).dataset.was = now.dataset.was;
+  [...now.cells].forEach((it, place) => {
+    const old = row.cells[place], className = place > 2 ? 'changed' : '';
+    if (old.textContent === it.textContent) old.className = '';
+    else old.replaceWith(Object.assign(it, { className }));
+  });
+  return row;
 }
 // The words of the bar are put anew only where they differ, since a screen reader says them then.
 function replaceBar(now) {
@@ -606,11 +675,12 @@ function bare(main) {
 function replaceMain(page) {
   const now = page.querySelector('main'), main = document.querySelector('main');
   if (page.querySelector('form[data-unit]')) return location.reload();
-  if (isFilled() || shown.main === bare(now)) {
-    return replace('recent', page.getElementById('recent'));
-  }
+  if (isFilled()) return;
+  shown.position = positionOf(page);
+  if (shown.main === bare(now)) return;
   const at = controls().indexOf(document.activeElement);
   shown.main = bare(now);
+  shown.recent = '';
   main.replaceWith(now);
   if (at >= 0 && controls()[at]) controls()[at].focus();
   lookOver();
@@ -646,41 +716,68 @@ async function post(action, pairs) {
   if (answer.type === 'opaqueredirect') return '';
   return wordsIn(pageOf(answer.text ? await answer.text() : '')) || 'not taken';
 }
-// Some pages in a row, since something was sent: the first of them is soon.
-function askOften() {
-  waits = true;
-  for (const after of [30, 60, 90, 120, 250, 500]) setTimeout(() => waits && refresh(), after);
+const positionOf = (page) => page.querySelector('#bar small').textContent;
+// Asks for the page of a path, at most twice at once, and says in the bar where none comes.
+async function ask(path, take) {
+  const turn = asked += 1, { under = 0, newest = 0 } = asks[path] || {};
+  if (under > 1) return;
+  asks[path] = { under: under + 1, newest };
+  try {
+    const signal = AbortSignal.timeout(3000);
+    const answer = await fetch(path, { cache: 'no-store', signal });
+    const text = await answer.text();
+    if (!answer.ok || turn < asks[path].newest) return;
+    asks[path].newest = turn;
+    take(text, turn);
+  } catch (error) {
+    if (turn < asks[path].newest) return;
+    const told = 'The score table does not answer. Cards wait in this page: leave it open.';
+    const bar = $('bar').firstElementChild || $('bar');
+    if (bar.textContent !== told) bar.textContent = told;
+    $('bar').className = 'lost';
+  } finally {
+    asks[path].under -= 1;
+  }
 }
-function takePage(page) {
-  const token = page.querySelector('[name=token]'), next = page.querySelector('form[data-unit]');
+// What was entered of late, and how the desks are doing.
+function takeRecent(text, turn) {
+  const page = pageOf(text), { value } = page.querySelector('[name=token]');
   replaceBar(page.getElementById('bar'));
-  if (!form) replaceMain(page);
-  else for (const id of ['recent', 'round']) replace(id, page.getElementById(id));
-  for (const it of token ? all('[name=token]') : []) it.value = token.value;
-  announce();
-  waits = sending.length + sent.length + all('#recent .waits').length > 0;
-  if (!form || !next) return;
+  replaceRecent(page);
+  for (const it of all('[name=token]')) it.value = value;
+  waits = turn <= since || sending.length + all('#recent .waits').length > 0;
+  shown.latest = positionOf(page);
+}
+function takePage(text, turn) {
+  const page = form ? pageBeside(text) : pageOf(text);
+  sent = sent.filter((it) => it.asked >= turn);
+  if (!form) return replaceMain(page);
+  const next = page.querySelector('form[data-unit]');
+  shown.position = positionOf(page);
+  replaceRound(page, text);
+  if (!next) return;
   if (next.dataset.format !== rules.format && !isTyped()) return location.reload();
   Object.assign(form.dataset, next.dataset);
   if (spare.length < 8) spare = next.dataset.spare.trim().split(' ');
   replaceFront(page), keepUp(), mark();
 }
-async function refresh() {
-  const turn = asked += 1, path = location.pathname + (form ? '' : location.search);
-  try {
-    const signal = AbortSignal.timeout(3000);
-    const answer = await fetch(path, { cache: 'no-store', signal });
-    const text = await answer.text();
-    if (!answer.ok || turn < answered) return;
-    answered = turn;
-    sent = sent.filter((it) => it.asked >= turn);
-    takePage(pageOf(text));
-  } catch (error) {
-    if (turn < answered) return;
-    const told = 'The score table does not answer. Cards wait in this page: leave it open.';
-    const bar = $('bar').firstElementChild || $('bar');
-    if (bar.textContent !== told) bar.textContent = told;
-    $('bar').className = 'lost';
+// Looks what was entered of late, which each page has, and that of `/import` is small whatever the
+// rounds are; and at the page itself where the log has grown, or may have what was sent. For one
+// length of the log, and while a card waits, that is only each second.
+let looked = 0, wanted = '';
+async function look() {
+  await ask('/import', takeRecent);
+  const isSoon = performance.now() < looked + 1000, { latest } = shown;
+  const isSame = latest === shown.position && (waits || sent.length === 0);
+  if (isSame || (isSoon && (waits || latest === wanted))) return;
+  [looked, wanted] = [performance.now(), latest];
+  ask(location.pathname + (form ? '' : location.search), takePage);
+}
+// Looks at once and then less and less often, since something was sent, until nothing waits.
+function askOften() {
+  [waits, since] = [true, asked];
+  for (const after of [10, 20, 30, 50, 80, 130, 200, 350, 600]) {
+    setTimeout(() => waits && look(), after);
   }
 }
 // ---- keys
@@ -737,6 +834,7 @@ function addOptions() {
   });
 }
 function begin() {
+  shown.rows = byNumber(rowsIn($('round').outerHTML));
   for (const it of all('[hidden]')) it.hidden = false;
   addOptions();
   const choice = ({ target }) => mayLeave() ? empty() : target.checked = !target.checked;
@@ -779,10 +877,11 @@ addEventListener('beforeunload', (event) => {
 });
 document.body.append(Object.assign(make('p'), { id: 'spoken', role: 'status' }));
 shown.main = bare(document.querySelector('main'));
+shown.position = shown.latest = positionOf(document);
 if (form) begin();
 else lookOver();
-announce(), askOften();
-setInterval(refresh, 1000);
+announce(), look();
+setInterval(look, 1000);
 ";
 
 /// The style of all pages.

@@ -62,7 +62,7 @@ fn push_multi(out: &mut Vec<u8>, solved: u8, attempted: u8, seconds: u16) -> Res
 }
 
 /// Adds what is entered for an attempt, as a scoretaker may type it.
-fn push_entered(out: &mut Vec<u8>, entered: &Entered) -> Result<(), NoMemory>
+pub fn push_entered(out: &mut Vec<u8>, entered: &Entered) -> Result<(), NoMemory>
     ensures { OnOk result (out.new.items ≡ out.old.items ++ entered_typed entered.now) }
 {
     match entered {

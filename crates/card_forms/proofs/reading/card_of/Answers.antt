@@ -10,28 +10,29 @@ pub returns-in_err-now-clause-unread : goal.returns-in_err-now-clause-unread
 returns-in_err-now-clause-unread c =
     let form = c.args.form.now in
     let seen = c.as_slice-was.result.now in
+    let given = c.as_slice-filled.result.now in
     let texts = c.as_slice-texts.result.now in
     let unit = unit_of form.round.event in
     let says : List Said =
     c.in-Ok-first.first ∷ c.in-Ok-second.second ∷ c.in-Ok-third.third
     ∷ c.in-Ok-fourth.fourth ∷ c.in-Ok-fifth.fifth ∷ [] in
-    let all : AllSay unit form.was 0 form.attempts says =
-    say_same unit form.was seen form.attempts texts says c.as_slice-was.ensures
-    c.as_slice-texts.ensures.fields
-    (all_say unit seen texts c.index-texts-0.result c.index-texts-1.result
+    let all : AllSay unit form.was form.filled 0 form.attempts says =
+    say_same unit form.was seen form.filled given form.attempts texts says c.as_slice-was.ensures
+    c.as_slice-filled.ensures.fields c.as_slice-texts.ensures.fields
+    (all_say unit seen given texts c.index-texts-0.result c.index-texts-1.result
     c.index-texts-2.result c.index-texts-3.result c.index-texts-4.result
     c.in-Ok-first.first c.in-Ok-second.second c.in-Ok-third.third
     c.in-Ok-fourth.fourth c.in-Ok-fifth.fifth c.as_slice-texts.ensures.five
     c.index-texts-0.is c.index-texts-1.is c.index-texts-2.is c.index-texts-3.is c.index-texts-4.is
-    (said unit seen 0 c.index-texts-0.result c.as_bytes-2.result.now c.said_at-first.result
+    (said unit seen given 0 c.index-texts-0.result c.as_bytes-2.result.now c.said_at-first.result
     c.in-Ok-first.first c.as_bytes-2.ensures c.in-Ok-first.is c.said_at-first.ensures.says)
-    (said unit seen 1 c.index-texts-1.result c.as_bytes-3.result.now c.said_at-second.result
+    (said unit seen given 1 c.index-texts-1.result c.as_bytes-3.result.now c.said_at-second.result
     c.in-Ok-second.second c.as_bytes-3.ensures c.in-Ok-second.is c.said_at-second.ensures.says)
-    (said unit seen 2 c.index-texts-2.result c.as_bytes-4.result.now c.said_at-third.result
+    (said unit seen given 2 c.index-texts-2.result c.as_bytes-4.result.now c.said_at-third.result
     c.in-Ok-third.third c.as_bytes-4.ensures c.in-Ok-third.is c.said_at-third.ensures.says)
-    (said unit seen 3 c.index-texts-3.result c.as_bytes-5.result.now c.said_at-fourth.result
+    (said unit seen given 3 c.index-texts-3.result c.as_bytes-5.result.now c.said_at-fourth.result
     c.in-Ok-fourth.fourth c.as_bytes-5.ensures c.in-Ok-fourth.is c.said_at-fourth.ensures.says)
-    (said unit seen 4 c.index-texts-4.result c.as_bytes-6.result.now c.said_at-fifth.result
+    (said unit seen given 4 c.index-texts-4.result c.as_bytes-6.result.now c.said_at-fifth.result
     c.in-Ok-fifth.fifth c.as_bytes-6.ensures c.in-Ok-fifth.is c.said_at-fifth.ensures.says)) in
     let why = c.in_err-now.field-0.0 in
     let same : c.from_residual.result ≡ Err why = search rules in
@@ -44,28 +45,29 @@ pub returns-clause-read : goal.returns-clause-read
 returns-clause-read c =
     let form = c.args.form.now in
     let seen = c.as_slice-was.result.now in
+    let given = c.as_slice-filled.result.now in
     let texts = c.as_slice-texts.result.now in
     let unit = unit_of form.round.event in
     let says : List Said =
     c.in-Ok-first.first ∷ c.in-Ok-second.second ∷ c.in-Ok-third.third
     ∷ c.in-Ok-fourth.fourth ∷ c.in-Ok-fifth.fifth ∷ [] in
-    let all : AllSay unit form.was 0 form.attempts says =
-    say_same unit form.was seen form.attempts texts says c.as_slice-was.ensures
-    c.as_slice-texts.ensures.fields
-    (all_say unit seen texts c.index-texts-0.result c.index-texts-1.result
+    let all : AllSay unit form.was form.filled 0 form.attempts says =
+    say_same unit form.was seen form.filled given form.attempts texts says c.as_slice-was.ensures
+    c.as_slice-filled.ensures.fields c.as_slice-texts.ensures.fields
+    (all_say unit seen given texts c.index-texts-0.result c.index-texts-1.result
     c.index-texts-2.result c.index-texts-3.result c.index-texts-4.result
     c.in-Ok-first.first c.in-Ok-second.second c.in-Ok-third.third
     c.in-Ok-fourth.fourth c.in-Ok-fifth.fifth c.as_slice-texts.ensures.five
     c.index-texts-0.is c.index-texts-1.is c.index-texts-2.is c.index-texts-3.is c.index-texts-4.is
-    (said unit seen 0 c.index-texts-0.result c.as_bytes-2.result.now c.said_at-first.result
+    (said unit seen given 0 c.index-texts-0.result c.as_bytes-2.result.now c.said_at-first.result
     c.in-Ok-first.first c.as_bytes-2.ensures c.in-Ok-first.is c.said_at-first.ensures.says)
-    (said unit seen 1 c.index-texts-1.result c.as_bytes-3.result.now c.said_at-second.result
+    (said unit seen given 1 c.index-texts-1.result c.as_bytes-3.result.now c.said_at-second.result
     c.in-Ok-second.second c.as_bytes-3.ensures c.in-Ok-second.is c.said_at-second.ensures.says)
-    (said unit seen 2 c.index-texts-2.result c.as_bytes-4.result.now c.said_at-third.result
+    (said unit seen given 2 c.index-texts-2.result c.as_bytes-4.result.now c.said_at-third.result
     c.in-Ok-third.third c.as_bytes-4.ensures c.in-Ok-third.is c.said_at-third.ensures.says)
-    (said unit seen 3 c.index-texts-3.result c.as_bytes-5.result.now c.said_at-fourth.result
+    (said unit seen given 3 c.index-texts-3.result c.as_bytes-5.result.now c.said_at-fourth.result
     c.in-Ok-fourth.fourth c.as_bytes-5.ensures c.in-Ok-fourth.is c.said_at-fourth.ensures.says)
-    (said unit seen 4 c.index-texts-4.result c.as_bytes-6.result.now c.said_at-fifth.result
+    (said unit seen given 4 c.index-texts-4.result c.as_bytes-6.result.now c.said_at-fifth.result
     c.in-Ok-fifth.fifth c.as_bytes-6.ensures c.in-Ok-fifth.is c.said_at-fifth.ensures.says)) in
     record {
       id = refl;

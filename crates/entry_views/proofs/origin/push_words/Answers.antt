@@ -1,19 +1,12 @@
-use Rattle.std.proofs.Common.{◌≡◌, ◌∙◌, ◌++◌, ◌∷◌, ℕ, List, [], Result, Ok, Err, OnOk, ap, codes}
-use Rattle.std.proofs.Common.{decimal}
-use Rattle.markup.specs.Pieces.{joined}
+use Rattle.std.proofs.Common.{codes}
+use Rattle.std.specs.Option.{option_copied}
+use Rattle.markup.proofs.board_page.Steps.{three_parts}
+use Rattle.entry_views.specs.Origin.{entry_words, remark_words}
 use Rattle.entry_views.proofs.origin.push_words.Goals as goal
-
--- the same text, written otherwise
-same_after : {T E : Type 0} (r : Result T E) (x a b : List ℕ) → a ≡ b → OnOk r (x ≡ a)
-    → OnOk r (x ≡ b)
-same_after (Ok t) x a b same is = is ∙ same
-same_after (Err e) x a b same is = tt
 
 pub returns : goal.returns
 returns c =
-    same_after c.push_pieces.result _ _ _
-    (ap
-    (λ (words : List ℕ). c.args.out.now.items
-    ++ joined (codes "<p class=\"origin\">Entry " ∷ decimal c.args.origin.position
-    ∷ codes " of the log, " ∷ words ∷ codes "</p>\n" ∷ []))
-    c.place_words.ensures) c.push_pieces.ensures
+    let origin = c.args.origin in
+    three_parts c.args.out.now.items (entry_words origin.position origin.here)
+    (remark_words (option_copied origin.remark)) (codes "</p>\n") _ _ _ c.in_ok-push_entry.ensures
+    c.in_ok-push_remark.ensures c.in_ok-extend_from_slice.ensures.items

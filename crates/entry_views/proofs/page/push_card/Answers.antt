@@ -17,7 +17,7 @@ returns c =
     three_parts c.args.out.now.items (card_head id c.args.round.settings)
     (closed_line id c.args.round.table.now.is_closed)
     (form_if (is_latest (accepted_in around.mirror.now)) around id round c.args.draft
-    c.args.origin) _ _ _
+    c.args.past) _ _ _
     c.in_ok-push_head.ensures
     (c.in_ok-push_closed.ensures
     ∙ ap (λ (is : Bool). c.push_head.new.out.items ++ closed_line id is) c.is_closed.ensures)

@@ -25,12 +25,13 @@ returns c =
     let ids = around.ids.now in
     let start_of = form_start token (get_or ids 0 0) (flat_map spare (drop 1 ids)) id settings in
     let fields_of = card_fields (accepted_in around.mirror.now) id settings.format in
-    let origin = origin_line c.args.origin in
+    let origin = origin_line c.args.past.origin in
+    let filled = c.args.past.filled.now in
     let leaving = leaving_line t draft in
     let start = start_of (best_in t) values in
     let left = c.push_leaving.new.out.items in
-    two_parts out (start ++ origin ++ leaving ++ fields_of values draft) form_end _ _
-    (two_parts out (start ++ origin ++ leaving) (fields_of values draft) _ _
+    two_parts out (start ++ origin ++ leaving ++ fields_of values filled draft) form_end _ _
+    (two_parts out (start ++ origin ++ leaving) (fields_of values filled draft) _ _
     (three_parts out start origin leaving _ _ _
     (c.in_ok-push_form_start.ensures
     ∙ ap (λ (best : Option ℕ). out ++ start_of best c.standing_of-values.result.now)
@@ -41,7 +42,11 @@ returns c =
     (c.in_ok-push_card_fields.ensures
     ∙ ap
     (λ (h : History). left
-    ++ card_fields h.accepted id settings.format c.standing_of-values.result.now draft)
+    ++ card_fields h.accepted id settings.format c.standing_of-values.result.now
+    c.as_slice.result.now draft)
     c.meet.ensures
-    ∙ ap (λ (stand : List Value). left ++ fields_of stand draft) c.standing_of-values.ensures))
+    ∙ ap (λ (stand : List Value). left ++ fields_of stand c.as_slice.result.now draft)
+    c.standing_of-values.ensures
+    ∙ ap (λ (texts : List (List ℕ)). left ++ fields_of values texts draft)
+    c.as_slice.ensures.fields))
     c.in_ok-push_form_end.ensures

@@ -17,7 +17,7 @@ returns c =
     let title = round_words c.args.id c.args.round.settings.advance in
     let desks = around.desks.now in
     three_parts out (top (codes "entry") title desks (length around.mirror.now))
-    (card_section around c.args.id round c.args.draft c.args.origin)
+    (card_section around c.args.id round c.args.draft c.args.past)
     (recent_section around) _ _ _
     (c.in_ok-push_top.ensures
     ∙ ap (λ (words : List ℕ). out ++ top (codes "entry") words desks c.len.result)

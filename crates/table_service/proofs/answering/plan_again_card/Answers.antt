@@ -16,20 +16,22 @@ use Rattle.table_service.proofs.answering.plan_again_card.Goals as goal
 
 module _ (around : Around) (q : ItemsOf) (of : ℕ) (card : CardEntry) (was : List Value) where
   none_again : (id : ℕ) → id ≡ get_or around.ids.now 0 0 → (entry : Option Entry)
-      → entry ≡ again_entry (enters_later (length was) card.now) id card was → entry ≡ None
-      → (place : List ℕ) → place ≡ cards_place card.id → (r : Result Plan AllocError)
+      → entry ≡ again_entry (enters_later (length was) card.now) id card around.remark.now was
+      → entry ≡ None → (place : List ℕ) → place ≡ cards_place card.id → (r : Result Plan AllocError)
       → IfOk r (RefusesWith around place less_words)
       → IfOk r (PlansAgainCard around q of (Some was) (Some card))
   none_again id id_is entry is none place at (Ok plan) refuses =
       subst (λ (o : Option Entry). PlansAgainEntry (has_room q 1) around q of card o plan)
       (sym none ∙ is
-      ∙ ap (λ (n : ℕ). again_entry (enters_later (length was) card.now) n card was) id_is)
+      ∙ ap
+      (λ (n : ℕ). again_entry (enters_later (length was) card.now) n card around.remark.now was)
+      id_is)
       (subst (λ (back : List ℕ). RefusesWith around back less_words plan) at refuses)
   none_again id id_is entry is none place at (Err error) refuses = tt
 
 pub returns-in_default : goal.returns-in_default
 returns-in_default c =
     none_again c.args.around.now c.args.outbox.now.list c.args.of c.args.card c.args.was
-    c.first_id.result c.first_id.ensures c.in_ok-entry.field-0 c.in_ok-entry.ensures
+    c.first_id-id.result c.first_id-id.ensures c.in_ok-entry.field-0 c.in_ok-entry.ensures
     c.in_default.is c.deref.result.now (c.deref.ensures.value ∙ c.in_ok-place.ensures)
     c.refuse.result c.refuse.ensures

@@ -1,4 +1,4 @@
-use Rattle.std.proofs.Common.{◌∙◌, [], List, ℕ, ap, map, string_bytes}
+use Rattle.std.proofs.Common.{◌∙◌, [], List, None, ℕ, ap, map, string_bytes}
 use Rattle.outbox.specs.Outboxes.{OutboxOf}
 use Rattle.table_service.specs.Services.{service}
 use Rattle.table_service.proofs.service.TableService.new.Goals as goal
@@ -8,12 +8,14 @@ returns g c = record {
   desks = c.unknown_desks.result;
   is = ap
       (λ (ids : List (List ℕ)). service (string_bytes c.args.setup.title)
-      (map string_bytes c.args.setup.hosts.items) (string_bytes c.args.setup.token)
-      c.args.mirroring c.unknown_desks.result c.not_kept.new.self ids 0 c.args.file)
+      (string_bytes c.args.setup.name) (map string_bytes c.args.setup.hosts.items)
+      (string_bytes c.args.setup.token) c.args.mirroring c.unknown_desks.result
+      c.not_kept.new.self ids 0 None c.args.file)
       c.new.ensures.items
       ∙ ap
       (λ (o : OutboxOf). service (string_bytes c.args.setup.title)
-      (map string_bytes c.args.setup.hosts.items) (string_bytes c.args.setup.token)
-      c.args.mirroring c.unknown_desks.result o [] 0 c.args.file)
+      (string_bytes c.args.setup.name) (map string_bytes c.args.setup.hosts.items)
+      (string_bytes c.args.setup.token) c.args.mirroring c.unknown_desks.result o [] 0 None
+      c.args.file)
       c.not_kept.ensures.back;
 }

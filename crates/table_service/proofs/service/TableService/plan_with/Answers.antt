@@ -1,4 +1,5 @@
-use Rattle.std.proofs.Common.{◌∙◌, ap, refl}
+use Rattle.std.proofs.Common.{◌∙◌, ℕ, List, ap, refl}
+use Rattle.table_service.specs.Remarks.{remark_of}
 use Rattle.table_service.specs.Services.{ServiceOf}
 use Rattle.table_service.proofs.Arounds.{around_planned, recent_seen}
 use Rattle.table_service.proofs.service.TableService.plan_with.Goals as goal
@@ -12,9 +13,13 @@ returns g c =
       desks = ap (λ (s : ServiceOf). s.desks) seen;
       token = c.as_bytes.ensures.value ∙ ap (λ (s : ServiceOf). s.token) seen;
       ids = refl;
+      remark = c.deref.ensures.value ∙ c.in_ok-remark.ensures
+          ∙ ap (λ (name : List ℕ). remark_of name c.self.inside.clock)
+          c.as_bytes-name.ensures.value
+          ∙ ap (λ (s : ServiceOf). remark_of s.name s.clock) seen;
       recent = recent_seen _ _ _ _ _ _
           (c.mirror.ensures ∙ ap (λ (s : ServiceOf). s.mirroring.entries) seen)
-          (ap (λ (s : ServiceOf). s.outbox.list) seen) c.deref.ensures.value
+          (ap (λ (s : ServiceOf). s.outbox.list) seen) c.deref-2.ensures.value
           c.in_ok-recent.ensures;
       time = ap (λ (s : ServiceOf). s.time) seen;
     } (c.as_bytes-title.ensures.value ∙ ap (λ (s : ServiceOf). s.title) seen)

@@ -1,0 +1,6 @@
+use Rattle.table_service.specs.Steps.{Aims}
+use Rattle.table_service.proofs.Steps.{step}
+use Rattle.table_service.proofs.desks_side.DesksSide.aim_at.Goals as goal
+
+pub returns : goal.returns
+returns g c = step (Aims c.args.desk) c.args.service.now c.aim.new.self c.aim.ensures
