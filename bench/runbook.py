@@ -356,7 +356,6 @@ class Runbook:
         "./desk enter-lines --wait --progress < results.txt": many,
         "./desk enter --wait 'CARD 333 1 17 - T:1043:0/T:998:1/DNF/T:1200:0/T:1131:0 # A 14:02'":
             prints(r"done \d+ \d+ UnknownCompetitor: .*\n"),
-        "./desk tick --desk 3": prints("ok\n"),
         "./board --listen 127.0.0.1:8080": board,
         "store device": shown,
         "./desk export --wcif competition.json < log-1.txt > competition-results.json": exported,
