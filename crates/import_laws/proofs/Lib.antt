@@ -1,0 +1,11 @@
+pub mod Importing
+pub mod Values
+pub mod Datas
+pub mod Reading
+pub mod Lists
+pub mod Rounds
+pub mod Persons
+pub mod Events
+pub mod Numbers
+pub mod Whole
+pub mod WorkedFile
