@@ -104,14 +104,15 @@ def ordered(meet):
 
 def faults(rounds, value):
     ids = [id_of(item) for event in items(value, "events") for item in items(event, "rounds")]
-    numbers = [member(person, "registrantId") for person in items(value, "persons")]
+    numbers = [member(person, "registrantId") for person in items(value, "persons")
+               if member(member(person, "registration"), "status") == "accepted"]
     numbers = {str(number) for number in numbers if isinstance(number, Spelled)}
     for name, table in rounds.items():
         if name not in ids:
             yield f"{name}: the file has no such round"
         for who in table.standings():
             if str(who) not in numbers:
-                yield f"{name}: nobody in the file has the registrantId {who}"
+                yield f"{name}: no accepted person has the registrantId {who}"
 
 
 def within(value, name, change):
@@ -163,7 +164,9 @@ CUBE = ["OPEN 333 1 ao5 2:2000 60000 top:2", "ENT 333 3", "ENT 333 1", "ENT 333 
 TRIED = [f"ATT 333 1 {k} {who} {out}" for who, outs in (
     (1, ("T:1500:0", "T:1400:2", "DNF", "T:59990:0", "DNS")), (2, ("T:2100:0", "T:2000:0")))
     for k, out in enumerate(outs, 1)]
-PERSONS = '"persons":[{"registrantId":1},{"registrantId":2},{"registrantId":3}]'
+ACCEPTED = '"registration":{"status":"accepted"}'
+PERSONS = '"persons":[' + ",".join('{"registrantId":%d,%s}' % (who, ACCEPTED)
+                                   for who in (1, 2, 3)) + "]"
 
 
 def one(rounds, front="", back=""):
@@ -196,10 +199,20 @@ CASES = [
      one('{"id":"333-r1"}', '"events":[{"rounds":[{"id":"333-r1"}]}],')),
     ("the second events lack the round", DAY + CUBE,
      one('{"id":"333-r2"}', '"events":[{"rounds":[{"id":"333-r1"}]}],')),
-    ("nobody has a number", DAY + CUBE, one('{"id":"333-r1"}').replace(":2}", ":4}")),
+    ("nobody has a number", DAY + CUBE, one('{"id":"333-r1"}').replace(":2,", ":4,")),
     ("numbers that are spelled otherwise", DAY + CUBE,
-     one('{"id":"333-r1"}').replace(":1}", ":1.0}").replace(":2}", ':"2"}').replace(
-         ":3}", ":3e0}")),
+     one('{"id":"333-r1"}').replace(":1,", ":1.0,").replace(":2,", ':"2",').replace(
+         ":3,", ":3e0,")),
+    ("a pending, a deleted and a missing registration", DAY + CUBE,
+     one('{"id":"333-r1"}').replace('"accepted"', '"pending"', 1).replace(
+         '2,' + ACCEPTED, '2,"registration":{"status":"deleted"}').replace("3," + ACCEPTED, "3")),
+    ("a status that is null, a text for a registration, and a status outside", DAY + CUBE,
+     one('{"id":"333-r1"}').replace('"accepted"', "null", 1).replace(
+         '2,' + ACCEPTED, '2,"registration":"accepted"').replace(
+         "3," + ACCEPTED, '3,"status":"accepted"')),
+    ("the number of a pending person and of an accepted one", DAY + CUBE,
+     one('{"id":"333-r1"}').replace(
+         '"persons":[', '"persons":[{"registrantId":2,"registration":{"status":"pending"}},')),
     ("no events, no persons", DAY + CUBE, "{}"),
     ("no object", DAY + CUBE, "[]"),
     ("two rounds", DAY + ["OPEN 222 1 bo3 - - top:2", "ENT 222 1", "ATT 222 1 1 1 DNS"] + CUBE,
@@ -259,6 +272,9 @@ def outcome(chance, what):
     return f"T:{time}:{chance.choice((0, 0, 0, 1, 9))}"
 
 
+STATUSES = ["accepted"] * 30 + ["pending", "deleted", None]
+
+
 def random_case(seed):
     """A small meet and a file for it, often without a place for something of the meet."""
     chance = random.Random(seed)
@@ -293,7 +309,9 @@ def random_case(seed):
 
     kept = [what for what in events if chance.random() < 0.95]
     held = [who for who in people if chance.random() < 0.97] + [None]
-    persons = [mixed([("registrantId", None if who is None else Spelled(who))]) for who in held]
+    persons = [mixed([("registrantId", None if who is None else Spelled(who)),
+                      ("registration", mixed([("status", chance.choice(STATUSES))]))])
+               for who in held]
     value = mixed([("persons", persons), ("events", [event_of(what) for what in kept])])
     text = printed(value)
     return f"random {seed}", commands, text.replace(",", ", ") if chance.random() < 0.5 else text

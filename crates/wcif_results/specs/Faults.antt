@@ -1,11 +1,11 @@
 -- What of a meet a competition's file has no place for: a round that it lacks, and an entrant whose
--- number is no `registrantId` of its persons.
+-- number is no `registrantId` of its accepted persons.
 use Rattle.std.specs.Prelude.{ℕ, if◌then◌else◌, List, [], ◌∷◌, ◌++◌, map, flat_map, codes, decimal}
 use Rattle.std.specs.Prelude.{bytes_eq, Bool, unwrap_or}
 use Rattle.std.specs.List.{list_any}
 use Rattle.std.specs.Option.{option_and_then, option_map}
 use Rattle.json.specs.Json.{Json, Items, no_items, item}
-use Rattle.json.specs.Find.{get, as_array, as_number}
+use Rattle.json.specs.Find.{get, as_array, as_number, as_str}
 use Rattle.rounds.specs.Tables.{standings}
 use Rattle.texts.specs.declared.command.Command.{Command}
 use Rattle.wcif_results.specs.declared.fault.Fault.{Fault}
@@ -25,9 +25,28 @@ items_under name d = unwrap_or (option_map listed (option_and_then as_array (get
 unfoldable pub file_rounds : Json → List Json
 file_rounds d = flat_map (items_under (codes "rounds")) (items_under (codes "events") d)
 
--- the number of a person as the file spells it; the empty text where there is none
+-- a text under a name; the empty text where there is none
+abbrev pub text_under : List ℕ → Json → List ℕ
+text_under name d = unwrap_or (option_and_then as_str (get name d)) []
+
+-- the status of a person's registration; the empty text where there is none
+abbrev pub status_of : Json → List ℕ
+status_of p =
+    unwrap_or
+    (option_and_then as_str
+    (option_and_then (get (codes "status")) (get (codes "registration") p))) []
+
+-- the registration is neither pending nor deleted
+unfoldable pub is_accepted : Json → Bool
+is_accepted p = bytes_eq (status_of p) (codes "accepted")
+
+abbrev pub number_of : Json → List ℕ
+number_of p = unwrap_or (option_and_then as_number (get (codes "registrantId") p)) []
+
+-- the number of a person as the file spells it; the empty text where there is none, or where the
+-- person is not accepted
 abbrev pub registrant : Json → List ℕ
-registrant p = unwrap_or (option_and_then as_number (get (codes "registrantId") p)) []
+registrant p = if is_accepted p then number_of p else []
 
 unfoldable pub registrants : Json → List (List ℕ)
 registrants d = map registrant (items_under (codes "persons") d)

@@ -99,7 +99,8 @@ fn text_of(alloc: Global, rounds: &[MeetRound<'_>], file: &Value<'_>) -> Result<
 /// - `NotJson` where it is no JSON in UTF-8.
 /// - `TooDeep` where lists and objects nest more than 64 deep.
 /// - `Refused` where the file lacks a round of the meet, or an entrant's number is no
-///   `registrantId` of its persons: every fault, by rounds in the order of the events' numbers.
+///   `registrantId` of its accepted persons: every fault, by rounds in the order of the events'
+///   numbers.
 /// - `NoMemory` where memory ran out.
 pub fn export(alloc: Global, bytes: &[u8], meet: &Meet) -> Result<Vec<u8>, ExportFault>
     ensures ok { IfOk result (λ text. Exports meet.now.accepted bytes.now text.items) }

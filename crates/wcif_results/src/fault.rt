@@ -12,8 +12,8 @@ pub enum Fault {
         event: Event,
         round: u8,
     },
-    /// No person of the file has the number of an entrant as its `registrantId`.
-    #[error("{}-r{}: nobody in the file has the registrantId {}", .event.name(), .round, .number)]
+    /// No accepted person of the file has the number of an entrant as the `registrantId`.
+    #[error("{}-r{}: no accepted person has the registrantId {}", .event.name(), .round, .number)]
     NoPerson {
         event: Event,
         round: u8,

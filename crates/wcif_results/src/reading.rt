@@ -3,7 +3,7 @@
 ghost use Rattle.std.specs.Prelude.{◌≡◌, ◌++◌, map, IfOk, OnOk, codes, option_map, unwrap_or, []};
 ghost use Rattle.json.specs.Value.{value_view};
 ghost use Rattle.wcif_results.specs.Faults.{items_under, file_rounds, registrant, registrants};
-ghost use Rattle.wcif_results.specs.Faults.{is_among};
+ghost use Rattle.wcif_results.specs.Faults.{is_accepted, is_among, status_of, text_under};
 ghost use Rattle.wcif_results.specs.Filled.{id_of};
 
 use attempts::NoMemory;
@@ -21,17 +21,46 @@ fn list_under<'v, 'a>(value: &'v Value<'a>, name: &str) -> Option<&'v [Value<'a>
     }
 }
 
+/// A text under a name; the empty text where there is none.
+fn text_under<'a>(value: &Value<'a>, name: &str) -> &'a str
+    ensures { result.now ≡ text_under name.now (value_view value.now) }
+{
+    value.get(name).and_then(Value::as_str).unwrap_or("")
+}
+
 /// The id of a round; the empty text where it has none.
 pub(crate) fn id_of<'a>(round: &Value<'a>) -> &'a str
     ensures { result.now ≡ id_of (value_view round.now) }
 {
-    round.get("id").and_then(Value::as_str).unwrap_or("")
+    text_under(round, "id")
 }
 
-/// The number of a person as the file spells it; the empty text where there is none.
+/// The status of a person's registration; the empty text where there is none.
+fn status_of<'a>(person: &Value<'a>) -> &'a str
+    ensures { result.now ≡ status_of (value_view person.now) }
+{
+    match person.get("registration") {
+        Some(registration) => text_under(registration, "status"),
+        None => "",
+    }
+}
+
+/// Whether a person's registration is accepted, neither pending nor deleted.
+#[tactic(auto, unfolding(crate::specs::Faults::is_accepted))]
+fn is_accepted(person: &Value<'_>) -> bool
+    ensures { result ≡ is_accepted (value_view person.now) }
+{
+    status_of(person).as_bytes() == b"accepted".as_slice()
+}
+
+/// The number of a person as the file spells it; the empty text where there is none, or where the
+/// person is not accepted.
 fn registrant<'a>(person: &Value<'a>) -> &'a str
     ensures { result.now ≡ registrant (value_view person.now) }
 {
+    if !is_accepted(person) {
+        return "";
+    }
     person
         .get("registrantId")
         .and_then(Value::as_number)
@@ -68,7 +97,7 @@ pub(crate) fn round_ids<'a>(alloc: Global, file: &Value<'a>) -> Result<Vec<&'a s
     Ok(ids)
 }
 
-/// The numbers of the file's persons, as it spells them.
+/// The numbers of the file's accepted persons, as it spells them.
 #[tactic(auto, unfolding(crate::specs::Faults::registrants))]
 pub(crate) fn registrants<'a>(alloc: Global, file: &Value<'a>) -> Result<Vec<&'a str>, NoMemory>
     ensures { IfOk result (λ numbers. map (λ s. s.now) numbers.items
