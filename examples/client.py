@@ -20,6 +20,7 @@ import os
 import re
 import secrets
 import socket
+import stat
 import struct
 import sys
 import time
@@ -83,19 +84,33 @@ def read_exactly(stream, count, wait):
     return bytes_read
 
 
-def key_of(path):
-    """The key in a file: 64 hexadecimal digits, in a file that nobody else may read."""
+def key_text(path):
+    """What a key's file has, which nobody else may read."""
     try:
+        mode = os.stat(path).st_mode
+        if not stat.S_ISREG(mode):
+            raise Fault("the key file is a folder, a pipe or a device: name a file", 3)
+        if mode & 0o077:
+            raise Fault("key file is open to others", 3)
         with open(path, "rb") as file:
-            if os.fstat(file.fileno()).st_mode & 0o077:
-                raise Fault("key file is open to others", 3)
-            text = file.read(66)
+            return file.read(68)
     except FileNotFoundError:
         raise Fault("no such key file", 3) from None
     except OSError:
         raise Fault("cannot read the key file", 3) from None
+
+
+def key_of(path):
+    """The key in a file: 64 hexadecimal digits that are not all zeros."""
+    text = key_text(path)
+    if text.startswith(b"\xef\xbb\xbf"):
+        raise Fault("the key file begins with a byte-order mark: copy it again, byte by byte", 3)
+    if re.fullmatch(b"[0-9a-fA-F]{64}\n?\r\n", text):
+        raise Fault("the key file ends with a carriage return: copy it again, byte by byte", 3)
     if not re.fullmatch(b"[0-9a-fA-F]{64}\n?", text):
         raise Fault("the key file has no key", 3)
+    if not text.strip(b"0\n"):
+        raise Fault("the key file has only zeros: make a key with 'desk key'", 3)
     return bytes.fromhex(text.decode())
 
 

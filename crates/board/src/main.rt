@@ -8,11 +8,12 @@ use arguments::run_given;
 use board_service::PROGRAM;
 use command_line::given;
 use hall_file::hall_options::tell_no_arguments;
+use prompt_lines::PromptLines;
 use std::process::ExitCode;
 
 fn main(rt: HostRuntime) -> ExitCode {
     let mut output = rt.stdout();
-    let mut faults = rt.stderr();
+    let mut faults = PromptLines::new(rt.stderr(), rt.alloc());
     let status = match given(&rt) {
         Ok(texts) => run_given(&rt, &texts, &mut output, &mut faults),
         Err(error) => tell_no_arguments(&mut faults, PROGRAM, &error),

@@ -47,7 +47,11 @@ run_not_zero run.NoMemory h = omega (arith, h)
 key_not_zero : (e : KeyFileFault) → key_status e ≡ 0 → ⊥
 key_not_zero key.NotThere h = omega (arith, h)
 key_not_zero key.Unreadable h = omega (arith, h)
+key_not_zero key.NotFile h = omega (arith, h)
 key_not_zero key.Open h = omega (arith, h)
+key_not_zero key.Mark h = omega (arith, h)
+key_not_zero key.Return h = omega (arith, h)
+key_not_zero key.Zeros h = omega (arith, h)
 key_not_zero key.NoKey h = omega (arith, h)
 key_not_zero key.NoMemory h = omega (arith, h)
 

@@ -10,3 +10,10 @@ fits keyed None = true
 fits keyed (Some NoKey) = keyed
 fits keyed (Some OtherKey) = keyed
 fits keyed (Some HasKey) = not keyed
+
+-- what is wrong once a connection ended: what it told, where the one before it told the same
+abbrev pub confirmed : (known before told : Option CallTrouble) → Option CallTrouble
+confirmed known (Some NoKey) (Some NoKey) = Some NoKey
+confirmed known (Some OtherKey) (Some OtherKey) = Some OtherKey
+confirmed known (Some HasKey) (Some HasKey) = Some HasKey
+confirmed known before told = known

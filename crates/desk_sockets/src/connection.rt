@@ -161,7 +161,8 @@ impl Connection {
             Ok(0) => reading_lost(dialogue, self.call.trouble_at_end()),
             Ok(count) => self.hear(dialogue, now, &piece[..count]),
             Err(error) if is_waiting(&error) => reading_nothing(After::Later),
-            Err(_) => reading_lost(dialogue, self.call.trouble_at_end()),
+            // a desk that dies resets its connections: that tells nothing of the keys
+            Err(_) => reading_lost(dialogue, None),
         }
     }
 
@@ -227,9 +228,7 @@ impl Connection {
                 After::More
             }
             Err(error) if is_waiting(&error) => After::Later,
-            Err(_) => After::Ended {
-                trouble: self.call.trouble_at_end(),
-            },
+            Err(_) => After::Ended { trouble: None },
         }
     }
 

@@ -1,11 +1,11 @@
 //! One connection at a time to a desk of a hall.
 
-ghost use Rattle.std.specs.Prelude.{◌≡◌, false, true, is_some, IfSome};
+ghost use Rattle.std.specs.Prelude.{◌≡◌, Bool, false, true, is_some, IfSome};
 ghost use Rattle.desk_talks.specs.Dialogues.{Reaches};
 ghost use Rattle.sealed.specs.ends.Calls.{own_key};
 ghost use Rattle.desk_sockets.specs.Connections.{Follows};
-ghost use Rattle.desk_sockets.specs.Streams.{fresh_stream};
-ghost use Rattle.desk_sockets.specs.Troubles.{fits};
+ghost use Rattle.desk_sockets.specs.Streams.{fresh_stream, noted};
+ghost use Rattle.desk_sockets.specs.Troubles.{confirmed, fits};
 
 use crate::connection::{After, Connection};
 use desk_talks::{Dialogue, Wish};
@@ -37,7 +37,8 @@ pub enum Kept {
 /// The connection of a dialogue to a desk of a hall, if there is one. Where the hall has a key, all
 /// that goes over it is sealed under that key.
 ///
-/// A contract sees the key, and what was wrong with the last connection.
+/// A contract sees the key, what is wrong with it, and what the last connection that ended told of
+/// that.
 #[derive(Drop)]
 pub struct DeskStream<'a, R> {
     source: &'a R,
@@ -49,6 +50,28 @@ pub struct DeskStream<'a, R> {
     key: Option<[u8; 32]>,
     connection: Option<Connection>,
     trouble: Option<CallTrouble>,
+    /// What the end of the last connection told, of which a second one is to tell the same.
+    suspected: Option<CallTrouble>,
+}
+
+/// What is wrong with the keys once a connection ended: what it told, where the one before it told
+/// the same, and else what is known. A desk that dies ends its connections as one without a key
+/// does.
+fn confirmed(
+    known: Option<CallTrouble>,
+    before: Option<CallTrouble>,
+    told: Option<CallTrouble>,
+) -> Option<CallTrouble>
+    ensures is { result ≡ confirmed known before told }
+    ensures fits { (keyed : Bool) → fits keyed known ≡ true → fits keyed told ≡ true
+        → fits keyed result ≡ true }
+{
+    match (before, told) {
+        (Some(CallTrouble::NoKey), Some(CallTrouble::NoKey))
+        | (Some(CallTrouble::OtherKey), Some(CallTrouble::OtherKey))
+        | (Some(CallTrouble::HasKey), Some(CallTrouble::HasKey)) => told,
+        _ => known,
+    }
 }
 
 impl<'a, R> Model for DeskStream<'a, R> {
@@ -60,7 +83,7 @@ impl<'a, R> Model for DeskStream<'a, R> {
 
     ghost Value = { StreamOf };
 
-    ghost view = { λ s. stream s.key s.trouble };
+    ghost view = { λ s. stream s.key s.trouble s.suspected };
 
     ghost invariant = { λ s. (fits (is_some s.key) s.trouble ≡ true)
         × ForSome s.connection (λ c. own_key c.call ≡ s.key) };
@@ -89,10 +112,11 @@ impl<'a, R: Net + RandomSource> DeskStream<'a, R> {
             key,
             connection: None,
             trouble: None,
+            suspected: None,
         }
     }
 
-    /// What was wrong with the last connection of which it is known. None once a desk answered.
+    /// What is wrong with the keys, as two connections in a row told. None once a desk answered.
     /// With a key it is that the desk has none, or another one; without a key, that the desk has
     /// one.
     pub fn trouble(&self) -> Option<CallTrouble>
@@ -138,15 +162,17 @@ impl<'a, R: Net + RandomSource> DeskStream<'a, R> {
         }
     }
 
-    /// Goes on with a connection, unless it has ended; what was wrong is noted, if that is known.
+    /// Goes on with a connection, unless it has ended; what its end tells of the keys is noted.
     fn go_on(&mut self, connection: Connection, after: After)
         requires { Follows after self.old.key connection.call }
-        ensures { self.new.key ≡ self.old.key }
+        ensures { self.new ≡ noted after self.old }
     {
         match after {
             After::More | After::Later => self.connection = Some(connection),
-            After::Ended { trouble: None } => {}
-            After::Ended { trouble } => self.trouble = trouble,
+            After::Ended { trouble } => {
+                self.trouble = confirmed(self.trouble, self.suspected, trouble);
+                self.suspected = trouble;
+            }
         }
     }
 
@@ -162,6 +188,7 @@ impl<'a, R: Net + RandomSource> DeskStream<'a, R> {
         let reading = connection.read(dialogue, now);
         if reading.answered {
             self.trouble = None;
+            self.suspected = None;
         }
         self.go_on(connection, reading.after);
         reading.changed
@@ -178,6 +205,7 @@ impl<'a, R: Net + RandomSource> DeskStream<'a, R> {
         };
         if !connection.look_whether_open(dialogue) {
             self.connection = None;
+            self.suspected = None;
         }
     }
 

@@ -32,6 +32,14 @@ ending_at kind.ConnectionReset heard = broken_ending heard
 ending_at kind.ConnectionAborted heard = broken_ending heard
 ending_at _ heard = ending.Own
 
+-- A second connection, on which a preface alone was sent, goes the way of the first: it ended as
+-- one without a key ends it; or, where the first ended as one with another key does, the desk's
+-- preface came.
+abbrev pub ends_so_too : (first second : Ending) → (came : Bool) → Bool
+ends_so_too ending.NoKey ending.NoKey came = true
+ends_so_too ending.OtherKey second came = came
+ends_so_too first second came = false
+
 -- the end of a connection is a sign of keys only where the desk was there afterwards
 abbrev pub sure_ending : Ending → (there : Bool) → Ending
 sure_ending ending.NoKey false = ending.Gone

@@ -3,22 +3,13 @@ use Rattle.std.specs.Prelude.{◌++◌, ℕ, List, codes, decimal}
 use Rattle.client.specs.declared.fault.ClientFault.{ClientFault}
 use Rattle.client.specs.declared.fault.ClientFault.TheVariants as client
 use Rattle.fault_lines.specs.Statuses.{status_of_run}
-use Rattle.keys.specs.declared.key_file.fault.KeyFileFault.{KeyFileFault}
-use Rattle.keys.specs.declared.key_file.fault.KeyFileFault.TheVariants as key
+pub use Rattle.hall_file.specs.hall_options.Mistakes.{key_status}
 use Rattle.lines.specs.declared.fault.RunFault.TheVariants as run
 use Rattle.batch.specs.declared.dialing.Contact.{Contact}
 use Rattle.batch.specs.declared.fault.BatchFault.{BatchFault}
 use Rattle.batch.specs.declared.fault.BatchFault.TheVariants as batch
 use Rattle.errands.specs.declared.fault.DeskFault.{DeskFault}
 use Rattle.errands.specs.declared.fault.DeskFault.TheVariants as fault
-
--- a key's file gives none, or memory ran out
-abbrev pub key_status : KeyFileFault → ℕ
-key_status key.NotThere = 3
-key_status key.Unreadable = 3
-key_status key.Open = 3
-key_status key.NoKey = 3
-key_status key.NoMemory = 5
 
 abbrev pub status_of : DeskFault → ℕ
 status_of (fault.Run e) = status_of_run e

@@ -1,8 +1,8 @@
 //! How connections end.
 
 ghost use Rattle.std.specs.Prelude.{◌≡◌};
-ghost use Rattle.errands.specs.Endings.{broken_ending, cut_ending, ending_at, sure_ending};
-ghost use Rattle.errands.specs.Endings.{trouble_ending};
+ghost use Rattle.errands.specs.Endings.{broken_ending, cut_ending, ending_at, ends_so_too};
+ghost use Rattle.errands.specs.Endings.{sure_ending, trouble_ending};
 
 use batch::Ending;
 use sealed::ends::CallTrouble;
@@ -47,6 +47,20 @@ pub(crate) fn ending_at(kind: ErrorKind, heard: bool) -> Ending
         ErrorKind::TimedOut | ErrorKind::WouldBlock => Ending::Late,
         ErrorKind::ConnectionReset | ErrorKind::ConnectionAborted => broken_ending(heard),
         _ => Ending::Own,
+    }
+}
+
+/// Whether a second connection goes the way of the first, where a preface is all that is sent on
+/// it, and that of the desk came or did not: both ended as those to a desk without a key do; or,
+/// where the first ended as one to a desk with another key does, the preface came. Of any other end
+/// nothing is told.
+pub(crate) fn ends_so_too(first: Ending, second: Ending, came: bool) -> bool
+    ensures { result ≡ ends_so_too first second came }
+{
+    match (first, second) {
+        (Ending::NoKey, Ending::NoKey) => true,
+        (Ending::OtherKey, _) => came,
+        _ => false,
     }
 }
 

@@ -166,10 +166,7 @@ fn key_status(fault: KeyFileFault) -> u8
 {
     match fault {
         KeyFileFault::NoMemory => 5,
-        KeyFileFault::NotThere
-        | KeyFileFault::Unreadable
-        | KeyFileFault::Open
-        | KeyFileFault::NoKey => 3,
+        _ => 3,
     }
 }
 

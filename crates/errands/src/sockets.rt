@@ -6,7 +6,7 @@ ghost use Rattle.sealed.specs.ends.Calls.{own_key};
 ghost use Rattle.errands.specs.Keying.{AreUnder};
 
 use crate::drawing::drawn_bytes;
-use crate::endings::sure_ending;
+use crate::endings::{ends_so_too, sure_ending};
 use crate::incoming::Answer;
 use crate::outgoing::Outgoing;
 use crate::waiting::Wait;
@@ -137,10 +137,9 @@ fn is_there(rt: &HostRuntime, reader: &Answer<'_>) -> bool {
         return false;
     };
     match begun(rt, stream, to, wait, Some([0; 32])) {
-        Ok((answer, outgoing)) => match reader.ending() {
-            Ending::NoKey => answer.ending() == Ending::NoKey,
-            _ => outgoing.is_open(),
-        },
+        Ok((answer, outgoing)) => {
+            ends_so_too(reader.ending(), answer.ending(), outgoing.is_open())
+        }
         Err(_) => false,
     }
 }

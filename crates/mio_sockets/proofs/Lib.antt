@@ -4,3 +4,4 @@ pub mod Each
 pub mod Pushing
 pub mod Soonest
 pub mod Looking
+pub mod Sums

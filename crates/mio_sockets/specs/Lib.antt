@@ -1,4 +1,5 @@
 pub mod Coming
+pub mod Mixing
 pub mod Wiring
 pub mod Waiting
 pub mod Keeping

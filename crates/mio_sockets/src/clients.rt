@@ -33,6 +33,8 @@ const MOST_OPEN: usize = 512;
 pub struct SocketClients<'a, R> {
     system: &'a R,
     peers: PeerSockets<'a, R>,
+    /// The number of the desk's start.
+    start: u64,
 }
 
 impl<'a, R> Model for SocketClients<'a, R> {
@@ -47,14 +49,21 @@ impl<'a, R> Model for SocketClients<'a, R> {
 }
 
 impl<'a, R: Net + Clock> SocketClients<'a, R> {
-    /// Listens at this address. At most 512 connections are open at once. No round was begun.
-    pub fn listen(runtime: &'a R, alloc: Global, address: SocketAddr) -> io::Result<Self>
+    /// Listens at this address, at the desk's start of this number. At most 512 connections are
+    /// open at once. No round was begun.
+    pub fn listen(
+        runtime: &'a R,
+        alloc: Global,
+        address: SocketAddr,
+        start: u64,
+    ) -> io::Result<Self>
         ensures { IfOk result (IsFresh 512) }
     {
         let peers = PeerSockets::listen(runtime, alloc, address, MOST_OPEN)?;
         Ok(SocketClients {
             system: runtime,
             peers,
+            start,
         })
     }
 }
@@ -91,8 +100,9 @@ impl<R: Clock + RandomSource> Clients for SocketClients<'_, R> {
         self.peers.ready(wait)
     }
 
-    /// The random bytes are new. Where the system gives none, the client isn't let in. Where as
-    /// many connections are open as may be, nobody is.
+    /// The random bytes are new, mixed with the numbers of the desk's start and of the client.
+    /// Where the system gives none, the client isn't let in. Where as many connections are open as
+    /// may be, nobody is.
     fn accept(&mut self, number: u64) -> Accepted
         ensures full { is_full self.old ≡ true → result ≡ Accepted.Full }
         ensures came { LetsIn result (stays self.old number) (stays self.new number) }
@@ -102,7 +112,7 @@ impl<R: Clock + RandomSource> Clients for SocketClients<'_, R> {
         match self.peers.accept(number) {
             polled::Accepted::Nobody => Accepted::Nobody,
             polled::Accepted::Full => Accepted::Full,
-            polled::Accepted::Came => match drawn(self.system) {
+            polled::Accepted::Came => match drawn(self.system, self.start, number) {
                 Ok(random) => Accepted::Came { random },
                 Err(_) => {
                     self.peers.close(number);

@@ -17,5 +17,6 @@ mod wires;
 
 pub use clients::SocketClients;
 pub use desk_links::{DeskLinks, SocketLinks};
+pub use random::{mixed, mixed_apart, mixed_keeps};
 pub use socket_wires::SocketWires;
 pub use wires::{Heard, Opening, Trouble, Wires};

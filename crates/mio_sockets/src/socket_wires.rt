@@ -20,7 +20,8 @@ use std::net::{Net, SocketAddr};
 use std::random::RandomSource;
 
 /// Connections to the desks 1 to 5 over TCP, whose sockets a poll tells of. With a key they are
-/// sealed under it, and each has new random bytes.
+/// sealed under it, and each has new random bytes, mixed with the numbers of the desk's start and
+/// of the connection.
 ///
 /// A contract sees the key.
 #[derive(Drop)]
@@ -29,6 +30,10 @@ pub struct SocketWires<'a, R> {
     alloc: Global,
     registry: Registry,
     wires: HallWires,
+    /// The number of the desk's start.
+    start: u64,
+    /// How many connections were begun since.
+    begun: u64,
 }
 
 impl<'a, R> Model for SocketWires<'a, R> {
@@ -40,14 +45,16 @@ impl<'a, R> Model for SocketWires<'a, R> {
 }
 
 impl<'a, R: Net + RandomSource> SocketWires<'a, R> {
-    /// No connections yet. Their sockets are told of by the poll of this registry. The desks are
-    /// those of this hall, and speak under its key, where there is one.
+    /// No connections yet, at the desk's start of this number. Their sockets are told of by the
+    /// poll of this registry. The desks are those of this hall, and speak under its key, where it
+    /// has one.
     pub fn new(
         system: &'a R,
         alloc: Global,
         registry: Registry,
         hall: u32,
         key: Option<[u8; 32]>,
+        start: u64,
     ) -> SocketWires<'a, R>
         ensures { result ≡ wires_of key }
     {
@@ -56,6 +63,8 @@ impl<'a, R: Net + RandomSource> SocketWires<'a, R> {
             alloc,
             registry,
             wires: HallWires::new(alloc, hall, key),
+            start,
+            begun: 0,
         }
     }
 
@@ -65,7 +74,7 @@ impl<'a, R: Net + RandomSource> SocketWires<'a, R> {
     {
         let key = self.wires.key();
         let random = match key {
-            Some(_) => drawn(self.system)?,
+            Some(_) => drawn(self.system, self.start, self.begun)?,
             None => [0; 16],
         };
         let call = Call::new(self.alloc, key, random)?;
@@ -91,6 +100,7 @@ impl<R: Net + RandomSource> Wires for SocketWires<'_, R> {
         ensures { self.new ≡ self.old }
     {
         let connected = self.connect(desk, address);
+        self.begun = self.begun.wrapping_add(1);
         self.wires.begin(desk, connected)
     }
 

@@ -69,10 +69,11 @@ fn no_listener(error: &io::Error) -> ServeFault
     ServeFault::CannotListen
 }
 
-/// Listens at the desk's address.
+/// Listens at the desk's address, at the desk's start of this number.
 pub fn listen<'r>(
     rt: &'r HostRuntime,
     service: Service<'_>,
+    start: u64,
 ) -> Result<SocketClients<'r, HostRuntime>, ServeFault>
     ensures { IfErr result IsOfListener }
 {
@@ -84,7 +85,7 @@ pub fn listen<'r>(
     let Some(address) = found else {
         return Err(ServeFault::CannotListen);
     };
-    match SocketClients::listen(rt, rt.alloc(), address) {
+    match SocketClients::listen(rt, rt.alloc(), address, start) {
         Ok(clients) => Ok(clients),
         Err(error) => Err(no_listener(&error)),
     }
@@ -117,14 +118,15 @@ fn tell_missing<W: Write>(
     lines.flush()
 }
 
-/// The links to the other desks, whose sockets the poll of the clients tells of. Where the desk has
-/// keys, they speak under the hall's. Where lines about other desks are wanted, it says which two
-/// have one address, and of which no address was found.
+/// The links to the other desks, at the desk's start of this number, whose sockets the poll of the
+/// clients tells of. Where the desk has keys, they speak under the hall's. Where lines about other
+/// desks are wanted, it says which two have one address, and of which no address was found.
 pub fn links_to<'r>(
     rt: &'r HostRuntime,
     service: Service<'_>,
     doors: Doors,
     clients: &SocketClients<'r, HostRuntime>,
+    start: u64,
 ) -> Result<SocketLinks<'r, HostRuntime, PromptLines>, ServeFault>
     ensures links { IfOk result
         (λ links. LeadTo (map (λ t. t.now) service.entry.addresses.now) links.lines) }
@@ -149,7 +151,14 @@ pub fn links_to<'r>(
     match DeskLinks::new(
         rt.alloc(),
         &addresses,
-        SocketWires::new(rt, rt.alloc(), registry, service.hall, hall_key(doors)),
+        SocketWires::new(
+            rt,
+            rt.alloc(),
+            registry,
+            service.hall,
+            hall_key(doors),
+            start,
+        ),
         lines,
     ) {
         Ok(links) => Ok(links),

@@ -110,11 +110,12 @@ pub fn serve_node<K: Keeper + Drop, C: Clients, L: Links, W: Write>(
     told_end(served.over)
 }
 
-/// A desk listens at its address and serves.
+/// A desk listens at its address and serves, at its start of this number.
 fn serve_there<K: Keeper + Drop, W: Write>(
     rt: &HostRuntime,
     service: Service<'_>,
     doors: Doors,
+    start: u64,
     node: &mut Node<K>,
     writer: &mut W,
 ) -> Result<(), ServeFault>
@@ -123,11 +124,11 @@ fn serve_there<K: Keeper + Drop, W: Write>(
     ensures err { IfErr result (FailsThere K.Keeper W.Write service.entry doors node.old node.new
         writer.old writer.new) }
 {
-    let mut clients = match listen(rt, service) {
+    let mut clients = match listen(rt, service, start) {
         Ok(clients) => clients,
         Err(fault) => return Err(fault),
     };
-    let mut links = match links_to(rt, service, doors, &clients) {
+    let mut links = match links_to(rt, service, doors, &clients, start) {
         Ok(links) => links,
         Err(fault) => return Err(fault),
     };
@@ -142,12 +143,13 @@ fn serve_there<K: Keeper + Drop, W: Write>(
     )
 }
 
-/// Opens the desk that a keeper keeps, which listens at its address and serves. At the end the
-/// keeper is closed, unless the desk is down.
+/// Opens the desk that a keeper keeps, which listens at its address and serves, at its start of
+/// this number. At the end the keeper is closed, unless the desk is down.
 fn serve_kept<K: Keeper + Close + Drop, W: Write>(
     rt: &HostRuntime,
     service: Service<'_>,
     doors: Doors,
+    start: u64,
     keeper: K,
     writer: &mut W,
 ) -> Result<(), ServeFault>
@@ -167,7 +169,7 @@ fn serve_kept<K: Keeper + Close + Drop, W: Write>(
         Ok(node) => node,
         Err(fault) => return Err(fault_of_open(fault_of_load(fault))),
     };
-    let ended = serve_there(rt, service, doors, &mut node, writer);
+    let ended = serve_there(rt, service, doors, start, &mut node, writer);
     close_node(node);
     ended
 }
@@ -234,5 +236,5 @@ pub fn serve<S: Start, W: Write>(
         Ok(keeper) => keeper,
         Err(fault) => return Err(fault),
     };
-    serve_kept(rt, service, doors, keeper, writer)
+    serve_kept(rt, service, doors, 0, keeper, writer)
 }

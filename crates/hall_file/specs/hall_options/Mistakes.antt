@@ -9,11 +9,8 @@ use Rattle.hall_file.specs.declared.hall_options.mistakes.Mistake.TheVariants as
 
 -- 3 for a file that gives no key, 5 for memory
 abbrev pub key_status : KeyFileFault → ℕ
-key_status key_fault.NotThere = 3
-key_status key_fault.Unreadable = 3
-key_status key_fault.Open = 3
-key_status key_fault.NoKey = 3
 key_status key_fault.NoMemory = 5
+key_status _ = 3
 
 -- 2 for arguments, 3 for a file that describes no hall or gives no key, 4 for an address, 5 for
 -- memory

@@ -1,31 +1,30 @@
 -- The file of a hall's key.
-use Rattle.std.specs.Prelude.{◌≡◌, ◌≢◌, ℕ, List, [], ◌∷◌, ◌++◌, length, Option, Some, None, Ok}
-use Rattle.std.specs.Prelude.{bit_and}
+use Rattle.std.specs.Prelude.{◌≡◌, ◌≢◌, ◌⊎◌, ℕ, List, [], ◌∷◌, ◌++◌, length, Option, Some}
+use Rattle.std.specs.Prelude.{None, Ok, bit_and, replicate}
 use Rattle.std.specs.List.{AllPass}
-use Rattle.std.specs.Fs.{IsDir, file_type, metadata_mode}
+use Rattle.std.specs.Fs.{IsFile, file_type, metadata_mode}
 use Rattle.std.specs.Io.KnownBytes.{Appends}
 use Rattle.std.specs.declared.fs.attrs.Metadata.{Metadata}
 use Rattle.hex.specs.Hex.{decode_of, encode_lower, is_hex_digit}
 use Rattle.keys.specs.Keys.{digits_of}
 use Rattle.keys.specs.declared.key_file.fault.KeyFileFault.{KeyFileFault}
-use Rattle.keys.specs.declared.key_file.fault.KeyFileFault.TheVariants.{NotThere, Unreadable, Open}
+use Rattle.keys.specs.declared.key_file.fault.KeyFileFault.TheVariants.{Unreadable, NotFile}
+use Rattle.keys.specs.declared.key_file.fault.KeyFileFault.TheVariants.{Open, Mark, Return, Zeros}
 use Rattle.keys.specs.declared.key_file.fault.KeyFileFault.TheVariants.{NoKey, NoMemory}
 
 -- one of the permissions of the file's group or of others is set
 abbrev pub IsOpenToOthers : ℕ → Type 0
 IsOpenToOthers mode = bit_and mode 0o077 ≢ 0
 
--- a file that is its owner's alone, and no folder
+-- a regular file that is its owner's alone
 abbrev pub IsAlone : Metadata → Type 0
-IsAlone file = (IsDir (file_type file) → ⊥) × (bit_and (metadata_mode file) 0o077 ≡ 0)
+IsAlone file = IsFile (file_type file) × (bit_and (metadata_mode file) 0o077 ≡ 0)
 
 -- why a file is refused, whatever its bytes are
 abbrev pub RefusesFile : Metadata → KeyFileFault → Type 0
-RefusesFile file Unreadable = IsDir (file_type file)
-RefusesFile file Open = (IsDir (file_type file) → ⊥) × IsOpenToOthers (metadata_mode file)
-RefusesFile file NotThere = ⊥
-RefusesFile file NoKey = ⊥
-RefusesFile file NoMemory = ⊥
+RefusesFile file NotFile = IsFile (file_type file) → ⊥
+RefusesFile file Open = IsFile (file_type file) × IsOpenToOthers (metadata_mode file)
+RefusesFile file _ = ⊥
 
 -- the bytes are 64 hexadecimal digits and at most one line feed
 abbrev pub IsKeyText : List ℕ → Type 0
@@ -35,23 +34,40 @@ IsKeyText bytes = (length (digits_of bytes) ≡ 64) × AllPass is_hex_digit (dig
 abbrev pub Spells : List ℕ → List ℕ → Type 0
 Spells bytes key = decode_of (digits_of bytes) ≡ Ok key
 
--- bytes that were read spell this key
-abbrev pub IsSpelt : List ℕ → Type 0
-IsSpelt key = (bytes : List ℕ) × Spells bytes key
+-- the bytes begin with a byte-order mark
+abbrev pub HasMark : List ℕ → Type 0
+HasMark bytes = (rest : List ℕ) × (bytes ≡ 239 ∷ 187 ∷ 191 ∷ rest)
 
--- the bytes, where they are known, spell this key
+-- a carriage return and a line feed stand after a key's text
+abbrev pub HasReturn : List ℕ → Type 0
+HasReturn bytes = (text : List ℕ) × (bytes ≡ text ++ 13 ∷ 10 ∷ []) × IsKeyText text
+
+-- the bytes, where they are known, spell this key, which is not all zeros
 abbrev pub HasKey : Option (List ℕ) → List ℕ → Type 0
-HasKey (Some bytes) key = Spells bytes key
+HasKey (Some bytes) key = Spells bytes key × (key ≢ replicate 32 0)
 HasKey None key = Unit {0}
 
--- why bytes, where they are known, give no key
+-- bytes that were read spell this key, which is not all zeros
+abbrev pub IsSpelt : List ℕ → Type 0
+IsSpelt key = (bytes : List ℕ) × HasKey (Some bytes) key
+
+-- why these bytes give no key
+abbrev pub RefusesBytes : List ℕ → KeyFileFault → Type 0
+RefusesBytes bytes Mark = HasMark bytes
+RefusesBytes bytes Return = HasReturn bytes
+RefusesBytes bytes Zeros = Spells bytes (replicate 32 0)
+RefusesBytes bytes NoKey =
+    (IsKeyText bytes → ⊥) × (HasMark bytes → ⊥) × (HasReturn bytes → ⊥)
+RefusesBytes bytes _ = ⊥
+
+-- why bytes give no key, where they are known and where they are not
+abbrev pub RefusesHad : Option (List ℕ) → KeyFileFault → Type 0
+RefusesHad (Some bytes) fault = RefusesBytes bytes fault
+RefusesHad None fault = (bytes : List ℕ) × RefusesBytes bytes fault
+
+-- why a reader gives no key: a read failed, memory ran out, or its bytes spell none
 abbrev pub Refuses : Option (List ℕ) → KeyFileFault → Type 0
-Refuses (Some bytes) NoKey = IsKeyText bytes → ⊥
-Refuses None NoKey = Unit {0}
-Refuses bytes Unreadable = Unit {0}
-Refuses bytes NoMemory = Unit {0}
-Refuses bytes NotThere = ⊥
-Refuses bytes Open = ⊥
+Refuses had fault = (fault ≡ Unreadable) ⊎ (fault ≡ NoMemory) ⊎ RefusesHad had fault
 
 -- a key's digits in lower case and a line feed were written
 abbrev pub PrintsKey : List ℕ → Option (List ℕ) → Option (List ℕ) → Type 0

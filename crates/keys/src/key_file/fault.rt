@@ -9,13 +9,25 @@ pub enum KeyFileFault {
     /// There is no file at the path.
     #[error("no such key file")]
     NotThere,
-    /// It is a folder, or it cannot be opened or read.
+    /// It cannot be opened or read.
     #[error("cannot read the key file")]
     Unreadable,
+    /// It is no regular file: nothing is read of a pipe, which might never end.
+    #[error("the key file is a folder, a pipe or a device: name a file")]
+    NotFile,
     /// Others than its owner may read, write or run it.
     #[error("key file is open to others")]
     Open,
-    /// Its bytes are not 64 hexadecimal digits and at most one line feed.
+    /// It begins with a byte-order mark, which an editor puts there.
+    #[error("the key file begins with a byte-order mark: copy it again, byte by byte")]
+    Mark,
+    /// A carriage return stands before its line feed, which an editor puts there.
+    #[error("the key file ends with a carriage return: copy it again, byte by byte")]
+    Return,
+    /// Its digits are all zeros: nobody drew that key.
+    #[error("the key file has only zeros: make a key with 'desk key'")]
+    Zeros,
+    /// Its bytes are nothing of this, and not 64 hexadecimal digits and at most one line feed.
     #[error("the key file has no key")]
     NoKey,
     /// Memory ran out.

@@ -1,12 +1,10 @@
-use Rattle.std.proofs.Common.{◌≡◌, ◌++◌, subst, take, refl}
-use Rattle.std.proofs.lemmas.Bool.{false≢true}
+use Rattle.std.proofs.Common.{◌≡◌, ◌++◌, subst, take}
 use Rattle.std.specs.Prelude.{IfSome, option_map}
-use Rattle.keys.specs.key_file.KeyFiles.{IsKeyText}
-use Rattle.keys.proofs.key_file.Fronts.{is_read, spelt, unspelt}
+use Rattle.keys.proofs.key_file.Fronts.{fault_had, is_read, key_had}
 use Rattle.keys.proofs.key_file.reading.key_from.Goals as goal
 
-pub returns-in-Some-clause-key : goal.returns-in-Some-clause-key
-returns-in-Some-clause-key g c =
+pub returns-in-Ok-clause-key : goal.returns-in-Ok-clause-key
+returns-in-Ok-clause-key g c =
     let remaining = g.R.Read.remaining in
     let items = c.read_to_end.new.buf.items in
     let front =
@@ -17,9 +15,9 @@ returns-in-Some-clause-key g c =
     IfSome (option_map (take c.take.result.limit) (remaining r))
     (λ xs. items ≡ c.new-bytes.result.items ++ xs))
     c.take.ensures.inner c.in-Ok.ensures.bytes) in
-    spelt (remaining c.args.reader) items c.in-Some.key front
-    (rw c.deref.ensures.value at c.in-Some.ensures.value)
-    (rw c.deref.ensures.value at (c.in-Some.ensures.found.0 refl))
+    key_had (remaining c.args.reader) items c.key_in.result front
+    (rw c.deref.ensures.value at c.key_in.ensures.key)
+    (rw c.deref.ensures.value at c.key_in.ensures.text)
 
 pub returns-in-Ok-clause-refused : goal.returns-in-Ok-clause-refused
 returns-in-Ok-clause-refused g c =
@@ -33,6 +31,5 @@ returns-in-Ok-clause-refused g c =
     IfSome (option_map (take c.take.result.limit) (remaining r))
     (λ xs. items ≡ c.new-bytes.result.items ++ xs))
     c.take.ensures.inner c.in-Ok.ensures.bytes) in
-    let here : IsKeyText c.deref.result.now → ⊥ =
-    λ text. false≢true (c.in-None.ensures.found.1 text) in
-    unspelt (remaining c.args.reader) items front (rw c.deref.ensures.value at here)
+    fault_had (remaining c.args.reader) items c.key_in.result front
+    (rw c.deref.ensures.value at c.key_in.ensures.refused)
