@@ -13,6 +13,7 @@ use Rattle.sealed.specs.declared.callers.Doors.{Doors}
 use Rattle.sealed.specs.declared.callers.Refusal.{Refusal}
 use Rattle.sealed.specs.declared.callers.Refusal.TheVariants.{Unsealed, NoMemory}
 use Rattle.sealed.specs.Sent.{KeepsSent}
+use Rattle.serving.specs.Kinds.{dear_next, message_next}
 use Rattle.serving.specs.declared.peers.Peers.{Ghosts as PeersOf}
 use Rattle.serving.specs.Turns.{Talk, new_talk}
 use Rattle.serving.specs.Turns as Turns
@@ -44,6 +45,16 @@ pub record IsFree (g : Guarding) : Type 0 where
   pub fed : g.starved ≡ false
   pub unended : g.talk.end ≡ None
   pub taken : g.output ≡ []
+
+-- a frame may be begun, and the next one asks for a sheet or for entries of the log
+pub record IsDear (g : Guarding) : Type 0 where
+  pub free : IsFree g
+  pub next : dear_next g.talk.waiting ≡ true
+
+-- a frame may be begun, and the next one is a message of a desk to a desk
+pub record HearsDesk (g : Guarding) : Type 0 where
+  pub free : IsFree g
+  pub next : message_next g.talk.waiting ≡ true
 
 -- the next piece may come: all that came before is served, and what comes may still be let in
 pub record WantsRead (g : Guarding) : Type 0 where
@@ -106,6 +117,13 @@ is_plain (Some Anyone) = true
 is_plain (Some Passer) = true
 is_plain (Some (caller.Holder key)) = false
 is_plain None = false
+
+-- whoever calls has a key of the desk
+abbrev pub has_key : Option Caller → Bool
+has_key (Some Anyone) = false
+has_key (Some Passer) = false
+has_key (Some (caller.Holder key)) = true
+has_key None = false
 
 -- the connection was served to here, and memory is refused for what is sent of its answer
 pub record Loses (served : Talk) (old new : Guarding) : Type 0 where

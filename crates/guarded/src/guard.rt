@@ -3,10 +3,11 @@
 ghost use Rattle.std.specs.Prelude.{◌≡◌, ◌≢◌, ◌≤◌, ◌↔◌, [], length, IfNone, IfOk, IfSome, IsTrue};
 ghost use Rattle.std.specs.Bool.{OnFalse, OnTrue};
 ghost use Rattle.seal.specs.Records.{preface_of};
-ghost use Rattle.sealed.specs.Calls.{Sends};
+ghost use Rattle.sealed.specs.Calls.{Sends, caller_of};
 ghost use Rattle.serving.specs.Turns.{after_sent as after_taken};
-ghost use Rattle.guarded.specs.Guarding.{Advances, IsDone, IsFree, IsOver, Receives, WantsRead};
-ghost use Rattle.guarded.specs.Guarding.{after_sent, fresh_guard, greets, is_plain, moment};
+ghost use Rattle.guarded.specs.Guarding.{Advances, HearsDesk, IsDear, IsDone, IsFree, IsOver};
+ghost use Rattle.guarded.specs.Guarding.{Receives, WantsRead, after_sent, fresh_guard, greets};
+ghost use Rattle.guarded.specs.Guarding.{has_key, is_plain, moment};
 
 use crate::permitting::permission_of;
 use answers::Desk;
@@ -76,6 +77,18 @@ fn is_plain(caller: Option<Caller>) -> bool
         Some(Caller::Anyone) => true,
         Some(Caller::Passer) => true,
         Some(Caller::Holder { .. }) => false,
+        None => false,
+    }
+}
+
+/// Whether this one has a key of the desk.
+fn has_key(caller: Option<Caller>) -> bool
+    ensures { result ≡ has_key caller }
+{
+    match caller {
+        Some(Caller::Holder { .. }) => true,
+        Some(Caller::Anyone) => false,
+        Some(Caller::Passer) => false,
         None => false,
     }
 }
@@ -157,6 +170,27 @@ impl Guard {
             && self.output().is_empty()
             && !self.called.is_over()
             && self.talk.wants_read()
+    }
+
+    /// Whether whoever calls has a key of the desk.
+    pub fn has_key(&self) -> bool
+        ensures { result ≡ has_key (caller_of self.now.called) }
+    {
+        has_key(self.called.caller())
+    }
+
+    /// Whether a frame may be begun, and the next one asks for a sheet or for entries of the log.
+    pub fn is_dear(&self) -> bool
+        ensures { IsTrue result ↔ IsDear self.now }
+    {
+        self.is_free() && self.talk.is_dear()
+    }
+
+    /// Whether a frame may be begun, and the next one is a message of a desk to a desk.
+    pub fn hears_desk(&self) -> bool
+        ensures { IsTrue result ↔ HearsDesk self.now }
+    {
+        self.is_free() && self.talk.hears_desk()
     }
 
     /// Has the desk's preface sent. False: memory was refused.

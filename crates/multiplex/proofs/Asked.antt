@@ -5,11 +5,12 @@ use Rattle.std.proofs.Common.{set}
 use Rattle.std.proofs.Common.{Option, None, Some, Bool, true, false, arith, IsTrue, position, ◌<◌}
 use Rattle.std.proofs.lemmas.Bool.{eqb-false, ltb-false}
 use Rattle.std.proofs.lemmas.List.{reverse-append}
-use Rattle.std.specs.Prelude.{map}
+use Rattle.std.specs.Prelude.{map, not}
 use Rattle.polled.specs.Telling.{Tells}
-use Rattle.multiplex.specs.Musts.{Accepts, Admits, Attends, IsMove, MakesPlace}
+use Rattle.guarded.specs.Guarding.{Guarding, WantsRead}
+use Rattle.multiplex.specs.Musts.{Accepts, Admits, Attends, IsMove, IsWatched, MakesPlace}
 use Rattle.multiplex.specs.Musts.{AsksUntil, Ends, Follows, GoesOn, Musts, NoneIsSilent, Stand}
-use Rattle.multiplex.specs.Musts.{ends_of, has_more, joined, left_at, wait_by}
+use Rattle.multiplex.specs.Musts.{ends_of, joined, left_at, wait_by}
 use Rattle.multiplex.specs.Requests.{Asks, Request, Accepting, Closing, Waited, Watching}
 use Rattle.multiplex.specs.declared.clients.Accepted.TheVariants as accepted_is
 use Rattle.polled.specs.declared.answers.Ready.{Ready}
@@ -19,7 +20,7 @@ use Rattle.multiplex.specs.declared.table.Guest.{Guest}
 use Rattle.multiplex.specs.declared.table.Table.{Table}
 use Rattle.multiplex.specs.declared.table.Terms.{Terms}
 use Rattle.multiplex.specs.model.Asking.{AsksHosted, AsksMove, AsksSome, BeginsWithMove, ClosesAt}
-use Rattle.multiplex.specs.model.Asking.{IsEndsOf, MayClose}
+use Rattle.multiplex.specs.model.Asking.{IsEndsOf, IsWatchedIf, MayClose}
 use Rattle.multiplex.specs.model.Tables.{has_number, is_silent}
 use Rattle.multiplex.proofs.Placed.{all_as, nowhere}
 use Rattle.multiplex.proofs.Shutting.{at_place}
@@ -58,76 +59,122 @@ asks_some requests c between later more h k = (
 
 -- ---- a client has its turns
 
-pub begins_more : (k : ℕ) (output : List ℕ) (xs ys : List Request)
-    → AsksMove k output xs → AsksSome ys → BeginsWithMove k output (xs ++ ys)
-begins_more k output xs ys h some =
-    (h.0, h.1, (ys, ap (λ (z : List Request). z ++ ys) h.2))
+all_sent : (out : List ℕ) → (out ≢ [] → ⊥) → out ≡ []
+all_sent [] h = refl
+all_sent (x ∷ xs) h = absurd (h (λ e. let n : x ∷ xs ≡ [] = e in absurd cc))
+
+not_true : {A : Type 0} (b : Bool) → (IsTrue b ↔ A) → b ≡ false → A → ⊥
+not_true b h is at = let n : false ≡ true = sym is ∙ h.1 at in absurd cc
+
+-- it waits for its turn, with all sent
+pub moves_none : {C : Type 0} (requests : C → Option (List Request)) (c : C) (k : ℕ)
+    (talk : Guarding) (writes reads : Bool)
+    → (IsTrue writes ↔ (talk.output ≢ [])) → writes ≡ false
+    → (IsTrue reads ↔ WantsRead talk) → reads ≡ false
+    → Asks requests c c (AsksMove k talk)
+moves_none requests c k talk writes reads sends none hears deaf =
+    asks_none requests c (AsksMove k talk)
+    (inr (inr (
+      all_sent talk.output (not_true writes sends none),
+      not_true reads hears deaf,
+      refl,
+    )))
+
+pub begins_more : (k : ℕ) (c : Guarding) (xs ys : List Request)
+    → AsksMove k c xs → AsksSome ys → BeginsWithMove k c (xs ++ ys)
+begins_more k c xs ys h some = (xs, h, (ys, refl))
 
 pub begins_then : {C : Type 0} (requests : C → Option (List Request)) (c between later : C)
-    (k : ℕ) (output : List ℕ)
-    → Asks requests c between (AsksMove k output) → Asks requests between later AsksSome
-    → Asks requests c later (BeginsWithMove k output)
-begins_then requests c between later k output h j =
-    asks_both requests c between later (AsksMove k output) AsksSome (BeginsWithMove k output)
-    (begins_more k output) h j
+    (k : ℕ) (talk : Guarding)
+    → Asks requests c between (AsksMove k talk) → Asks requests between later AsksSome
+    → Asks requests c later (BeginsWithMove k talk)
+begins_then requests c between later k talk h j =
+    asks_both requests c between later (AsksMove k talk) AsksSome (BeginsWithMove k talk)
+    (begins_more k talk) h j
+
+pub begins_alone : {C : Type 0} (requests : C → Option (List Request)) (c later : C)
+    (k : ℕ) (talk : Guarding)
+    → Asks requests c later (AsksMove k talk) → Asks requests c later (BeginsWithMove k talk)
+begins_alone requests c later k talk h =
+    asks_as requests c later (AsksMove k talk) (BeginsWithMove k talk)
+    (λ xs at. (xs, at, ([], sym (append-nil xs)))) h
 
 -- nobody can be watched any more
-pub hosted_unwatched : (k : ℕ) (old new : List ℕ) (w : Why) (writes : Bool)
-    (xs ys : List Request)
-    → BeginsWithMove k old xs → ys ≡ Watching k writes false ∷ []
-    → AsksHosted k old new (Some w) (xs ++ ys)
-hosted_unwatched k old new w writes xs ys h is = record {
+pub hosted_unwatched : (k : ℕ) (old new : Guarding) (w : Why) (xs ys : List Request)
+    → BeginsWithMove k old xs → AsksHosted k old new (Some w) (xs ++ ys)
+hosted_unwatched k old new w xs ys h = record {
   first = h.0;
   move = h.1;
   more = h.2.0 ++ ys;
-  all = ap (λ (z : List Request). z ++ ys) h.2.1
-      ∙ ap (λ (z : List Request). h.0 ∷ z) (sym (append-nil (h.2.0 ++ ys)));
+  last = [];
+  watched = refl;
+  all = ap (λ (z : List Request). z ++ ys) h.2.1 ∙ append_assoc h.0 h.2.0 ys
+      ∙ ap (λ (z : List Request). h.0 ++ z) (sym (append-nil (h.2.0 ++ ys)));
 }
 
-pub hosted_watched : (k : ℕ) (old new : List ℕ) (xs ys : List Request)
-    → BeginsWithMove k old xs → ys ≡ Watching k (has_more new) true ∷ []
-    → AsksHosted k old new None (xs ++ ys)
+pub hosted_watched : (k : ℕ) (old new : Guarding) (xs ys : List Request)
+    → BeginsWithMove k old xs → IsWatched k new ys → AsksHosted k old new None (xs ++ ys)
 hosted_watched k old new xs ys h is = record {
   first = h.0;
   move = h.1;
   more = h.2.0;
-  all = ap (λ (z : List Request). z ++ ys) h.2.1
-      ∙ ap (λ (z : List Request). h.0 ∷ (h.2.0 ++ z)) is;
+  last = ys;
+  watched = is;
+  all = ap (λ (z : List Request). z ++ ys) h.2.1 ∙ append_assoc h.0 h.2.0 ys;
 }
 
-pub hosts_unwatched : {C : Type 0} (requests : C → Option (List Request)) (c between later : C)
-    (k : ℕ) (old new : List ℕ) (w : Why) (writes ok : Bool)
-    → Asks requests c between (BeginsWithMove k old)
-    → Tells (requests between) (requests later) (Watching k writes ok ∷ [])
-    → ok ≡ false
+-- its connection is to be ended, before it is watched
+pub hosts_ended : {C : Type 0} (requests : C → Option (List Request)) (c later : C)
+    (k : ℕ) (old new : Guarding) (w : Why)
+    → Asks requests c later (BeginsWithMove k old)
     → Asks requests c later (AsksHosted k old new (Some w))
-hosts_unwatched requests c between later k old new w writes ok h told refused = (
-  h.0 ++ Watching k writes ok ∷ [],
-  Tells-trans (requests c) (requests between) (requests later) h.0 (Watching k writes ok ∷ [])
-      h.1 told,
-  hosted_unwatched k old new w writes h.0 (Watching k writes ok ∷ []) h.2
-      (ap (λ b. Watching k writes b ∷ []) refused),
+hosts_ended requests c later k old new w h =
+    asks_as requests c later (BeginsWithMove k old) (AsksHosted k old new (Some w))
+    (λ xs at. record {
+      first = at.0;
+      move = at.1;
+      more = at.2.0;
+      last = [];
+      watched = refl;
+      all = at.2.1 ∙ ap (λ (z : List Request). at.0 ++ z) (sym (append-nil at.2.0));
+    }) h
+
+pub hosts_unwatched : {C : Type 0} (requests : C → Option (List Request)) (c between later : C)
+    (k : ℕ) (old new : Guarding) (w : Why) (more : List Request)
+    → Asks requests c between (BeginsWithMove k old)
+    → Tells (requests between) (requests later) more
+    → Asks requests c later (AsksHosted k old new (Some w))
+hosts_unwatched requests c between later k old new w more h told = (
+  h.0 ++ more,
+  Tells-trans (requests c) (requests between) (requests later) h.0 more h.1 told,
+  hosted_unwatched k old new w h.0 more h.2,
 )
 
-pub has_more_is : (output : List ℕ) (b : Bool) → (IsTrue b ↔ (output ≢ [])) → b ≡ has_more output
-has_more_is [] true h = absurd (h.0 refl refl)
-has_more_is [] false h = refl
-has_more_is (x ∷ xs) true h = refl
-has_more_is (x ∷ xs) false h = h.1 (λ e. absurd cc)
+-- it is watched for reads where it is to be read from, and only there
+watched_as : (k : ℕ) (c : Guarding) (reads writes ok : Bool) → (IsTrue reads ↔ WantsRead c)
+    → writes ≡ not reads → ok ≡ true → IsWatched k c (Watching k writes ok ∷ [])
+watched_as k c reads writes ok h is accepted = (
+  writes,
+  (λ none. h.0 (read_if reads (sym is ∙ none)), λ wants. is ∙ ap not (h.1 wants)),
+  ap (λ b. Watching k writes b ∷ []) accepted,
+)
+  where
+    read_if : (b : Bool) → not b ≡ false → b ≡ true
+    read_if true n = refl
+    read_if false n = absurd cc
 
 pub hosts_watched : {C : Type 0} (requests : C → Option (List Request)) (c between later : C)
-    (k : ℕ) (old new : List ℕ) (writes ok : Bool)
+    (k : ℕ) (old new : Guarding) (reads writes ok : Bool)
     → Asks requests c between (BeginsWithMove k old)
     → Tells (requests between) (requests later) (Watching k writes ok ∷ [])
-    → (IsTrue writes ↔ (new ≢ [])) → ok ≡ true
+    → (IsTrue reads ↔ WantsRead new) → writes ≡ not reads → ok ≡ true
     → Asks requests c later (AsksHosted k old new None)
-hosts_watched requests c between later k old new writes ok h told waits accepted = (
+hosts_watched requests c between later k old new reads writes ok h told waits is accepted = (
   h.0 ++ Watching k writes ok ∷ [],
   Tells-trans (requests c) (requests between) (requests later) h.0 (Watching k writes ok ∷ [])
       h.1 told,
   hosted_watched k old new h.0 (Watching k writes ok ∷ []) h.2
-      (ap (λ b. Watching k writes b ∷ []) accepted
-      ∙ ap (λ b. Watching k b true ∷ []) (has_more_is new writes waits)),
+      (watched_as k new reads writes ok waits is accepted),
 )
 
 -- ---- a client is named
@@ -141,15 +188,15 @@ attends_nobody k guests none =
       refl,
     )
 
-moves_as : (j k : ℕ) (output : List ℕ) (asked : Request) → j ≡ k → IsMove j output asked
-    → IsMove k output asked
-moves_as j k output asked is h = subst (λ n. IsMove n output asked) is h
+moves_as : (j k : ℕ) (c : Guarding) (asked : List Request) → j ≡ k → IsMove j c asked
+    → IsMove k c asked
+moves_as j k c asked is h = subst (λ n. IsMove n c asked) is h
 
 pub attends_stay : (k place : ℕ) (table : Table) (new : List Guest) (old later : Guest)
     (before after : List Guest) (asked : List Request)
     → About table place old later before after → old.number ≡ k
     → new ≡ set table.guests.items place later
-    → AsksHosted old.number old.talk.output later.talk.output None asked
+    → AsksHosted old.number old.talk later.talk None asked
     → Attends k table.guests.items new asked
 attends_stay k place table new old later before after asked split number is h =
     inr
@@ -160,14 +207,17 @@ attends_stay k place table new old later before after asked split number is h =
       found = split.found;
       number = number;
       first = h.first;
-      move = moves_as old.number k old.talk.output h.first number h.move;
+      move = moves_as old.number k old.talk h.first number h.move;
       more = h.more;
-      last = Watching k (has_more later.talk.output) true ∷ [];
-      end = inl (record { later = later; stays = is ∙ split.put; watched = refl });
-      all =
-          subst
-          (λ n. asked ≡ h.first ∷ (h.more ++ Watching n (has_more later.talk.output) true ∷ []))
-          number h.all;
+      last = h.last;
+      end =
+          inl
+          (record {
+            later = later;
+            stays = is ∙ split.put;
+            watched = subst (λ n. IsWatched n later.talk h.last) number h.watched;
+          });
+      all = h.all;
     })
 
 pub attends_leave : (k place : ℕ) (w : Why) (table mid : Table) (new : List Guest)
@@ -175,7 +225,7 @@ pub attends_leave : (k place : ℕ) (w : Why) (table mid : Table) (new : List Gu
     → About table place old later before after → old.number ≡ k → later.number ≡ old.number
     → mid.guests.items ≡ set table.guests.items place later
     → new ≡ before ++ after
-    → AsksHosted old.number old.talk.output later.talk.output (Some w) xs
+    → AsksHosted old.number old.talk later.talk (Some w) xs
     → ClosesAt place mid.guests.items ys
     → Attends k table.guests.items new (xs ++ ys)
 attends_leave k place w table mid new old later before after xs ys split number same is left h
@@ -193,13 +243,14 @@ attends_leave k place w table mid new old later before after xs ys split number 
       found = split.found;
       number = number;
       first = h.first;
-      move = moves_as old.number k old.talk.output h.first number h.move;
-      more = h.more ++ [];
+      move = moves_as old.number k old.talk h.first number h.move;
+      more = h.more ++ h.last;
       last = Closing k ∷ [];
       end = inr (record { leaves = left; closed = refl });
       all =
           ap (λ (z : List Request). z ++ ys) h.all
-          ∙ ap (λ (z : List Request). h.first ∷ ((h.more ++ []) ++ z))
+          ∙ append_assoc h.first (h.more ++ h.last) ys
+          ∙ ap (λ (z : List Request). h.first ++ ((h.more ++ h.last) ++ z))
           (shut.all ∙ ap (λ n. Closing n ∷ []) closed);
     })
 

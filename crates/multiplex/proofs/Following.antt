@@ -198,9 +198,10 @@ after_change home t before frames guards (Comes k random) a b seen outside h s e
     let l = a.lobby in
     let new = fresh_guard t.doors random home t.wire in
     let left : b.lobby
-    ≡ lobby (l.guests ++ guest l.next new l.time ∷ []) (l.next + 1) l.time l.own None
+    ≡ lobby (l.guests ++ guest l.next new l.time ∷ []) (l.next + 1) l.time l.own l.spent None
     = subst
-    (λ n. b.lobby ≡ lobby (l.guests ++ guest n new l.time ∷ []) (l.next + 1) l.time l.own None)
+    (λ n.
+    b.lobby ≡ lobby (l.guests ++ guest n new l.time ∷ []) (l.next + 1) l.time l.own l.spent None)
     h.number h.enters in
     arrived home t before frames a b (told_change (Comes k random)) (put k new guards) seen outside
     (subst

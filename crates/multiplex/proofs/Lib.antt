@@ -14,3 +14,4 @@ pub mod Periods
 pub mod Visits
 pub mod Asked
 pub mod Coming
+pub mod Sharing

@@ -1,18 +1,18 @@
 -- Changes of which the node knows nothing, one after the other.
 use Rattle.std.proofs.Common.{◌≡◌, ◌⊎◌, inl, inr, refl, sym, ap, subst, ◌∙◌, ℕ, ◌+◌, ◌<◌, ◌≤◌}
 use Rattle.std.proofs.Common.{List, [], ◌∷◌, ◌++◌, append-nil, length, length-append, Option, None}
-use Rattle.std.proofs.Common.{Some, arith, get_or, true, ◌-◌, position}
+use Rattle.std.proofs.Common.{Some, arith, get_or, true, ◌-◌, position, Bool}
 use Rattle.std.proofs.lemmas.Bool.{ltb-true}
 use Rattle.std.proofs.lemmas.List.Quantifiers.{position-Some}
 use Rattle.store.specs.declared.home.Home.{Home}
 use Rattle.wire.specs.declared.values.Version.{Version}
 use Rattle.guarded.specs.Guarding.{fresh_guard}
-use Rattle.sealed.specs.declared.callers.Doors.{Doors}
 use Rattle.std.specs.List.{AllByRecursion}
 use Rattle.polled.specs.Telling.{Tells}
 use Rattle.multiplex.specs.Happenings.{Happened, Came, Closed, Full}
 use Rattle.multiplex.specs.Passing.{Change, Changes, Comes, Lobby, NoSocket, Shut, TurnedAway}
-use Rattle.multiplex.specs.Passing.{Enters, IsCause, Settled, guest, lobby, told_change}
+use Rattle.multiplex.specs.Passing.{Enters, IsCause, guest, lobby, told_change}
+use Rattle.multiplex.specs.declared.dear.DearTurns.{DearTurns}
 use Rattle.multiplex.specs.declared.ends.Over.{Over}
 use Rattle.multiplex.specs.declared.ends.Why.{Why}
 use Rattle.multiplex.specs.declared.ends.Why.TheVariants as why
@@ -29,9 +29,14 @@ use Rattle.multiplex.proofs.Placed.{all_back, all_both, all_front}
 use Rattle.polled.proofs.Telling.{Tells-as, Tells-trans}
 use Rattle.multiplex.proofs.Telling.{changes_told_both}
 
-pub lobby_same : {gs hs : List Guest} {n m s t : ℕ} {w v : OwnTicks} {o p : Option Over}
-    → gs ≡ hs → n ≡ m → s ≡ t → w ≡ v → o ≡ p → lobby gs n s w o ≡ lobby hs m t v p
-lobby_same g n s w o = cc
+pub lobby_same : {gs hs : List Guest} {n m s t : ℕ} {w v : OwnTicks} {x y : Bool}
+    {o p : Option Over}
+    → gs ≡ hs → n ≡ m → s ≡ t → w ≡ v → x ≡ y → o ≡ p
+    → lobby gs n s w x o ≡ lobby hs m t v y p
+lobby_same g n s w x o = cc
+
+pub spent_same : (a b : DearTurns) → a ≡ b → a.spent ≡ b.spent
+spent_same a b is = ap (λ (d : DearTurns). d.spent) is
 
 pub ChangeAll-trans : (home : Home) (t : Terms) (a m b : Lobby) (cs ds : List Change)
     → ChangeAll home t a cs m → ChangeAll home t m ds b → ChangeAll home t a (cs ++ ds) b
@@ -98,7 +103,8 @@ shuts_one happened home t w over old new c later before after gone cause h = (
           found = h.found;
           number = refl;
           cause = cause;
-          left = lobby_same h.left h.next h.time h.own h.ends;
+          left =
+              lobby_same h.left h.next h.time h.own (spent_same new.dear old.dear h.dear) h.ends;
         },
       ),
       refl,
@@ -136,21 +142,6 @@ keeps_both home wire old mid new h k kept = k (h kept)
 
 -- ---- a client comes
 
-settled_new : (doors : Doors) (random : List ℕ) (home : Home) (wire : Version)
-    → Settled (fresh_guard doors random home wire)
-settled_new doors random home wire =
-    inr
-    (record {
-      fed = refl;
-      taken = refl;
-      hears = refl;
-      served = record {
-        free = record { unended = refl; taken = refl };
-        served = refl;
-        unbroken = refl;
-      };
-    })
-
 pub welcome_keeps : {C : Type 0} (happened : C → Option (List Happened)) (home : Home)
     (t : Terms) (random : List ℕ) (old new : Table) (c later : C)
     → Welcomes happened home t random old new c later → KeepsKept home t.wire old new
@@ -167,7 +158,7 @@ welcome_keeps happened home t random old new c later h kept = either h.either
     either (inl k) =
         subst (λ z. AreKept home t.wire z) (sym k.0)
         (all_both (IsKept home t.wire) old.guests.items _ kept (
-          record { home = refl; wire = refl; settled = settled_new t.doors random home t.wire },
+          record { home = refl; wire = refl },
           tt,
         ))
     either (inr k) = subst (λ z. AreKept home t.wire z) (sym k.0) kept
@@ -187,7 +178,7 @@ enters happened home t random old new c between later wanted room told h = eithe
       number = refl;
       wanted = wanted;
       room = room;
-      enters = lobby_same is h.next h.time h.own refl;
+      enters = lobby_same is h.next h.time h.own (spent_same new.dear old.dear h.dear) refl;
     }
 
     either :
@@ -282,11 +273,11 @@ shut_fewer happened place over old new c later h =
 pub empties_more : {C : Type 0} (happened : C → Option (List Happened)) (home : Home) (t : Terms)
     (over : Over) (old mid new : Table) (gone : Guest) (c between later : C)
     → mid.guests.items ≡ new.guests.items ++ gone ∷ [] → new.next ≡ mid.next
-    → new.time ≡ mid.time → new.own ≡ mid.own
+    → new.time ≡ mid.time → new.own ≡ mid.own → new.dear ≡ mid.dear
     → Empties happened home t over old mid c between
     → Tells (happened between) (happened later) (Closed gone.number ∷ [])
     → Empties happened home t over old new c later
-empties_more happened home t over old mid new gone c between later last next time own h
+empties_more happened home t over old mid new gone c between later last next time own dear h
     told = (
       h.0 ++ Shut gone.number why.Over ∷ [],
       ChangeAll-trans home t (lobby_of old (Some over)) (lobby_of mid (Some over))
@@ -300,7 +291,9 @@ empties_more happened home t over old mid new gone c between later last next tim
                 found = last;
                 number = refl;
                 cause = λ e. some_none e;
-                left = lobby_same (sym (append-nil new.guests.items)) next time own refl;
+                left =
+                    lobby_same (sym (append-nil new.guests.items)) next time own
+                    (spent_same new.dear mid.dear dear) refl;
               },
             ),
             refl,
@@ -316,12 +309,13 @@ empties_more happened home t over old mid new gone c between later last next tim
 pub empties_same : {C : Type 0} (happened : C → Option (List Happened)) (home : Home) (t : Terms)
     (over : Over) (old mid new : Table) (c later : C)
     → mid.guests.items ≡ new.guests.items ++ [] → new.next ≡ mid.next → new.time ≡ mid.time
-    → new.own ≡ mid.own
+    → new.own ≡ mid.own → new.dear ≡ mid.dear
     → Empties happened home t over old mid c later
     → Empties happened home t over old new c later
-empties_same happened home t over old mid new c later items next time own h = (
+empties_same happened home t over old mid new c later items next time own dear h = (
   h.0,
   subst (λ l. ChangeAll home t (lobby_of old (Some over)) h.0 l)
-      (sym (lobby_same (sym (items ∙ append-nil new.guests.items)) next time own refl)) h.1,
+      (sym (lobby_same (sym (items ∙ append-nil new.guests.items)) next time own
+      (spent_same new.dear mid.dear dear) refl)) h.1,
   h.2,
 )

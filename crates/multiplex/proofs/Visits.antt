@@ -15,8 +15,9 @@ use Rattle.store.specs.declared.home.Home.{Home}
 use Rattle.wire.specs.declared.values.Version.{Version}
 use Rattle.polled.specs.Telling.{Tells}
 use Rattle.multiplex.specs.Happenings.{Happened, Closed}
-use Rattle.multiplex.specs.Passing.{Changed, Lobby, Stray, Takes, Visit, lobby}
+use Rattle.multiplex.specs.Passing.{Changed, IsLeft, Lobby, Shares, Stray, Takes, Visit, lobby}
 use Rattle.multiplex.specs.Passing.{over_after, over_by, staying, told_turns, told_why}
+use Rattle.multiplex.specs.declared.dear.DearTurns.{DearTurns}
 use Rattle.multiplex.specs.declared.ends.Over.{Over}
 use Rattle.multiplex.specs.declared.ends.Why.{Why}
 use Rattle.multiplex.specs.declared.table.Guest.{Guest}
@@ -29,7 +30,7 @@ use Rattle.multiplex.specs.Scenes.{scene}
 use Rattle.multiplex.specs.model.Tables.{AreKept, IsKept, has_number}
 use Rattle.multiplex.specs.model.Visiting.{place_at}
 use Rattle.multiplex.proofs.Placed.{all_as, all_back, all_both, all_front, nowhere, split_at}
-use Rattle.multiplex.proofs.Shutting.{all_but, lobby_same}
+use Rattle.multiplex.proofs.Shutting.{all_but, lobby_same, spent_same}
 use Rattle.polled.proofs.Telling.{Tells-as, Tells-nil, Tells-trans}
 
 -- ---- nobody has the number
@@ -98,13 +99,13 @@ pub visiting : {V U C : Type 0} (d : DeskOf V) (p : PeersOf U)
     (table : Table) (old new : Guest) (before after : List Guest) (left : Lobby)
     (a m : Scene V U C)
     → table.guests.items ≡ before ++ old ∷ after → old.number ≡ k → old.talk.talk.wire ≡ t.wire
-    → Hosts d p happened table.time fate old new a m
+    → Hosts d p happened table.time fate table.dear.spent left.spent old new a m
     → left
-    ≡ lobby (before ++ (staying fate new ++ after)) table.next table.time table.own
+    ≡ lobby (before ++ (staying fate new ++ after)) table.next table.time table.own left.spent
     (over_after fate new.talk)
     → Visiting d p happened home t k fate table left a m
 visiting d p happened home t k fate table old new before after left a m found number wire h is =
-    let goes = h.1.0 in (
+    let goes = h.1.1 in (
       goes.0,
       (
         before,
@@ -120,9 +121,18 @@ visiting d p happened home t k fate table old new before after left a m found nu
               (λ w. Follow (place_at d p w (at_guest a old)) goes.0
               (place_at d p w (at_guest m new))) wire goes.1.follow;
           once = goes.1.few;
+          shares =
+              record {
+                messages = h.1.2.messages;
+                last = h.1.2.last;
+                all = goes.1.begins ∙ h.1.2.all;
+                heard = h.1.2.heard;
+                shares = h.1.2.shares;
+              };
+          served = h.1.3;
           same = h.0.number ∙ number;
           ready = h.0.ready;
-          stands = h.1.1;
+          stands = h.1.4;
           left = is;
         },
       ),
@@ -138,13 +148,13 @@ pub answers_stay : {V U C : Type 0} (d : DeskOf V) (p : PeersOf U)
     → About table place old new before after → old.number ≡ k → old.talk.talk.wire ≡ t.wire
     → changed.guests.items ≡ set table.guests.items place new → changed.next ≡ table.next
     → changed.time ≡ table.time → changed.own ≡ table.own
-    → Hosts d p happened table.time None old new a m
+    → Hosts d p happened table.time None table.dear.spent changed.dear.spent old new a m
     → Answers d p happened home t k None table changed a m
 answers_stay d p happened home t k place table changed old new before after a m split number wire
     items next time own h =
     let v =
     visiting d p happened home t k None table old new before after (lobby_of changed None) a m
-    split.found number wire h (lobby_same (items ∙ split.put) next time own refl) in
+    split.found number wire h (lobby_same (items ∙ split.put) next time own refl refl) in
     (Visit k v.0 None, told_turns k v.0 ++ [], refl, v.1, v.2)
 
 pub stay_keeps : {V U C : Type 0} (d : DeskOf V) (p : PeersOf U)
@@ -152,7 +162,7 @@ pub stay_keeps : {V U C : Type 0} (d : DeskOf V) (p : PeersOf U)
     (table changed : Table) (old new : Guest) (before after : List Guest) (a m : Scene V U C)
     → About table place old new before after
     → changed.guests.items ≡ set table.guests.items place new
-    → Hosts d p happened table.time None old new a m
+    → Hosts d p happened table.time None table.dear.spent changed.dear.spent old new a m
     → AreKept home wire table.guests.items → AreKept home wire changed.guests.items
 stay_keeps d p happened home wire place table changed old new before after a m split items h kept =
     let all = subst (λ z. AreKept home wire z) split.found kept in
@@ -161,9 +171,8 @@ stay_keeps d p happened home wire place table changed old new before after a m s
     (all_both (IsKept home wire) before (new ∷ after)
     (all_front (IsKept home wire) before (old ∷ after) all) (
       record {
-        home = h.1.0.1.home ∙ here.0.home;
-        wire = h.1.0.1.wire ∙ here.0.wire;
-        settled = h.1.1;
+        home = h.1.1.1.home ∙ here.0.home;
+        wire = h.1.1.1.wire ∙ here.0.wire;
       },
       here.1,
     ))
@@ -192,10 +201,11 @@ split_same (z ∷ b) (w ∷ c) x y r s h l =
 
 -- the connection at the place was ended behind the turns
 pub record Leaving {C : Type 0} (happened : C → Option (List Happened)) (over : Option Over)
-    (table changed : Table) (k : ℕ) (new : Guest) (before after : List Guest) (c later : C)
+    (table mid changed : Table) (k : ℕ) (new : Guest) (before after : List Guest) (c later : C)
     : Type 0 where
   pub left : lobby_of changed over
-      ≡ lobby (before ++ after) table.next table.time table.own (over_by new.talk.talk.end)
+      ≡ lobby (before ++ after) table.next table.time table.own mid.dear.spent
+      (over_by new.talk.talk.end)
   pub told : Tells (happened c) (happened later) (Closed k ∷ [])
 
 pub leaving : {C : Type 0} (happened : C → Option (List Happened)) (place : ℕ)
@@ -205,7 +215,7 @@ pub leaving : {C : Type 0} (happened : C → Option (List Happened)) (place : �
     → mid.guests.items ≡ set table.guests.items place new → mid.next ≡ table.next
     → mid.time ≡ table.time → mid.own ≡ table.own
     → IsShut happened place over mid changed c later
-    → Leaving happened over table changed new.number new before after c later
+    → Leaving happened over table mid changed new.number new before after c later
 leaving happened place over table mid changed old new before after c later split items next time own
     h =
     let same =
@@ -216,6 +226,7 @@ leaving happened place over table mid changed old new before after c later split
           lobby_same
           (h.4.left ∙ ap (λ z. z ++ h.1) same.fronts ∙ ap (λ z. before ++ z) same.backs)
           (h.4.next ∙ next) (h.4.time ∙ time) (h.4.own ∙ own)
+          (spent_same changed.dear mid.dear h.4.dear)
           (h.4.ends ∙ ap (λ (z : Guest). over_by z.talk.talk.end) same.here);
       told =
           subst (λ (z : Guest). Tells (happened c) (happened later) (Closed z.number ∷ []))
@@ -229,7 +240,8 @@ pub answers_leave : {V U C : Type 0} (d : DeskOf V) (p : PeersOf U)
     → About table place old new before after → old.number ≡ k → old.talk.talk.wire ≡ t.wire
     → mid.guests.items ≡ set table.guests.items place new → mid.next ≡ table.next
     → mid.time ≡ table.time → mid.own ≡ table.own
-    → Hosts d p happened table.time (Some w) old new a (scene node peers c)
+    → Hosts d p happened table.time (Some w) table.dear.spent mid.dear.spent old new a
+    (scene node peers c)
     → IsShut happened place over mid changed c later
     → Answers d p happened home t k over table changed a (scene node peers later)
 answers_leave d p happened home t k w place over table mid changed old new before after a node
@@ -237,9 +249,15 @@ answers_leave d p happened home t k w place over table mid changed old new befor
     let gone =
     leaving happened place over table mid changed old new before after c later split items next
     time own shut in
+    let same : changed.dear.spent ≡ mid.dear.spent =
+    ap (λ (l : Lobby). l.spent) gone.left in
     let v =
     visiting d p happened home t k (Some w) table old new before after (lobby_of changed over)
-    a (scene node peers c) split.found number wire h gone.left in
+    a (scene node peers c) split.found number wire
+    (subst (λ s. Hosts d p happened table.time (Some w) table.dear.spent s old new a
+    (scene node peers c)) (sym same) h)
+    (gone.left
+    ∙ lobby_same refl refl refl refl (sym same) refl) in
     let closed =
     subst (λ n. Tells (happened c) (happened later) (Closed n ∷ [])) (h.0.number ∙ number)
     gone.told in (
@@ -318,11 +336,12 @@ met home wire k table place old new found is kept =
     }
 
 -- the table with the client behind its turns
-abbrev pub turned : Table → ℕ → Guest → Table
-turned table place new =
+abbrev pub turned : Table → ℕ → Guest → DearTurns → Table
+turned table place new dear =
     record {
       guests = with_item table.guests place new;
       next = table.next;
       time = table.time;
       own = table.own;
+      dear = dear;
     }

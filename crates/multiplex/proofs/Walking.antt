@@ -1,6 +1,7 @@
 -- The turns of one connection, one after the other.
 use Rattle.std.proofs.Common.{◌≡◌, ◌≢◌, inl, inr, refl, sym, ap, subst, ◌∙◌, ℕ, ◌+◌, Bool, true}
-use Rattle.std.proofs.Common.{arith, ◌<◌}
+use Rattle.std.proofs.Common.{arith, ◌<◌, suc, ◌↔◌, ◌||◌, if◌then◌else◌}
+use Rattle.std.specs.Prelude.{IsTrue, not}
 use Rattle.std.proofs.Common.{false, List, [], ◌∷◌, ◌++◌, append-nil, append_assoc, length, Option}
 use Rattle.std.proofs.Common.{None, Some}
 use Rattle.answers.specs.declared.desk.Desk.{Ghosts as DeskOf}
@@ -10,17 +11,26 @@ use Rattle.serving.specs.Making.{Way}
 use Rattle.serving.specs.Sessions.{outside}
 use Rattle.serving.specs.Turns.{Talk, broken_by, ended}
 use Rattle.serving.specs.Turns as Turns
-use Rattle.serving.specs.TurnLaw.{Came as CameIn, Began, Rested, Took as TookOf, Turn}
-use Rattle.guarded.specs.Guarding.{Advances, Answers, Guarding, IsDone, IsFree, Receives, Rests}
+use Rattle.serving.specs.Connection.{Begun}
+use Rattle.serving.specs.Kinds.{dear_next, is_dear, message_next}
+use Rattle.serving.specs.TurnLaw.{Came as CameIn, Began, Rested, Took as TookOf, Turn, begun_in}
+use Rattle.guarded.specs.Guarding.{Advances, Answers, Guarding, HearsDesk, IsDear, IsDone, IsFree}
+use Rattle.guarded.specs.Guarding.{Receives, Rests}
 use Rattle.guarded.specs.Guarding.{WantsRead, after_sent, moment}
 use Rattle.guarded.specs.GuardTurns.{Follow, Place}
 use Rattle.wire.specs.declared.fault.WireFault.{WireFault}
+use Rattle.wire.specs.declared.frame.Frame.{Frame}
 use Rattle.polled.specs.Telling.{Tells}
 use Rattle.multiplex.specs.Happenings.{Happened, Gave, Took}
-use Rattle.multiplex.specs.Passing.{IsFate, Settled, pieces, told_turns, told_why}
+use Rattle.multiplex.specs.Passing.{AreMessages, IsFate, IsLeft, Settled, Shares, SharesLast}
+use Rattle.multiplex.specs.Passing.{SharesOne, pieces, told_turns, told_why}
 use Rattle.multiplex.specs.declared.ends.Why.{Why}
 use Rattle.multiplex.specs.declared.ends.Why.TheVariants as why
-use Rattle.multiplex.specs.model.Visiting.{Goes, Moves, Reads, Sends, SettledOrDone, Spot}
+use Rattle.multiplex.specs.Dear.{answered, asked, is_next, put_off}
+use Rattle.multiplex.specs.declared.dear.DearTurns.{DearTurns}
+use Rattle.multiplex.specs.model.Visiting.{Goes, HearsDesks, IsLeftOrDone, MayBegin, Moves, Reads}
+use Rattle.multiplex.specs.model.Visiting.{Sends, ServesNext, ServesOne, SettledOrDone, Spot}
+use Rattle.multiplex.specs.model.Visiting.{TalksOn}
 use Rattle.multiplex.specs.model.Visiting.{broken}
 use Rattle.multiplex.specs.model.Visiting.{place_at, spot}
 use Rattle.polled.proofs.Telling.{Tells-as, Tells-nil, Tells-trans}
@@ -45,16 +55,26 @@ pieces_both (Began one ∷ ts) us = pieces_both ts us
 pieces_both (Rested ∷ ts) us = pieces_both ts us
 pieces_both (TookOf bytes ∷ ts) us = pieces_both ts us
 
+begun_both : (ts us : List Turn) → begun_in (ts ++ us) ≡ begun_in ts ++ begun_in us
+begun_both [] us = refl
+begun_both (CameIn piece ∷ ts) us = begun_both ts us
+begun_both (Began one ∷ ts) us = ap (λ z. one ∷ z) (begun_both ts us)
+begun_both (Rested ∷ ts) us = begun_both ts us
+begun_both (TookOf bytes ∷ ts) us = begun_both ts us
+
 pub goes_both : {V U C : Type 0} (d : DeskOf V) (p : PeersOf U)
     (happened : C → Option (List Happened)) (k : ℕ) (cause : Option Why)
-    (n q : ℕ)
+    (n q : ℕ) (xs ys : List Begun)
     (a m b : Spot V U C)
-    → Goes d p happened k None n a m → Goes d p happened k cause q m b
-    → Goes d p happened k cause (n + q) a b
-goes_both d p happened k cause n q a m b h g = (
+    → Goes d p happened k None n xs a m → Goes d p happened k cause q ys m b
+    → Goes d p happened k cause (n + q) (xs ++ ys) a b
+goes_both d p happened k cause n q xs ys a m b h g = (
   h.0 ++ g.0,
   record {
     few = omega (arith, pieces_both h.0 g.0, h.1.few, g.1.few);
+    begins =
+        begun_both h.0 g.0 ∙ ap (λ z. z ++ begun_in g.0) h.1.begins
+        ∙ ap (λ z. xs ++ z) g.1.begins;
     follow =
         Follow-trans (place_at d p a.talk.talk.wire a) (place_at d p a.talk.talk.wire m)
         (place_at d p a.talk.talk.wire b) h.0 g.0 h.1.follow
@@ -71,12 +91,14 @@ goes_both d p happened k cause n q a m b h g = (
 
 -- that all is done is not told
 pub goes_done : {V U C : Type 0} (d : DeskOf V) (p : PeersOf U)
-    (happened : C → Option (List Happened)) (k : ℕ) (most : ℕ) (a b : Spot V U C)
-    → Goes d p happened k None most a b → Goes d p happened k (Some why.Done) most a b
-goes_done d p happened k most a b h = (
+    (happened : C → Option (List Happened)) (k : ℕ) (most : ℕ) (begun : List Begun)
+    (a b : Spot V U C)
+    → Goes d p happened k None most begun a b → Goes d p happened k (Some why.Done) most begun a b
+goes_done d p happened k most begun a b h = (
   h.0,
   record {
     few = h.1.few;
+    begins = h.1.begins;
     follow = h.1.follow;
     told = h.1.told;
     home = h.1.home;
@@ -90,14 +112,15 @@ pub no_turn : {V U C : Type 0} (d : DeskOf V) (p : PeersOf U)
     (most : ℕ) (node : V)
     (peers : U) (c later : C) (old new : Guarding)
     → new ≡ old → Tells (happened c) (happened later) (told_why k cause)
-    → Goes d p happened k cause most (spot node peers c old) (spot node peers later new)
+    → Goes d p happened k cause most [] (spot node peers c old) (spot node peers later new)
 no_turn d p happened k cause most node peers c later old new is told =
     subst
-    (λ t. Goes d p happened k cause most (spot node peers c old) (spot node peers later t))
+    (λ t. Goes d p happened k cause most [] (spot node peers c old) (spot node peers later t))
     (sym is) (
       [],
       record {
         few = omega arith;
+        begins = refl;
         follow = refl;
         told = told;
         home = refl;
@@ -111,11 +134,12 @@ pub took : {V U C : Type 0} (d : DeskOf V) (p : PeersOf U)
     (old new : Guarding) (bytes : List ℕ)
     → old.output ≡ bytes ++ new.output → new ≡ after_sent old (length bytes)
     → Tells (happened c) (happened later) (Took k bytes ∷ [])
-    → Goes d p happened k None most (spot node peers c old) (spot node peers later new)
+    → Goes d p happened k None most [] (spot node peers c old) (spot node peers later new)
 took d p happened k most node peers c later old new bytes parts is told = (
   TookOf bytes ∷ [],
   record {
     few = omega arith;
+    begins = refl;
     follow =
         (_, (parts, is, record { seen = refl; outside = refl }), refl);
     told = told;
@@ -141,6 +165,11 @@ after_piece : (piece : List ℕ) (old new : Guarding) → Receives piece old new
 after_piece piece old new (inl h) = same_talk old.talk new.talk h.talk
 after_piece piece old new (inr h) = record { home = h.1.talk.0.home; wire = h.1.talk.0.wire }
 
+after_waits : (served : Talk) (old new : Guarding) → Answers served old new
+    → new.talk.waiting ≡ served.waiting
+after_waits served old new (inl h) = ap (λ (t : Talk). t.waiting) h.talk
+after_waits served old new (inr h) = ap (λ (t : Talk). t.waiting) h.talk
+
 after_answer : (served : Talk) (old new : Guarding) → Answers served old new
     → IsSameDesks served new.talk
 after_answer served old new (inl h) = same_talk served new.talk h.talk
@@ -155,11 +184,12 @@ pub came : {V U C : Type 0} (d : DeskOf V) (p : PeersOf U)
     (old new : Guarding) (piece : List ℕ)
     → WantsRead old → Receives piece old new
     → Tells (happened c) (happened later) (Gave k piece ∷ [])
-    → Goes d p happened k None 1 (spot node peers c old) (spot node peers later new)
+    → Goes d p happened k None 1 [] (spot node peers c old) (spot node peers later new)
 came d p happened k node peers c later old new piece wants reads told = (
   CameIn piece ∷ [],
   record {
     few = omega arith;
+    begins = refl;
     follow =
         (_, (wants, reads, record { seen = refl; outside = refl }), refl);
     told = told;
@@ -175,16 +205,25 @@ same_home old new (inr h) = record {
   wire = ap (λ (t : Talk). t.wire) h.talk.ends;
 }
 
+-- the frame that is begun, if one is
+abbrev pub begun_by : {V U : Type 0} (d : DeskOf V) (p : PeersOf U) (went : Bool) (node next : V)
+    (peers more : U) (old new : Guarding)
+    → Advances d p went (moment node peers old) (moment next more new) → List Begun
+begun_by d p true node next peers more old new h = h.2.0 ∷ []
+begun_by d p false node next peers more old new h = []
+
 pub advanced : {V U C : Type 0} (d : DeskOf V) (p : PeersOf U)
     (happened : C → Option (List Happened)) (k : ℕ) (most : ℕ) (went : Bool)
     (node next : V)
     (peers more : U) (c : C) (old new : Guarding)
-    → Advances d p went (moment node peers old) (moment next more new)
-    → Goes d p happened k None most (spot node peers c old) (spot next more c new)
+    → (h : Advances d p went (moment node peers old) (moment next more new))
+    → Goes d p happened k None most (begun_by d p went node next peers more old new h)
+    (spot node peers c old) (spot next more c new)
 advanced d p happened k most true node next peers more c old new h = (
   Began h.2.0 ∷ [],
   record {
     few = omega arith;
+    begins = refl;
     follow = (_, (h.0, h.1, (h.2.1, h.2.2), h.2.3, h.3), refl);
     told = Tells-nil (happened c);
     home = (after_answer h.1 old new h.3).home ∙ h.2.1.home;
@@ -195,6 +234,7 @@ advanced d p happened k most false node next peers more c old new h = (
   Rested ∷ [],
   record {
     few = omega arith;
+    begins = refl;
     follow = (
       _,
       (
@@ -214,19 +254,46 @@ advanced d p happened k most false node next peers more c old new h = (
   },
 )
 
--- a frame that is begun waits no more
-still_wait : (served : Talk) (old new : Guarding) → Answers served old new
-    → new.talk.waiting ≡ served.waiting
-still_wait served old new (inl h) = ap (λ (t : Talk). t.waiting) h.talk
-still_wait served old new (inr h) = ap (λ (t : Talk). t.waiting) h.talk
+-- ---- one frame at most
 
-pub fewer_wait : {V U : Type 0} (d : DeskOf V) (p : PeersOf U) (node next : V) (peers more : U)
-    (old new : Guarding) → Advances d p true (moment node peers old) (moment next more new)
-    → length new.talk.waiting < length old.talk.waiting
-fewer_wait d p node next peers more old new h =
-    let same = ap length (still_wait h.1 old new h.3) in
-    let one = ap length h.2.1.next in
-    omega (arith, same, one)
+-- a frame that is begun is the one that was asked about
+is_asked : {V U : Type 0} (d : DeskOf V) (p : PeersOf U) (node next : V) (peers more : U)
+    (old new : Guarding) (h : Advances d p true (moment node peers old) (moment next more new))
+    → is_dear h.2.0.frame.what ≡ true → IsDear old
+is_asked d p node next peers more old new h is =
+    record { free = h.0; next = ap dear_next h.2.1.next ∙ is }
+
+-- where one is asked about, it is begun
+is_begun : (old new : Guarding) → IsDear old → Rests old new → ⊥
+is_begun old new dear (inl h) = h.0 dear.free
+is_begun old new dear (inr h) =
+    let n : false ≡ true = sym (ap dear_next h.talk.served) ∙ dear.next in absurd cc
+
+-- a frame was begun, or none, that asks for nothing dear
+pub shares_cheap : {V U : Type 0} (d : DeskOf V) (p : PeersOf U) (went : Bool) (node next : V)
+    (peers more : U) (old new : Guarding) (spent : Bool)
+    (h : Advances d p went (moment node peers old) (moment next more new))
+    → (IsDear old → ⊥)
+    → SharesLast (begun_by d p went node next peers more old new h) spent spent
+shares_cheap d p false node next peers more old new spent h cheap = refl
+shares_cheap d p true node next peers more old new spent h cheap =
+    pick (is_dear h.2.0.frame.what) refl
+  where
+    pick : (b : Bool) → is_dear h.2.0.frame.what ≡ b → SharesOne b spent spent
+    pick true is = absurd (cheap (is_asked d p node next peers more old new h is))
+    pick false is = refl
+
+-- one that does was begun, where none was before in this round
+pub shares_dear : {V U : Type 0} (d : DeskOf V) (p : PeersOf U) (went : Bool) (node next : V)
+    (peers more : U) (old new : Guarding) (spent later : Bool)
+    (h : Advances d p went (moment node peers old) (moment next more new))
+    → IsDear old → spent ≡ false → later ≡ true
+    → SharesLast (begun_by d p went node next peers more old new h) spent later
+shares_dear d p false node next peers more old new spent later h dear fresh used =
+    absurd (is_begun old new dear h.2)
+shares_dear d p true node next peers more old new spent later h dear fresh used =
+    subst (λ b. SharesOne b spent later)
+    (sym (sym (ap dear_next h.2.1.next) ∙ dear.next)) (fresh, used)
 
 -- where no frame is begun any more, all that came is served, or it is done
 unfree : (fed : Bool) (out : List ℕ) (g : Guarding) → g.starved ≡ fed → g.output ≡ out
@@ -285,7 +352,7 @@ pub after_send : {V U C : Type 0} (d : DeskOf V) (p : PeersOf U)
     (node : V) (peers : U)
     (c later : C) (old new : Guarding)
     → Sends happened k ok c later old new
-    → Goes d p happened k (broken ok) most (spot node peers c old) (spot node peers later new)
+    → Goes d p happened k (broken ok) most [] (spot node peers c old) (spot node peers later new)
 after_send d p happened k most true node peers c later old new (inl h) =
     took d p happened k most node peers c later old new h.0 h.1 h.2 h.3
 after_send d p happened k most true node peers c later old new (inr h) =
@@ -298,7 +365,7 @@ pub after_read : {V U C : Type 0} (d : DeskOf V) (p : PeersOf U)
     (node : V) (peers : U)
     (c later : C) (old new : Guarding)
     → WantsRead old → Reads happened k cause c later old new
-    → Goes d p happened k cause 1 (spot node peers c old) (spot node peers later new)
+    → Goes d p happened k cause 1 [] (spot node peers c old) (spot node peers later new)
 after_read d p happened k None node peers c later old new wants (inl h) =
     came d p happened k node peers c later old new h.0 wants h.1 h.2
 after_read d p happened k None node peers c later old new wants (inr h) =
@@ -311,12 +378,15 @@ pub after_move : {V U C : Type 0} (d : DeskOf V) (p : PeersOf U)
     (node : V) (peers : U)
     (c later : C) (old new : Guarding)
     → Moves happened k cause c later old new
-    → Goes d p happened k cause 1 (spot node peers c old) (spot node peers later new)
+    → Goes d p happened k cause 1 [] (spot node peers c old) (spot node peers later new)
 after_move d p happened k cause node peers c later old new (inl h) =
-    subst (λ z. Goes d p happened k z 1 (spot node peers c old) (spot node peers later new))
+    subst (λ z. Goes d p happened k z 1 [] (spot node peers c old) (spot node peers later new))
     (sym h.1) (after_send d p happened k 1 h.0 node peers c later old new h.2)
-after_move d p happened k cause node peers c later old new (inr h) =
+after_move d p happened k cause node peers c later old new (inr (inl h)) =
     after_read d p happened k cause node peers c later old new h.0 h.1
+after_move d p happened k cause node peers c later old new (inr (inr h)) =
+    subst (λ z. Goes d p happened k z 1 [] (spot node peers c old) (spot node peers later new))
+    (sym h.0) (no_turn d p happened k None 1 node peers c later old new h.1 h.2)
 
 -- why it is ended, where a write or a read ends it
 pub move_ends : {C : Type 0} (happened : C → Option (List Happened)) (k : ℕ) (w : Why)
@@ -327,18 +397,267 @@ move_ends happened k w c later old new (inl h) = by_break h.0 h.1
     by_break : (ok : Bool) → Some w ≡ broken ok → IsFate (Some w) new
     by_break true is = let n : Some w ≡ None = is in absurd cc
     by_break false is = subst (λ z. IsFate z new) (sym is) tt
-move_ends happened k w c later old new (inr h) = h.1.2
+move_ends happened k w c later old new (inr (inl h)) = h.1.2
+move_ends happened k w c later old new (inr (inr h)) =
+    let n : Some w ≡ None = h.0 in absurd cc
 
-pub wants_read : (talk : Guarding) (writes : Bool) → Settled talk
-    → (talk.output ≢ [] → writes ≡ true) → writes ≡ false → WantsRead talk
-wants_read talk writes (inl h) due is =
-    let n : false ≡ true = sym is ∙ due h in absurd cc
-wants_read talk writes (inr h) due is = h
+-- ---- a frame is served, unless it is put off
+
+fresh_of : (s b : Bool) → true ≡ not (s || b) → s ≡ false
+fresh_of true b is = absurd cc
+fresh_of false b is = refl
+
+pub may_by : (number : ℕ) (has_key : Bool) (old new : DearTurns) (result : Bool) (c : Guarding)
+    → IsDear c → result ≡ is_next number has_key old → new ≡ asked number has_key old
+    → MayBegin result c old.spent new.spent
+may_by number has_key old new true c dear is after =
+    inr (
+      dear,
+      fresh_of old.spent _ is,
+      ap (λ (d : DearTurns). d.spent) after
+          ∙ ap
+          (λ b. (if b then answered number old else put_off has_key old).spent) (sym is),
+    )
+may_by number has_key old new false c dear is after = (
+  dear,
+  ap (λ (d : DearTurns). d.spent) after
+      ∙ ap (λ b. (if b then answered number old else put_off has_key old).spent) (sym is),
+)
+
+pub may_cheap : (c : Guarding) (spent : Bool) → (IsTrue false ↔ IsDear c)
+    → MayBegin true c spent spent
+may_cheap c spent h = inl (λ dear. let n : false ≡ true = h.1 dear in absurd cc, refl)
+
+pub put_off_serves : {V U C : Type 0} (d : DeskOf V) (p : PeersOf U)
+    (happened : C → Option (List Happened)) (k : ℕ) (spent later : Bool) (node : V) (peers : U)
+    (c : C) (talk : Guarding)
+    → MayBegin false talk spent later
+    → ServesOne d p happened k None spent later (spot node peers c talk) (spot node peers c talk)
+put_off_serves d p happened k spent later node peers c talk h = (
+  [],
+  no_turn d p happened k None 0 node peers c c talk talk refl (Tells-nil (happened c)),
+  h.1,
+  inr h.0,
+)
+
+shares_next : {V U : Type 0} (d : DeskOf V) (p : PeersOf U) (went : Bool) (node next : V)
+    (peers more : U) (old new : Guarding) (spent later : Bool)
+    (h : Advances d p went (moment node peers old) (moment next more new))
+    → MayBegin true old spent later
+    → SharesLast (begun_by d p went node next peers more old new h) spent later
+shares_next d p went node next peers more old new spent later h (inl may) =
+    subst (λ s. SharesLast (begun_by d p went node next peers more old new h) spent s) (sym may.1)
+    (shares_cheap d p went node next peers more old new spent h may.0)
+shares_next d p went node next peers more old new spent later h (inr may) =
+    shares_dear d p went node next peers more old new spent later h may.0 may.1 may.2
+
+-- no frame is to be begun
+pub rest_serves : {V U C : Type 0} (d : DeskOf V) (p : PeersOf U)
+    (happened : C → Option (List Happened)) (k : ℕ) (spent later : Bool) (node next : V)
+    (peers more : U) (c : C) (old new : Guarding)
+    → MayBegin true old spent later
+    → Advances d p false (moment node peers old) (moment next more new)
+    → ServesOne d p happened k None spent later (spot node peers c old) (spot next more c new)
+rest_serves d p happened k spent later node next peers more c old new may h = (
+  [],
+  advanced d p happened k 0 false node next peers more c old new h,
+  shares_next d p false node next peers more old new spent later h may,
+  inl (at_rest old new h.2),
+)
+
+-- one is begun, and then what is to be sent is offered, or nothing is
+pub next_serves : {V U C : Type 0} (d : DeskOf V) (p : PeersOf U)
+    (happened : C → Option (List Happened)) (k : ℕ) (cause : Option Why) (spent later : Bool)
+    (node next : V) (peers more : U) (c last : C) (old mid new : Guarding)
+    → MayBegin true old spent later
+    → Advances d p true (moment node peers old) (moment next more mid)
+    → Goes d p happened k cause 0 [] (spot next more c mid) (spot next more last new)
+    → ServesOne d p happened k cause spent later (spot node peers c old)
+    (spot next more last new)
+next_serves d p happened k cause spent later node next peers more c last old mid new may h goes = (
+  h.2.0 ∷ [],
+  goes_both d p happened k cause 0 0 (h.2.0 ∷ []) [] (spot node peers c old)
+      (spot next more c mid) (spot next more last new)
+      (advanced d p happened k 0 true node next peers more c old mid h) goes,
+  shares_next d p true node next peers more old mid spent later h may,
+  tt,
+)
+
+-- messages of desks are served before it
+pub hears_none : {V U C : Type 0} (d : DeskOf V) (p : PeersOf U)
+    (happened : C → Option (List Happened)) (k : ℕ) (node : V) (peers : U) (c : C)
+    (talk : Guarding)
+    → HearsDesks d p happened k (spot node peers c talk) (spot node peers c talk)
+hears_none d p happened k node peers c talk = (
+  [],
+  no_turn d p happened k None 0 node peers c c talk talk refl (Tells-nil (happened c)),
+  tt,
+)
+
+all_messages : (xs ys : List Begun) → AreMessages xs → AreMessages ys → AreMessages (xs ++ ys)
+all_messages [] ys h k = k
+all_messages (x ∷ xs) ys h k = (h.0, all_messages xs ys h.1 k)
+
+message_is : {V U : Type 0} (d : DeskOf V) (p : PeersOf U) (went : Bool) (node next : V)
+    (peers more : U) (old new : Guarding)
+    (h : Advances d p went (moment node peers old) (moment next more new))
+    → HearsDesk old → AreMessages (begun_by d p went node next peers more old new h)
+message_is d p true node next peers more old new h hears =
+    (sym (ap message_next h.2.1.next) ∙ hears.next, tt)
+message_is d p false node next peers more old new h hears = tt
+
+pub hears_more : {V U C : Type 0} (d : DeskOf V) (p : PeersOf U)
+    (happened : C → Option (List Happened)) (k : ℕ) (went : Bool) (a : Spot V U C)
+    (node next : V) (peers more : U) (c : C) (old new : Guarding)
+    → HearsDesks d p happened k a (spot node peers c old) → HearsDesk old
+    → Advances d p went (moment node peers old) (moment next more new)
+    → HearsDesks d p happened k a (spot next more c new)
+hears_more d p happened k went a node next peers more c old new h hears adv =
+    let one = begun_by d p went node next peers more old new adv in (
+      h.0 ++ one,
+      goes_both d p happened k None 0 0 h.0 one a (spot node peers c old) (spot next more c new)
+          h.1 (advanced d p happened k 0 went node next peers more c old new adv),
+      all_messages h.0 one h.2
+          (message_is d p went node next peers more old new adv hears),
+    )
+
+-- a message that waits is begun, so fewer wait
+fewer_wait : (w v : List Frame) (frame : Frame) → w ≡ frame ∷ v → length v < length w
+fewer_wait w v frame is =
+    let counted : length w ≡ suc (length v) = ap (λ (z : List Frame). length z) is in
+    omega (arith, counted)
+
+pub hears_fewer : {V U : Type 0} (d : DeskOf V) (p : PeersOf U) (went : Bool) (node next : V)
+    (peers more : U) (old new : Guarding) → HearsDesk old
+    → Advances d p went (moment node peers old) (moment next more new)
+    → length new.talk.waiting < length old.talk.waiting
+hears_fewer d p true node next peers more old new hears h =
+    subst (λ w. length w < length old.talk.waiting) (sym (after_waits h.1 old new h.3))
+    (fewer_wait old.talk.waiting h.1.waiting h.2.0.frame h.2.1.next)
+hears_fewer d p false node next peers more old new hears h = absurd (never h.2)
+  where
+    never : Rests old new → ⊥
+    never (inl r) = r.0 hears.free
+    never (inr r) =
+        let n : false ≡ true = sym (ap message_next r.talk.served) ∙ hears.next in absurd cc
+
+pub hears_then : {V U C : Type 0} (d : DeskOf V) (p : PeersOf U)
+    (happened : C → Option (List Happened)) (k : ℕ) (cause : Option Why) (spent later : Bool)
+    (a m b : Spot V U C)
+    → HearsDesks d p happened k a m → ServesOne d p happened k cause spent later m b
+    → ServesNext d p happened k cause spent later a b
+hears_then d p happened k cause spent later a m b h g =
+    let shares : Shares (h.0 ++ g.0) spent later =
+    record { messages = h.0; last = g.0; all = refl; heard = h.2; shares = g.2 } in (
+      h.0 ++ g.0,
+      goes_both d p happened k cause 0 0 h.0 g.0 a m b h.1 g.1,
+      shares,
+      g.3,
+    )
 
 -- ---- whether it is done
 
-pub undone_is : (talk : Guarding) (done : Bool) → SettledOrDone talk
-    → (IsDone talk → done ≡ true) → done ≡ false → Settled talk
-undone_is talk done (inl h) when is = h
-undone_is talk done (inr h) when is =
-    let n : false ≡ true = sym is ∙ when h in absurd cc
+undone_is : (talk : Guarding) → SettledOrDone talk → (IsDone talk → ⊥) → Settled talk
+undone_is talk (inl h) undone = h
+undone_is talk (inr h) undone = absurd (undone h)
+
+left_is : (begun : List Begun) (talk : Guarding) → IsLeftOrDone begun talk → (IsDone talk → ⊥)
+    → IsLeft begun talk
+left_is [] talk (inl h) undone = inl (undone_is talk h undone)
+left_is [] talk (inr h) undone = inr h
+left_is (one ∷ more) talk h undone = tt
+
+pub not_done : (c : Guarding) (done : Bool) → (IsTrue done ↔ IsDone c) → done ≡ false → IsDone c → ⊥
+not_done c done h is at = let n : false ≡ true = sym is ∙ h.1 at in absurd cc
+
+-- a write failed, or a read did, or the client has gone
+pub talk_moved : {V U C : Type 0} (d : DeskOf V) (p : PeersOf U)
+    (happened : C → Option (List Happened)) (k : ℕ) (w : Why) (spent : Bool) (node : V) (peers : U)
+    (c later : C) (old new : Guarding)
+    → Moves happened k (Some w) c later old new
+    → TalksOn d p happened k (Some w) spent spent (spot node peers c old)
+    (spot node peers later new)
+talk_moved d p happened k w spent node peers c later old new h = (
+  [],
+  after_move d p happened k (Some w) node peers c later old new h,
+  record { messages = []; last = []; all = refl; heard = tt; shares = refl },
+  λ n. some_not n,
+  move_ends happened k w c later old new h,
+)
+  where
+    some_not : Some w ≡ None → IsLeft [] new
+    some_not n = absurd cc
+
+-- a frame was served after that, or none
+pub talk_served : {V U C : Type 0} (d : DeskOf V) (p : PeersOf U)
+    (happened : C → Option (List Happened)) (k : ℕ) (cause : Option Why) (spent later : Bool)
+    (node : V) (peers : U) (c between : C) (old mid : Guarding) (b : Spot V U C)
+    → Moves happened k None c between old mid
+    → ServesNext d p happened k cause spent later (spot node peers between mid) b
+    → IsFate cause b.talk
+    → TalksOn d p happened k cause spent later (spot node peers c old) b
+talk_served d p happened k cause spent later node peers c between old mid b h g fate = (
+  g.0,
+  goes_both d p happened k cause 1 0 [] g.0 (spot node peers c old) (spot node peers between mid) b
+      (after_move d p happened k None node peers c between old mid h) g.1,
+  g.2,
+  λ is. left_is g.2.last b.talk g.3 (subst (λ z. IsFate z b.talk) is fate),
+  fate,
+)
+
+-- and all is done
+pub talk_done : {V U C : Type 0} (d : DeskOf V) (p : PeersOf U)
+    (happened : C → Option (List Happened)) (k : ℕ) (spent later : Bool)
+    (node : V) (peers : U) (c between : C) (old mid : Guarding) (b : Spot V U C)
+    → Moves happened k None c between old mid
+    → ServesNext d p happened k None spent later (spot node peers between mid) b
+    → IsDone b.talk
+    → TalksOn d p happened k (Some why.Done) spent later (spot node peers c old) b
+talk_done d p happened k spent later node peers c between old mid b h g done =
+    talk_served d p happened k (Some why.Done) spent later node peers c between old mid b h
+    (g.0, goes_done d p happened k 0 g.0 _ b g.1, g.2, g.3) done
+
+-- ---- it is asked to be named again
+
+goes_told : {V U C : Type 0} (d : DeskOf V) (p : PeersOf U)
+    (happened : C → Option (List Happened)) (k : ℕ) (cause : Option Why) (begun : List Begun)
+    (a : Spot V U C) (node : V) (peers : U) (c later : C) (talk : Guarding)
+    → Goes d p happened k None 1 begun a (spot node peers c talk)
+    → Tells (happened c) (happened later) (told_why k cause)
+    → Goes d p happened k cause 1 begun a (spot node peers later talk)
+goes_told d p happened k cause begun a node peers c later talk h told =
+    subst (λ z. Goes d p happened k cause 1 z a (spot node peers later talk)) (append-nil begun)
+    (goes_both d p happened k cause 1 0 begun [] a (spot node peers c talk)
+    (spot node peers later talk) h
+    (no_turn d p happened k cause 0 node peers c later talk talk refl told))
+
+pub hosts_on : {V U C : Type 0} (d : DeskOf V) (p : PeersOf U)
+    (happened : C → Option (List Happened)) (k : ℕ) (spent later : Bool) (a : Spot V U C)
+    (node : V) (peers : U) (c last : C) (talk : Guarding)
+    → TalksOn d p happened k None spent later a (spot node peers c talk)
+    → Tells (happened c) (happened last) []
+    → TalksOn d p happened k None spent later a (spot node peers last talk)
+hosts_on d p happened k spent later a node peers c last talk h told = (
+  h.0,
+  goes_told d p happened k None h.0 a node peers c last talk h.1 told,
+  h.2,
+  h.3,
+  h.4,
+)
+
+pub hosts_broken : {V U C : Type 0} (d : DeskOf V) (p : PeersOf U)
+    (happened : C → Option (List Happened)) (k : ℕ) (spent later : Bool) (a : Spot V U C)
+    (node : V) (peers : U) (c last : C) (talk : Guarding)
+    → TalksOn d p happened k None spent later a (spot node peers c talk)
+    → Tells (happened c) (happened last) (told_why k (Some why.Broke))
+    → TalksOn d p happened k (Some why.Broke) spent later a (spot node peers last talk)
+hosts_broken d p happened k spent later a node peers c last talk h told = (
+  h.0,
+  goes_told d p happened k (Some why.Broke) h.0 a node peers c last talk h.1 told,
+  h.2,
+  λ n. some_not n,
+  tt,
+)
+  where
+    some_not : Some why.Broke ≡ None → IsLeft h.2.last talk
+    some_not n = absurd cc

@@ -1,7 +1,9 @@
 pub mod Happenings
 pub mod Requests
+pub mod Dear
 pub mod Passing
 pub mod EachClient
+pub mod SharedTurns
 pub mod Scenes
 pub mod model
 pub mod Rounds

@@ -1,8 +1,10 @@
 -- What a desk has to ask of its clients and its links at each step.
 use Rattle.std.specs.Prelude.{◌≡◌, ◌≢◌, ◌⊎◌, ◌≤◌, ◌<◌, ℕ, ◌-◌, min, List, [], ◌∷◌, ◌++◌, length}
 use Rattle.std.specs.Prelude.{map, reverse}
-use Rattle.std.specs.Prelude.{Option, None, Some, Bool, true, false, IfSome}
+use Rattle.std.specs.Prelude.{Option, None, Some, Bool, true, false, IfSome, ◌↔◌}
 use Rattle.std.specs.List.{AllByRecursion}
+use Rattle.guarded.specs.Guarding.{Guarding, WantsRead}
+use Rattle.multiplex.specs.Dear.{fresh_dear}
 use Rattle.multiplex.specs.Requests.{Request, Waited, Accepting, Reading, Writing, Watching}
 use Rattle.multiplex.specs.Requests.{Closing}
 use Rattle.polled.specs.declared.answers.Ready.{Ready}
@@ -37,23 +39,25 @@ wait_by links own = shorter own (shorter links 1000)
 
 -- ---- a client was named as ready
 
--- all that is to be sent to it is offered to it, or else it is read from
-abbrev pub IsMove : ℕ → List ℕ → Request → Type 0
-IsMove k output asked =
-    ((output ≢ []) × ((t : Taken) × (asked ≡ Writing k (length output) t)))
-    ⊎ ((output ≡ []) × ((g : Given) × (asked ≡ Reading k g)))
+-- all that is to be sent to it is offered to it; or else it is read from, where all that came is
+-- served; or else nothing is asked
+abbrev pub IsMove : ℕ → Guarding → List Request → Type 0
+IsMove k c asked =
+    ((c.output ≢ []) × ((t : Taken) × (asked ≡ Writing k (length c.output) t ∷ [])))
+    ⊎ ((WantsRead c × ((g : Given) × (asked ≡ Reading k g ∷ [])))
+    ⊎ ((c.output ≡ []) × (WantsRead c → ⊥) × (asked ≡ [])))
 
--- whether something is still to be sent
-abbrev pub has_more : List ℕ → Bool
-has_more [] = false
-has_more (byte ∷ bytes) = true
+-- it is asked to be named again: when it can be read from, where all that came is served and all is
+-- sent, or else when it can take bytes
+abbrev pub IsWatched : ℕ → Guarding → List Request → Type 0
+IsWatched k c asked =
+    (writes : Bool) × ((writes ≡ false) ↔ WantsRead c) × (asked ≡ Watching k writes true ∷ [])
 
--- At last it is asked to be named again: when it can take bytes, where some are still to be sent,
--- or else when it can be read from.
+-- that is asked at last
 pub record Stays (k : ℕ) (before after new : List Guest) (last : List Request) : Type 0 where
   pub later : Guest
   pub stays : new ≡ before ++ later ∷ after
-  pub watched : last ≡ Watching k (has_more later.talk.output) true ∷ []
+  pub watched : IsWatched k later.talk last
 
 -- or its connection is ended
 pub record Leaves (k : ℕ) (before after new : List Guest) (last : List Request) : Type 0 where
@@ -67,12 +71,12 @@ pub record IsAttended (k : ℕ) (old new : List Guest) (asked : List Request) : 
   pub one : Guest
   pub found : old ≡ before ++ one ∷ after
   pub number : one.number ≡ k
-  pub first : Request
-  pub move : IsMove k one.talk.output first
+  pub first : List Request
+  pub move : IsMove k one.talk first
   pub more : List Request
   pub last : List Request
   pub end : Stays k before after new last ⊎ Leaves k before after new last
-  pub all : asked ≡ first ∷ (more ++ last)
+  pub all : asked ≡ first ++ (more ++ last)
 
 -- and nothing is asked where it is not
 abbrev pub Attends : ℕ → List Guest → List Guest → List Request → Type 0
@@ -199,7 +203,8 @@ ends_of guests = map (λ (g : Guest). Closing g.number) (reverse guests)
 
 -- before the first client
 abbrev pub IsFresh : OwnTicks → Table → Type 0
-IsFresh own t = (t.guests.items ≡ []) × (t.next ≡ 0) × (t.time ≡ 0) × (t.own ≡ own)
+IsFresh own t =
+    (t.guests.items ≡ []) × (t.next ≡ 0) × (t.time ≡ 0) × (t.own ≡ own) × (t.dear ≡ fresh_dear)
 
 -- from the first client to the last
 pub record ServesDuly {L : Type 0} (due : L → ℕ → Option ℕ → Type 0) (kept : L → Option (List ℕ))

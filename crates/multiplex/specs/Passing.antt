@@ -4,15 +4,16 @@ use Rattle.std.specs.Prelude.{Option, None, Some, suc, Bool, true, false, ◌||�
 use Rattle.std.specs.Prelude.{if◌then◌else◌}
 use Rattle.std.specs.List.{AllByRecursion}
 use Rattle.answers.specs.Seen.{Seen}
-use Rattle.guarded.specs.Guarding.{Guarding, IsDone, WantsRead, fresh_guard}
+use Rattle.guarded.specs.Guarding.{Guarding, IsDear, IsDone, WantsRead, fresh_guard}
 use Rattle.guarded.specs.GuardTurns.{Follow, Place}
 use Rattle.store.specs.declared.home.Home.{Home}
 use Rattle.serving.specs.declared.ends.End.{End}
 use Rattle.serving.specs.declared.ends.End.TheVariants as end
-use Rattle.serving.specs.Connection.{Sides}
+use Rattle.serving.specs.Connection.{Begun, Sides}
+use Rattle.serving.specs.Kinds.{is_dear, is_message}
 use Rattle.serving.specs.Making.{Outside, Way}
 use Rattle.serving.specs.OwnTicks.{Ticks, TicksInPart, unanswered}
-use Rattle.serving.specs.TurnLaw.{Came as CameIn, Began, Rested, Took as TookOf, Turn}
+use Rattle.serving.specs.TurnLaw.{Came as CameIn, Began, Rested, Took as TookOf, Turn, begun_in}
 use Rattle.ticking.specs.Ticking.{Look, Ticking, after, is_due, look, new_ticker}
 use Rattle.multiplex.specs.Happenings.{Happened, Round, Came, Full, Named, Gave, Took, Ended, Broke}
 use Rattle.polled.specs.Telling.{Tells}
@@ -58,22 +59,30 @@ ticks_after own l starved =
 -- ---- what stands between two steps
 
 -- the clients whose connections are open, in the order in which they came; the number of the next
--- one; how many milliseconds after the first round it is; the desk's own Ticks; why serving is
--- over, where it is
+-- one; how many milliseconds after the first round it is; the desk's own Ticks; whether a sheet or
+-- entries of the log were asked for and answered in this round; why serving is over, where it is
 pub record Lobby : Type 0 where
   pub guests : List Guest
   pub next : ℕ
   pub time : ℕ
   pub own : OwnTicks
+  pub spent : Bool
   pub over : Option Over
 
-abbrev pub lobby : List Guest → ℕ → ℕ → OwnTicks → Option Over → Lobby
-lobby guests next time own over =
-    record { guests = guests; next = next; time = time; own = own; over = over }
+abbrev pub lobby : List Guest → ℕ → ℕ → OwnTicks → Bool → Option Over → Lobby
+lobby guests next time own spent over =
+    record {
+      guests = guests;
+      next = next;
+      time = time;
+      own = own;
+      spent = spent;
+      over = over;
+    }
 
 -- before the first client
 abbrev pub empty_lobby : OwnTicks → Lobby
-empty_lobby own = lobby [] 0 0 own None
+empty_lobby own = lobby [] 0 0 own false None
 
 abbrev pub guest : ℕ → Guarding → ℕ → Guest
 guest number talk ready = record { number = number; talk = talk; ready = ready }
@@ -169,7 +178,7 @@ Settled c = (c.output ≢ []) ⊎ WantsRead c
 
 -- when the connection of a client that was ready goes on, or is ended
 abbrev pub IsFate : Option Why → Guarding → Type 0
-IsFate None c = Settled c
+IsFate None c = IsDone c → ⊥
 IsFate (Some why.Done) c = IsDone c
 IsFate (Some why.Ended) c = WantsRead c
 IsFate (Some why.Broke) c = Unit {0}
@@ -177,6 +186,35 @@ IsFate (Some why.Silent) c = ⊥
 IsFate (Some why.Crowded) c = ⊥
 IsFate (Some why.NoSocket) c = ⊥
 IsFate (Some why.Over) c = ⊥
+
+-- these frames are messages of desks to desks
+abbrev pub AreMessages : List Begun → Type 0
+AreMessages begun = AllByRecursion (λ (one : Begun). is_message one.frame.what ≡ true) begun
+
+-- where no frame was begun after the messages of desks, none is to be begun, or the next one was
+-- put off, which asks for a sheet or for entries of the log
+abbrev pub IsLeft : List Begun → Guarding → Type 0
+IsLeft [] c = Settled c ⊎ IsDear c
+IsLeft (one ∷ more) c = Unit {0}
+
+-- a frame is begun, and whether one that asks for such was begun in this round: one alone may be
+abbrev pub SharesOne : Bool → Bool → Bool → Type 0
+SharesOne true spent later = (spent ≡ false) × (later ≡ true)
+SharesOne false spent later = later ≡ spent
+
+-- one frame at most is begun
+abbrev pub SharesLast : List Begun → Bool → Bool → Type 0
+SharesLast [] spent later = later ≡ spent
+SharesLast (one ∷ []) spent later = SharesOne (is_dear one.frame.what) spent later
+SharesLast (one ∷ (other ∷ more)) spent later = ⊥
+
+-- messages of desks are begun, and then one frame at most
+pub record Shares (begun : List Begun) (spent later : Bool) : Type 0 where
+  pub messages : List Begun
+  pub last : List Begun
+  pub all : begun ≡ messages ++ last
+  pub heard : AreMessages messages
+  pub shares : SharesLast last spent later
 
 -- why serving is over once a connection that ended so was ended
 abbrev pub over_by : Option End → Option Over
@@ -208,7 +246,8 @@ pieces (Began one ∷ ts) = pieces ts
 pieces (Rested ∷ ts) = pieces ts
 pieces (TookOf bytes ∷ ts) = pieces ts
 
--- a ready client's connection took these turns, in which one piece came at most
+-- a ready client's connection took these turns, in which one piece came at most, and one frame was
+-- begun at most that is no message of a desk to a desk
 pub record Visits {V : Type 0} {way : Way V} (k : ℕ) (turns : List Turn) (fate : Option Why)
     (a b : Room way) (before after : List Guest) (old new : Guest) : Type 0 where
   pub going : a.lobby.over ≡ None
@@ -216,11 +255,13 @@ pub record Visits {V : Type 0} {way : Way V} (k : ℕ) (turns : List Turn) (fate
   pub number : old.number ≡ k
   pub follow : Follow (with_node a old.talk) turns (with_node b new.talk)
   pub once : pieces turns ≤ 1
+  pub shares : Shares (begun_in turns) a.lobby.spent b.lobby.spent
+  pub served : fate ≡ None → IsLeft shares.last new.talk
   pub same : new.number ≡ k
   pub ready : new.ready ≡ a.lobby.time
   pub stands : IsFate fate new.talk
   pub left : b.lobby ≡ lobby (before ++ (staying fate new ++ after)) a.lobby.next a.lobby.time
-      a.lobby.own (over_after fate new.talk)
+      a.lobby.own b.lobby.spent (over_after fate new.talk)
 
 -- ---- changes of which the node knows nothing
 
@@ -251,7 +292,7 @@ pub record Shuts (t : Terms) (k : ℕ) (w : Why) (a b : Lobby) (before after : L
   pub found : a.guests ≡ before ++ old ∷ after
   pub number : old.number ≡ k
   pub cause : IsCause t w a old
-  pub left : b ≡ lobby (before ++ after) a.next a.time a.own
+  pub left : b ≡ lobby (before ++ after) a.next a.time a.own a.spent
       (first_of a.over (over_by old.talk.talk.end))
 
 -- another client came, with which these stay
@@ -260,7 +301,7 @@ pub record Enters (t : Terms) (k : ℕ) (more : List Guest) (a b : Lobby) : Type
   pub number : k ≡ a.next
   pub wanted : a.next < t.most
   pub room : length a.guests < 512
-  pub enters : b ≡ lobby (a.guests ++ more) (a.next + 1) a.time a.own None
+  pub enters : b ≡ lobby (a.guests ++ more) (a.next + 1) a.time a.own a.spent None
 
 -- the ends that come of themselves
 abbrev pub IsStop : Terms → Over → Lobby → Type 0
@@ -282,7 +323,7 @@ Changes home t (Shut k w) a b =
     (before : List Guest) × (after : List Guest) × (old : Guest)
     × Shuts t k w a b before after old
 Changes home t (Stops e) a b =
-    (a.over ≡ None) × IsStop t e a × (b ≡ lobby a.guests a.next a.time a.own (Some e))
+    (a.over ≡ None) × IsStop t e a × (b ≡ lobby a.guests a.next a.time a.own a.spent (Some e))
 
 -- ---- rounds
 
@@ -298,7 +339,7 @@ pub record Rounds {V : Type 0} {way : Way V} (now : ℕ) (a b : Room way) : Type
   pub seen : b.seen ≡ a.seen
   pub outside : b.outside ≡ a.outside
   pub left : b.lobby ≡ lobby a.lobby.guests a.lobby.next now
-      (ticks_after a.lobby.own (look_in a now) false) None
+      (ticks_after a.lobby.own (look_in a now) false) false None
 
 -- what is seen of the node, and what is there beside, where no answer is written
 abbrev pub alone : {V : Type 0} → {way : Way V} → Room way → Sides way
@@ -321,7 +362,7 @@ pub record TicksItself {V : Type 0} {way : Way V} (home : Home) (now : ℕ) (sta
   pub due : IsTrue (ticks_at a.lobby.own.ticker (look_in a now))
   pub tick : TicksBy starved home (alone a) (alone b)
   pub left : b.lobby ≡ lobby a.lobby.guests a.lobby.next now
-      (ticks_after a.lobby.own (look_in a now) starved) (over_if b.seen.is_down)
+      (ticks_after a.lobby.own (look_in a now) starved) false (over_if b.seen.is_down)
 
 -- ---- steps, one after the other
 

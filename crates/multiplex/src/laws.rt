@@ -2,6 +2,7 @@
 
 ghost use Rattle.multiplex.specs.EachClient.{EachClientIsServed, EachDeliversUnderHall};
 ghost use Rattle.multiplex.specs.EachClient.{TicksNeedAPeriod};
+ghost use Rattle.multiplex.specs.SharedTurns.{TurnsAreShared};
 
 use answers::Desk;
 
@@ -26,4 +27,13 @@ pub fn each_delivers_under_hall()
 /// Where no period was asked for, the desk never gives itself a Tick.
 pub fn ticks_need_a_period<D: Desk>()
     ensures { TicksNeedAPeriod D.Desk }
+{}
+
+/// Wherever one looks into serving: from there on at most one frame that is no message of a desk to
+/// a desk was begun in each turn of a client, and at most one more than rounds were over that asks
+/// for a sheet or for entries of the log. Each client that is ready is named once in a round, so
+/// between two turns of one that is ready again at the next round the others had one turn each in
+/// each of the two rounds, of one such frame, and two at most of these asked for such.
+pub fn turns_are_shared<D: Desk>()
+    ensures { TurnsAreShared D.Desk }
 {}

@@ -2,6 +2,7 @@
 #![tactic(auto)]
 
 mod clients;
+mod dear;
 mod driven;
 mod ends;
 pub mod laws;

@@ -57,6 +57,7 @@ fn end_round<D: Desk, C: Clients, L: Links>(
     ensures fewer { length table.new.guests.items ≤ length table.old.guests.items }
     ensures home { D.home_of node.new ≡ D.home_of node.old }
 {
+    table.dear.renew(table.time, now);
     table.time = now;
     let over = table.own.tick_if_due(alloc, terms.wire, now, node, links);
     links.keep(now);
@@ -125,9 +126,12 @@ fn serve_rounds<D: Desk, C: Clients, L: Links>(
 }
 
 /// Serves clients side by side: at most 512 connections are open at once, and each client that is
-/// ready has its turn, a write or a read of at most 4,096 bytes, and what is served of it. It ends
-/// once `most` clients came and their connections are ended, after a Stop, where the desk is down,
-/// and where the system doesn't tell what is ready any more; then all connections are ended.
+/// ready has its turn: a write or a read of at most 4,096 bytes, and then the messages of desks are
+/// served that come next, and one frame of a client. In a round one client alone is answered a
+/// sheet or entries of the log: the others that ask for such are put off to the next rounds, those
+/// without a key after those that have one. It ends once `most` clients came and their connections
+/// are ended, after a Stop, where the desk is down, and where the system doesn't tell what is ready
+/// any more; then all connections are ended.
 ///
 /// A connection is ended as `Connection` says, once its answers are taken; where the client ends it
 /// or it breaks; where the client wasn't ready for longer than the patience; and where another one

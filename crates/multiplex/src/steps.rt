@@ -16,6 +16,7 @@ ghost use Rattle.multiplex.specs.declared.table.Terms.{Terms as TermsOf};
 ghost use Rattle.store.specs.declared.home.Home.{Home};
 
 use crate::clients::{Accepted, Clients};
+use crate::dear::DearTurns;
 use crate::ends::{Over, Why};
 use crate::table::{Guest, MOST_OPEN, Table, Terms, longest_silent};
 use crate::turns::talk_on;
@@ -47,35 +48,38 @@ fn shut<C: Clients>(table: &mut Table, place: usize, clients: &mut C) -> Option<
     over_by(guest.talk.end())
 }
 
-/// Lets a client that is ready have its turns. Where its connection is to be ended now, it says
-/// why.
+/// Lets a client that is ready have its turn. Where its connection is to be ended now, it says why.
+/// It is to be named again when it can be read from, where all that came is served and answered,
+/// and else when it can take bytes.
 fn host<D: Desk, C: Clients, P: Peers>(
     guest: &mut Guest,
     time: u64,
+    dear: &mut DearTurns,
     clients: &mut C,
     node: &mut D,
     peers: &mut P,
 ) -> Option<Why>
     requires kept { IsKept (D.home_of node.old) guest.old.talk.talk.wire guest.old }
-    ensures hosts { Hosts D.Desk P.Peers C.happened time result guest.old guest.new
+    ensures hosts { Hosts D.Desk P.Peers C.happened time result dear.old.spent dear.new.spent
+        guest.old guest.new
         (scene node.old peers.old clients.old) (scene node.new peers.new clients.new) }
     ensures asks { Asks C.requests clients.old clients.new
-        (AsksHosted guest.old.number guest.old.talk.output guest.new.talk.output result) }
+        (AsksHosted guest.old.number guest.old.talk guest.new.talk result) }
     ensures home { D.home_of node.new ≡ D.home_of node.old }
 {
     guest.ready = time;
     let number = guest.number;
-    if let Some(why) = talk_on(number, &mut guest.talk, clients, node, peers) {
+    if let Some(why) = talk_on(number, &mut guest.talk, dear, clients, node, peers) {
         return Some(why);
     }
-    if clients.watch(number, guest.talk.wants_write()) {
+    if clients.watch(number, !guest.talk.wants_read()) {
         None
     } else {
         Some(Why::Broke)
     }
 }
 
-/// Lets the client with this number have its turns, if its connection is open, and says why serving
+/// Lets the client with this number have its turn, if its connection is open, and says why serving
 /// is over by that, if it is.
 pub(crate) fn visit<D: Desk, C: Clients, P: Peers>(
     table: &mut Table,
@@ -100,7 +104,7 @@ pub(crate) fn visit<D: Desk, C: Clients, P: Peers>(
     };
     let time = table.time;
     let guest = &mut table.guests[place];
-    match host(guest, time, clients, node, peers) {
+    match host(guest, time, &mut table.dear, clients, node, peers) {
         None => None,
         Some(_) => shut(table, place, clients),
     }

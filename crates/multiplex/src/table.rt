@@ -2,8 +2,10 @@
 
 ghost use Rattle.std.specs.Prelude.{◌≡◌, [], position, IfOk, IfSome, IfNone};
 ghost use Rattle.multiplex.specs.Passing.{first_ticks};
+ghost use Rattle.multiplex.specs.Dear.{fresh_dear};
 ghost use Rattle.multiplex.specs.model.Tables.{IsLongestAt, has_number, is_silent};
 
+use crate::dear::DearTurns;
 use crate::own_ticks::OwnTicks;
 use answers::Desk;
 use guarded::{Doors, Guard};
@@ -46,6 +48,7 @@ pub(crate) struct Table {
     /// The time of the last round, in milliseconds after the first one.
     pub(crate) time: u64,
     pub(crate) own: OwnTicks,
+    pub(crate) dear: DearTurns,
 }
 
 impl Table {
@@ -58,12 +61,14 @@ impl Table {
         ensures empty { IfOk result (λ t. (t.guests.items ≡ []) × (t.next ≡ 0) × (t.time ≡ 0)) }
         ensures own { IfOk result
             (λ t. t.own ≡ first_ticks (D.home_of node.now) period (D.seen node.now)) }
+        ensures dear { IfOk result (λ t. t.dear ≡ fresh_dear) }
     {
         Ok(Table {
             guests: Vec::with_capacity(alloc, MOST_OPEN)?,
             next: 0,
             time: 0,
             own: OwnTicks::new(period, node),
+            dear: DearTurns::new(),
         })
     }
 

@@ -6,6 +6,7 @@ pub mod Permissions
 pub mod Telling
 pub mod Serving
 pub mod Making
+pub mod Kinds
 pub mod Connection
 pub mod Sessions
 pub mod Turns

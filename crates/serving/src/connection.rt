@@ -3,6 +3,7 @@
 ghost use Rattle.std.specs.Prelude.{◌≡◌, ◌≢◌, ◌≤◌, ◌↔◌, [], length, IfOk, OnOk, OnErr, IsTrue};
 ghost use Rattle.lines.specs.Bytes.{AppendsPart};
 ghost use Rattle.std.specs.Io.KnownBytes.{Appends};
+ghost use Rattle.serving.specs.Kinds.{dear_next, is_dear, is_message, message_next};
 ghost use Rattle.serving.specs.Turns.{Advances, IsFree, Receives, WantsRead, after_sent, moment};
 ghost use Rattle.serving.specs.Turns.{new_talk};
 ghost use Rattle.serving.specs.model.Turning.{end_after};
@@ -19,7 +20,7 @@ use std::collections::VecDeque;
 use std::io::Write;
 use std::marker::Model;
 use std::mem;
-use wire::{Frame, FrameReader, Version, WireFault};
+use wire::{Frame, FrameReader, Version, What, WireFault};
 
 /// The most frames of a connection.
 const MOST_FRAMES: u32 = 64;
@@ -38,6 +39,32 @@ fn end_after(close: Option<Close>, number: u32) -> Option<End>
                 None
             }
         }
+    }
+}
+
+/// Whether a frame asks for a sheet or for entries of the log.
+fn is_dear(what: &What) -> bool
+    ensures { result ≡ is_dear what.now }
+{
+    match what {
+        What::Sheet { .. } | What::Log { .. } => true,
+        _ => false,
+    }
+}
+
+/// Whether a frame is a message of a desk to a desk.
+fn is_message(what: &What) -> bool
+    ensures { result ≡ is_message what.now }
+{
+    match what {
+        What::Prepare { .. }
+        | What::Promise { .. }
+        | What::Accept { .. }
+        | What::Accepted { .. }
+        | What::Nack { .. }
+        | What::Behind { .. }
+        | What::Decided { .. } => true,
+        _ => false,
     }
 }
 
@@ -125,6 +152,26 @@ impl Connection {
         match self.stream.fault() {
             Some(_) => false,
             None => self.waiting.is_empty() && self.is_free(),
+        }
+    }
+
+    /// Whether a frame waits, and the next one asks for a sheet or for entries of the log.
+    pub fn is_dear(&self) -> bool
+        ensures { result ≡ dear_next self.now.waiting }
+    {
+        match self.waiting.front() {
+            Some(frame) => is_dear(&frame.what),
+            None => false,
+        }
+    }
+
+    /// Whether a frame waits, and the next one is a message of a desk to a desk.
+    pub fn hears_desk(&self) -> bool
+        ensures { result ≡ message_next self.now.waiting }
+    {
+        match self.waiting.front() {
+            Some(frame) => is_message(&frame.what),
+            None => false,
         }
     }
 

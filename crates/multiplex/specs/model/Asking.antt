@@ -1,8 +1,9 @@
 -- What is asked in the parts of a step.
 use Rattle.std.specs.Prelude.{◌≡◌, ◌⊎◌, ℕ, List, [], ◌∷◌, ◌++◌, length, slice_index_or}
-use Rattle.std.specs.Prelude.{Option, None, Some, true}
-use Rattle.multiplex.specs.Musts.{IsMove, ends_of, has_more}
-use Rattle.multiplex.specs.Requests.{Request, Reading, Writing, Watching, Closing}
+use Rattle.std.specs.Prelude.{Option, None, Some}
+use Rattle.guarded.specs.Guarding.{Guarding}
+use Rattle.multiplex.specs.Musts.{IsMove, IsWatched, ends_of}
+use Rattle.multiplex.specs.Requests.{Request, Reading, Writing, Closing}
 use Rattle.polled.specs.declared.answers.Given.{Given}
 use Rattle.polled.specs.declared.answers.Taken.{Taken}
 use Rattle.multiplex.specs.declared.ends.Why.{Why}
@@ -15,30 +16,33 @@ Offers k output asked = (t : Taken) × (asked ≡ Writing k (length output) t �
 abbrev pub Hears : ℕ → List Request → Type 0
 Hears k asked = (g : Given) × (asked ≡ Reading k g ∷ [])
 
-abbrev pub AsksMove : ℕ → List ℕ → List Request → Type 0
-AsksMove k output asked = (first : Request) × IsMove k output first × (asked ≡ first ∷ [])
+abbrev pub AsksMove : ℕ → Guarding → List Request → Type 0
+AsksMove k c asked = IsMove k c asked
 
 -- it is asked first, and then anything
-abbrev pub BeginsWithMove : ℕ → List ℕ → List Request → Type 0
-BeginsWithMove k output asked =
-    (first : Request) × IsMove k output first × ((more : List Request) × (asked ≡ first ∷ more))
+abbrev pub BeginsWithMove : ℕ → Guarding → List Request → Type 0
+BeginsWithMove k c asked =
+    (first : List Request) × IsMove k c first
+    × ((more : List Request) × (asked ≡ first ++ more))
 
 -- anything
 abbrev pub AsksSome : List Request → Type 0
 AsksSome asked = Unit {0}
 
 -- what is asked last of a client that stays
-abbrev pub watching : ℕ → List ℕ → Option Why → List Request
-watching k output None = Watching k (has_more output) true ∷ []
-watching k output (Some w) = []
+abbrev pub IsWatchedIf : ℕ → Guarding → Option Why → List Request → Type 0
+IsWatchedIf k c None last = IsWatched k c last
+IsWatchedIf k c (Some w) last = last ≡ []
 
--- a client has its turns, and had and has this to be sent
-pub record AsksHosted (k : ℕ) (old new : List ℕ) (fate : Option Why) (asked : List Request)
+-- a client has its turn, before and after which its connection stands so
+pub record AsksHosted (k : ℕ) (old new : Guarding) (fate : Option Why) (asked : List Request)
     : Type 0 where
-  pub first : Request
+  pub first : List Request
   pub move : IsMove k old first
   pub more : List Request
-  pub all : asked ≡ first ∷ (more ++ watching k new fate)
+  pub last : List Request
+  pub watched : IsWatchedIf k new fate last
+  pub all : asked ≡ first ++ (more ++ last)
 
 -- the connection of the client at this place is ended
 pub record ClosesAt (place : ℕ) (guests : List Guest) (asked : List Request) : Type 0 where

@@ -1,5 +1,6 @@
 -- What the steps of the code leave.
 use Rattle.std.specs.Prelude.{◌≡◌, ◌⊎◌, ℕ, ◌+◌, List, [], ◌∷◌, ◌++◌, length, Option, None, Some}
+use Rattle.std.specs.Prelude.{Bool}
 use Rattle.answers.specs.declared.desk.Desk.{Ghosts as DeskOf}
 use Rattle.serving.specs.declared.peers.Peers.{Ghosts as PeersOf}
 use Rattle.serving.specs.Making.{speaking}
@@ -19,7 +20,7 @@ use Rattle.multiplex.specs.Scenes.{Scene, in_room, scene}
 use Rattle.multiplex.specs.model.Visiting.{Spot, TalksOn, spot}
 
 abbrev pub lobby_of : Table → Option Over → Lobby
-lobby_of t over = lobby t.guests.items t.next t.time t.own over
+lobby_of t over = lobby t.guests.items t.next t.time t.own t.dear.spent over
 
 abbrev pub room_of : {V U C : Type 0} → (d : DeskOf V) → PeersOf U → (version : Version) → Table
     → Option Over → Scene V U C → Room (speaking d.handles version)
@@ -34,6 +35,7 @@ pub record Loses {C : Type 0} (happened : C → Option (List Happened)) (over : 
   pub next : new.next ≡ old.next
   pub time : new.time ≡ old.time
   pub own : new.own ≡ old.own
+  pub dear : new.dear ≡ old.dear
   pub ends : over ≡ over_by gone.talk.talk.end
   pub told : Tells (happened c) (happened later) (Closed gone.number ∷ [])
 
@@ -79,6 +81,7 @@ pub record Welcomes {C : Type 0} (happened : C → Option (List Happened)) (home
   pub next : new.next ≡ old.next + 1
   pub time : new.time ≡ old.time
   pub own : new.own ≡ old.own
+  pub dear : new.dear ≡ old.dear
   pub either :
       ((new.guests.items
       ≡ old.guests.items
@@ -98,10 +101,10 @@ abbrev pub at_guest : {V U C : Type 0} → Scene V U C → Guest → Spot V U C
 at_guest s g = spot s.node s.peers s.clients g.talk
 
 abbrev pub Hosts : {V U C : Type 0} → DeskOf V → PeersOf U → (C → Option (List Happened)) → ℕ
-    → Option Why → Guest → Guest → Scene V U C → Scene V U C → Type 0
-Hosts d p happened time fate old new a b =
+    → Option Why → Bool → Bool → Guest → Guest → Scene V U C → Scene V U C → Type 0
+Hosts d p happened time fate spent later old new a b =
     IsHosted time old new
-    × TalksOn d p happened old.number fate (at_guest a old) (at_guest b new)
+    × TalksOn d p happened old.number fate spent later (at_guest a old) (at_guest b new)
 
 -- the step that a client is which was named as ready; all but its name is told
 abbrev pub Answers : {V U C : Type 0} → DeskOf V → PeersOf U → (C → Option (List Happened)) → Home

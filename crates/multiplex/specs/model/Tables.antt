@@ -8,7 +8,6 @@ use Rattle.multiplex.specs.declared.ends.Why.{Why}
 use Rattle.multiplex.specs.declared.ends.Why.TheVariants as why
 use Rattle.multiplex.specs.declared.table.Guest.{Guest}
 use Rattle.multiplex.specs.declared.table.Table.{Table}
-use Rattle.multiplex.specs.Passing.{Settled}
 
 abbrev pub has_number : ℕ → Guest → Bool
 has_number k g = g.number == k
@@ -26,7 +25,6 @@ pub record IsLongestAt (guests : List Guest) (i : ℕ) : Type 0 where
 pub record IsKept (place : Home) (version : Version) (g : Guest) : Type 0 where
   pub home : g.talk.talk.home ≡ place
   pub wire : g.talk.talk.wire ≡ version
-  pub settled : Settled g.talk
 
 abbrev pub AreKept : Home → Version → List Guest → Type 0
 AreKept home wire = AllByRecursion (IsKept home wire)

@@ -5,13 +5,15 @@ use Rattle.answers.specs.declared.desk.Desk.{Ghosts as DeskOf}
 use Rattle.serving.specs.declared.peers.Peers.{Ghosts as PeersOf}
 use Rattle.serving.specs.Making.{speaking}
 use Rattle.serving.specs.Sessions.{outside}
-use Rattle.serving.specs.TurnLaw.{Turn}
-use Rattle.guarded.specs.Guarding.{Guarding, IsDone, Receives, WantsRead, after_sent}
+use Rattle.serving.specs.Connection.{Begun}
+use Rattle.serving.specs.TurnLaw.{Turn, begun_in}
+use Rattle.guarded.specs.Guarding.{Guarding, IsDear, IsDone, Receives, WantsRead, after_sent}
 use Rattle.guarded.specs.GuardTurns.{Follow, Place}
 use Rattle.wire.specs.declared.values.Version.{Version}
 use Rattle.polled.specs.Telling.{Tells}
 use Rattle.multiplex.specs.Happenings.{Happened, Gave, Took, Broke}
-use Rattle.multiplex.specs.Passing.{IsFate, Settled, pieces, told_why, told_turns}
+use Rattle.multiplex.specs.Passing.{AreMessages, IsFate, IsLeft, Settled, Shares, SharesLast}
+use Rattle.multiplex.specs.Passing.{pieces, told_why, told_turns}
 use Rattle.multiplex.specs.declared.ends.Why.{Why}
 use Rattle.multiplex.specs.declared.ends.Why.TheVariants as why
 
@@ -35,11 +37,12 @@ place_at d p version s = record {
   outside = outside d p version s.node s.peers;
 }
 
--- these turns were taken, in which so many pieces came at most
+-- these turns were taken, in which so many pieces came at most, and these frames were begun
 pub record Takes {V U C : Type 0} (d : DeskOf V) (p : PeersOf U)
     (happened : C → Option (List Happened)) (k : ℕ) (cause : Option Why) (most : ℕ)
-    (a b : Spot V U C) (turns : List Turn) : Type 0 where
+    (begun : List Begun) (a b : Spot V U C) (turns : List Turn) : Type 0 where
   pub few : pieces turns ≤ most
+  pub begins : begun_in turns ≡ begun
   pub follow : Follow (place_at d p a.talk.talk.wire a) turns
       (place_at d p a.talk.talk.wire b)
   pub told : Tells (happened a.clients) (happened b.clients)
@@ -48,14 +51,17 @@ pub record Takes {V U C : Type 0} (d : DeskOf V) (p : PeersOf U)
   pub wire : b.talk.talk.wire ≡ a.talk.talk.wire
 
 abbrev pub Goes : {V U C : Type 0} → DeskOf V → PeersOf U → (C → Option (List Happened)) → ℕ
-    → Option Why → ℕ → Spot V U C → Spot V U C → Type 0
-Goes d p happened k cause most a b =
-    (turns : List Turn) × Takes d p happened k cause most a b turns
+    → Option Why → ℕ → List Begun → Spot V U C → Spot V U C → Type 0
+Goes d p happened k cause most begun a b =
+    (turns : List Turn) × Takes d p happened k cause most begun a b turns
 
--- and the connection goes on, or is to be ended
+-- messages of desks were begun, and one other frame at most; and the connection goes on, or is to
+-- be ended
 abbrev pub TalksOn : {V U C : Type 0} → DeskOf V → PeersOf U → (C → Option (List Happened)) → ℕ
-    → Option Why → Spot V U C → Spot V U C → Type 0
-TalksOn d p happened k fate a b = Goes d p happened k fate 1 a b × IsFate fate b.talk
+    → Option Why → Bool → Bool → Spot V U C → Spot V U C → Type 0
+TalksOn d p happened k fate spent later a b =
+    (begun : List Begun) × Goes d p happened k fate 1 begun a b × (s : Shares begun spent later)
+    × (fate ≡ None → IsLeft s.last b.talk) × IsFate fate b.talk
 
 -- true where nothing failed
 abbrev pub broken : Bool → Option Why
@@ -86,9 +92,42 @@ Reads happened k (Some w) c later old new =
 abbrev pub SettledOrDone : Guarding → Type 0
 SettledOrDone c = Settled c ⊎ IsDone c
 
--- a write, or a read where nothing is to be sent
+-- whether a frame may be begun: it asks for nothing dear, or it is the first in this round that
+-- does; and it is put off where it does and may not
+abbrev pub MayBegin : Bool → Guarding → Bool → Bool → Type 0
+MayBegin true c spent later =
+    ((IsDear c → ⊥) × (later ≡ spent)) ⊎ (IsDear c × (spent ≡ false) × (later ≡ true))
+MayBegin false c spent later = IsDear c × (later ≡ spent)
+
+-- where no frame was begun: so it is, or the next one was put off
+abbrev pub IsLeftOrDone : List Begun → Guarding → Type 0
+IsLeftOrDone [] c = SettledOrDone c ⊎ IsDear c
+IsLeftOrDone (one ∷ more) c = Unit {0}
+
+-- no piece came, and one frame at most was begun
+abbrev pub ServesOne : {V U C : Type 0} → DeskOf V → PeersOf U → (C → Option (List Happened)) → ℕ
+    → Option Why → Bool → Bool → Spot V U C → Spot V U C → Type 0
+ServesOne d p happened k cause spent later a b =
+    (begun : List Begun) × Goes d p happened k cause 0 begun a b × SharesLast begun spent later
+    × IsLeftOrDone begun b.talk
+
+-- no piece came, and messages of desks were begun
+abbrev pub HearsDesks : {V U C : Type 0} → DeskOf V → PeersOf U → (C → Option (List Happened)) → ℕ
+    → Spot V U C → Spot V U C → Type 0
+HearsDesks d p happened k a b =
+    (begun : List Begun) × Goes d p happened k None 0 begun a b × AreMessages begun
+
+-- no piece came, and messages of desks were begun, and then one frame at most
+abbrev pub ServesNext : {V U C : Type 0} → DeskOf V → PeersOf U → (C → Option (List Happened)) → ℕ
+    → Option Why → Bool → Bool → Spot V U C → Spot V U C → Type 0
+ServesNext d p happened k cause spent later a b =
+    (begun : List Begun) × Goes d p happened k cause 0 begun a b × (s : Shares begun spent later)
+    × IsLeftOrDone s.last b.talk
+
+-- a write; or a read, where nothing is to be sent and all that came is served; or nothing
 abbrev pub Moves : {C : Type 0} → (C → Option (List Happened)) → ℕ → Option Why → C → C → Guarding
     → Guarding → Type 0
 Moves happened k cause c later old new =
     ((ok : Bool) × (cause ≡ broken ok) × Sends happened k ok c later old new)
-    ⊎ (WantsRead old × Reads happened k cause c later old new)
+    ⊎ ((WantsRead old × Reads happened k cause c later old new)
+    ⊎ ((cause ≡ None) × (new ≡ old) × Tells (happened c) (happened later) []))

@@ -1,5 +1,6 @@
 use Rattle.std.proofs.Common.{refl, ap, inr, List, ◌++◌}
 use Rattle.multiplex.specs.Requests.{Request}
+use Rattle.multiplex.specs.declared.dear.DearTurns.{DearTurns}
 use Rattle.multiplex.proofs.Shutting.{lobby_same}
 use Rattle.polled.proofs.Telling.{Tells-trans}
 use Rattle.multiplex.proofs.Stepping.{serves_all, serves_none}
@@ -18,7 +19,8 @@ returns-clause-served g c =
     c.serve_rounds-over.new.table c.let_all_go.new.table c.args.node.now
     c.serve_rounds-over.new.node c.args.links.now c.serve_rounds-over.new.links
     c.args.clients.now c.serve_rounds-over.new.clients c.let_all_go.new.clients
-    (lobby_same table.0 table.1 table.2 c.in-Ok.ensures.own refl) c.serve_rounds-over.ensures.does
+    (lobby_same table.0 table.1 table.2 c.in-Ok.ensures.own
+    (ap (λ (d : DearTurns). d.spent) c.in-Ok.ensures.dear) refl) c.serve_rounds-over.ensures.does
     (c.let_all_go.ensures.told (g.D.Desk.home_of c.args.node.now) c.args.terms over)
     c.let_all_go.ensures.empty
 
@@ -34,7 +36,7 @@ returns-clause-asks g c =
       inr
           (record {
             before = c.in-Ok.table;
-            fresh = (table.0, table.1, table.2, c.in-Ok.ensures.own);
+            fresh = (table.0, table.1, table.2, c.in-Ok.ensures.own, c.in-Ok.ensures.dear);
             after = c.serve_rounds-over.new.table;
             served = until.0;
             until = until.2;

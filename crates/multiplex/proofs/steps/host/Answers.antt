@@ -1,17 +1,56 @@
+use Rattle.std.proofs.Common.{refl, subst, ◌∷◌, []}
+use Rattle.multiplex.specs.Requests.{Watching}
 use Rattle.multiplex.specs.declared.ends.Why.TheVariants as why
-use Rattle.multiplex.proofs.Asked.{hosts_unwatched, hosts_watched}
+use Rattle.polled.specs.Telling.{Tells}
+use Rattle.multiplex.specs.Happenings.{watched}
+use Rattle.multiplex.specs.model.Scenes.{at_guest}
+use Rattle.multiplex.specs.Scenes.{scene}
+use Rattle.multiplex.proofs.Walking.{hosts_broken, hosts_on}
+use Rattle.multiplex.proofs.Asked.{hosts_ended, hosts_unwatched, hosts_watched}
 use Rattle.multiplex.proofs.steps.host.Goals as goal
+
+pub returns-in-Some-clause-asks : goal.returns-in-Some-clause-asks
+returns-in-Some-clause-asks g c =
+    hosts_ended g.C.Clients.requests c.args.clients.now c.talk_on.new.clients
+    c.args.guest.now.number c.args.guest.now.talk c.talk_on.new.talk _ c.in-Some.ensures.asks
 
 pub returns-then-watch-clause-asks : goal.returns-then-watch-clause-asks
 returns-then-watch-clause-asks g c =
     hosts_watched g.C.Clients.requests c.args.clients.now c.talk_on.new.clients
-    c.watch.new.self c.args.guest.now.number c.args.guest.now.talk.output
-    c.talk_on.new.talk.output c.wants_write.result c.watch.result c.in_default.ensures.asks
-    c.watch.ensures.requests c.wants_write.ensures c.if-watch.true
+    c.watch.new.self c.args.guest.now.number c.args.guest.now.talk c.talk_on.new.talk
+    c.wants_read.result _ c.watch.result c.in_default.ensures.asks
+    c.watch.ensures.requests c.wants_read.ensures refl c.if-watch.true
 
 pub returns-else-watch-clause-asks : goal.returns-else-watch-clause-asks
 returns-else-watch-clause-asks g c =
     hosts_unwatched g.C.Clients.requests c.args.clients.now c.talk_on.new.clients
-    c.watch.new.self c.args.guest.now.number c.args.guest.now.talk.output
-    c.talk_on.new.talk.output why.Broke c.wants_write.result c.watch.result
-    c.in_default.ensures.asks c.watch.ensures.requests c.if-watch.false
+    c.watch.new.self c.args.guest.now.number c.args.guest.now.talk c.talk_on.new.talk why.Broke
+    _ c.in_default.ensures.asks c.watch.ensures.requests
+
+pub returns-then-watch-clause-hosts : goal.returns-then-watch-clause-hosts
+returns-then-watch-clause-hosts g c =
+    let happened = g.C.Clients.happened in (
+      record { number = refl; ready = refl },
+      hosts_on g.D.Desk g.P.Peers happened c.args.guest.now.number c.args.dear.now.spent
+          c.talk_on.new.dear.spent
+          (at_guest (scene c.args.node.now c.args.peers.now c.args.clients.now) c.args.guest.now)
+          c.talk_on.new.node c.talk_on.new.peers c.talk_on.new.clients c.watch.new.self
+          c.talk_on.new.talk c.in_default.ensures.talks
+          (subst
+          (λ ok. Tells (happened c.talk_on.new.clients) (happened c.watch.new.self)
+          (watched c.args.guest.now.number ok)) c.if-watch.true c.watch.ensures.told),
+    )
+
+pub returns-else-watch-clause-hosts : goal.returns-else-watch-clause-hosts
+returns-else-watch-clause-hosts g c =
+    let happened = g.C.Clients.happened in (
+      record { number = refl; ready = refl },
+      hosts_broken g.D.Desk g.P.Peers happened c.args.guest.now.number c.args.dear.now.spent
+          c.talk_on.new.dear.spent
+          (at_guest (scene c.args.node.now c.args.peers.now c.args.clients.now) c.args.guest.now)
+          c.talk_on.new.node c.talk_on.new.peers c.talk_on.new.clients c.watch.new.self
+          c.talk_on.new.talk c.in_default.ensures.talks
+          (subst
+          (λ ok. Tells (happened c.talk_on.new.clients) (happened c.watch.new.self)
+          (watched c.args.guest.now.number ok)) c.if-watch.false c.watch.ensures.told),
+    )

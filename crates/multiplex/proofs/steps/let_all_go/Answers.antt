@@ -8,14 +8,20 @@ pub loop-guest-preserved : goal.loop-guest-preserved
 loop-guest-preserved g c =
     let table = c.loop-guest.table in
     let left : Table =
-    record { guests = c.pop.new.self; next = table.next; time = table.time; own = table.own } in
+    record {
+      guests = c.pop.new.self;
+      next = table.next;
+      time = table.time;
+      own = table.own;
+      dear = table.dear;
+    } in
     let requests = g.C.Clients.requests in
     let gone = c.in-Some.guest in
     record {
       told = λ home t over.
           empties_more g.C.Clients.happened home t over c.args.table.now table left
           c.in-Some.guest c.args.clients.now c.loop-guest.clients c.close.new.self
-          c.in-Some.ensures.items refl refl refl
+          c.in-Some.ensures.items refl refl refl refl
           (c.loop-guest.invariant.told home t over) c.close.ensures.told;
       asks = ends_more requests c.args.clients.now c.loop-guest.clients c.close.new.self
           c.args.table.now.guests.items table.guests.items c.pop.new.self.items gone
@@ -26,9 +32,15 @@ pub returns-clause-told : goal.returns-clause-told
 returns-clause-told g c home t over =
     let table = c.loop-guest.table in
     empties_same g.C.Clients.happened home t over c.args.table.now table
-    (record { guests = c.pop.new.self; next = table.next; time = table.time; own = table.own })
+    (record {
+      guests = c.pop.new.self;
+      next = table.next;
+      time = table.time;
+      own = table.own;
+      dear = table.dear;
+    })
     c.args.clients.now c.loop-guest.clients
-    c.in_default.ensures.items refl refl refl
+    c.in_default.ensures.items refl refl refl refl
     (c.loop-guest.invariant.told home t over)
 
 pub returns-clause-asks : goal.returns-clause-asks

@@ -21,6 +21,7 @@ returns-clause-shut g c =
         next = refl;
         time = refl;
         own = refl;
+        dear = refl;
         ends = c.over_by.ensures ∙ ap over_by c.end.ensures;
         told = c.close.ensures.told;
       },

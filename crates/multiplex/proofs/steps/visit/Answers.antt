@@ -27,7 +27,7 @@ returns-in-None-clause-answers g c =
     met home c.args.terms.wire c.args.number table place old new
     (sym c.place_of.ensures ∙ c.in-Some.is) c.index_mut-guest.ensures.value c.requires.kept in
     answers_stay g.D.Desk g.P.Peers g.C.Clients.happened home c.args.terms c.args.number place
-    table (turned table place new) old new at.before at.after
+    table (turned table place new c.host.new.dear) old new at.before at.after
     (scene c.args.node.now c.args.peers.now c.args.clients.now)
     (scene c.host.new.node c.host.new.peers c.host.new.clients) at.split at.number at.same refl
     refl refl refl c.in-None.ensures.hosts
@@ -43,8 +43,8 @@ returns-in-Some-host-clause-answers g c =
     met home c.args.terms.wire c.args.number table place old new
     (sym c.place_of.ensures ∙ c.in-Some.is) c.index_mut-guest.ensures.value c.requires.kept in
     answers_leave g.D.Desk g.P.Peers g.C.Clients.happened home c.args.terms c.args.number
-    c.in-Some-host.field-0 place c.shut.result table (turned table place new) c.shut.new.table old
-    new at.before at.after (scene c.args.node.now c.args.peers.now c.args.clients.now)
+    c.in-Some-host.field-0 place c.shut.result table (turned table place new c.host.new.dear)
+    c.shut.new.table old new at.before at.after (scene c.args.node.now c.args.peers.now c.args.clients.now)
     c.host.new.node c.host.new.peers c.host.new.clients c.shut.new.clients at.split at.number
     at.same refl refl refl refl c.in-Some-host.ensures.hosts c.shut.ensures.shut
 
@@ -59,8 +59,8 @@ returns-in-Some-host-clause-kept g c =
     met home c.args.terms.wire c.args.number table place old new
     (sym c.place_of.ensures ∙ c.in-Some.is) c.index_mut-guest.ensures.value c.requires.kept in
     leave_keeps g.C.Clients.happened home c.args.terms.wire place c.shut.result table
-    (turned table place new) c.shut.new.table old new at.before at.after c.host.new.clients
-    c.shut.new.clients at.split refl refl refl refl c.shut.ensures.shut c.requires.kept
+    (turned table place new c.host.new.dear) c.shut.new.table old new at.before at.after
+    c.host.new.clients c.shut.new.clients at.split refl refl refl refl c.shut.ensures.shut c.requires.kept
 
 pub returns-in_default-clause-asks : goal.returns-in_default-clause-asks
 returns-in_default-clause-asks g c =
@@ -78,9 +78,9 @@ returns-in-None-clause-asks g c =
     let at =
     met home c.args.terms.wire c.args.number table place old new
     (sym c.place_of.ensures ∙ c.in-Some.is) c.index_mut-guest.ensures.value c.requires.kept in
-    let items = (turned table place new).guests.items in
+    let items = (turned table place new c.host.new.dear).guests.items in
     asks_as g.C.Clients.requests c.args.clients.now c.host.new.clients
-    (AsksHosted old.number old.talk.output new.talk.output None)
+    (AsksHosted old.number old.talk new.talk None)
     (Attends c.args.number table.guests.items items)
     (λ xs h.
     attends_stay c.args.number place table items old new at.before at.after xs at.split at.number
@@ -98,13 +98,13 @@ returns-in-Some-host-clause-asks g c =
     met home c.args.terms.wire c.args.number table place old new
     (sym c.place_of.ensures ∙ c.in-Some.is) c.index_mut-guest.ensures.value c.requires.kept in
     let w = c.in-Some-host.field-0 in
-    let mid = turned table place new in
+    let mid = turned table place new c.host.new.dear in
     let left =
     leaving g.C.Clients.happened place c.shut.result table mid c.shut.new.table old new at.before
     at.after c.host.new.clients c.shut.new.clients at.split refl refl refl refl
     c.shut.ensures.shut in
     asks_both g.C.Clients.requests c.args.clients.now c.host.new.clients c.shut.new.clients
-    (AsksHosted old.number old.talk.output new.talk.output (Some w))
+    (AsksHosted old.number old.talk new.talk (Some w))
     (ClosesAt place mid.guests.items)
     (Attends c.args.number table.guests.items c.shut.new.table.guests.items)
     (λ xs ys h k.
