@@ -473,9 +473,11 @@ class Pages:
                       and self.may_leave(self.meet.rounds[what, which], who)]
             if rounds:
                 out += ("<h2>Withdraw</h2>\n<p>From a round that is open, before the first attempt "
-                        "in it. From a later round it can't be taken back: the best of the round "
-                        "before who has a result, did not go on and has not taken a place yet "
-                        "takes the place.</p>\n" + self.form(1, "WDR", back) + number
+                        "in it. From a first round it is taken back by entering the competitor "
+                        'once more, under <a href="/people">competitors</a>. From a later round it '
+                        "can't be taken back: the best of the round before who has a result, did "
+                        "not go on and has not taken a place yet takes the place.</p>\n"
+                        + self.form(1, "WDR", back) + number
                         + "".join(f'<button name="round" value="{what}-{which}">Withdraw from '
                                   f"{self.words(what, which)}</button>\n"
                                   for what, which in rounds) + "</form>\n")
@@ -518,7 +520,7 @@ class Pages:
                     f"{words}</label>\n")
         out += ("<button>Look at it</button></form>\n<h2>Lines of commands</h2>\n"
                 '<form method="post" action="/lines" autocomplete="off">\n' + carried[1]
-                + "<label>One command a line, as in REG 17 Ann Li "
+                + hidden("back", "/import") + "\n<label>One command a line, as in REG 17 Ann Li "
                 '<textarea name="lines" rows="12" cols="60"></textarea></label>\n'
                 "<button>Look at them</button></form></section>\n")
         return self.page("hall", "From a file or from lines", out + self.recent())
@@ -535,16 +537,30 @@ class Pages:
                 for text, why in refused) + "</ol>\n"
         if entered:
             out += "<h2>To enter</h2>\n<ol>\n" + "".join(
-                f"<li><code>{escaped(text)}</code></li>\n" for text in entered) + "</ol>\n"
+                f"<li><code>{escaped(text)}</code>{self.leaver(text)}</li>\n"
+                for text in entered) + "</ol>\n"
             out += self.lines_form("/commands", 0, "/import", entered,
                                    f"Enter {len(entered)} {several}")
         return self.page("hall", "What would be entered", (
-            out + '<p><a href="/import">Another file, or other lines</a></p></section>\n'))
+            out + '<p><a href="/import">Back, and enter nothing</a></p></section>\n'))
+
+    def leaver(self, text):
+        """The name of whom a command withdraws."""
+        word, *fields = text.split(" # ")[0].split(" ")
+        return f" <bdi>{self.name(int(fields[2]))}</bdi>" if word == "WDR" else ""
+
+    def to_come(self, where, table):
+        """Who of the round before waits for a place in this one, and is not in it."""
+        what, which = where.split("-")
+        before = self.meet.rounds.get((what, int(which) - 1))
+        advancing = before.advancing() if before else []
+        return [who for who in (before.standings() if before else [])
+                if who not in advancing and rules.numbers(before.entrants[who])
+                and who not in table.entrants]
 
     def never_came(self, where, table):
-        lines = [f"WDR {where.replace('-', ' ')} {who}"
-                 for who in self.with_progress(table, "absent")]
-        if not lines:
+        absent = self.with_progress(table, "absent")
+        if not absent:
             return ""
         if self.meet.edition < 4:
             return '<p>With <a href="/rounds">edition 4</a> they could be withdrawn.</p>\n'
@@ -554,14 +570,21 @@ class Pages:
         else:
             undone = ("It can't be taken back: the best of the round before who has a result, did "
                       "not go on and has not taken a place yet takes the place, and stands here "
-                      "until the first attempt. With DNS for each attempt, on the card, the place "
-                      "stays empty instead.")
-        return ("<p>Who never came is withdrawn, and has no result in this round then. " + undone
-                + " If one of these still comes, withdraw each of the others on the page of that "
-                "competitor. The button enters nothing yet: it shows one command for each of "
-                "these.</p>\n"
-                + self.lines_form("/lines", 16, f"/rounds?round={where}", lines,
-                                  "Withdraw who never came"))
+                      "until the first attempt.")
+        forms = [("<p>Who never came is withdrawn, and has no result in this round then. " + undone
+                  + " If one of these still comes, withdraw each of the others on the page of that "
+                  "competitor. The button enters nothing yet: it shows each command, with the "
+                  "name.</p>\n", 16, absent, "Withdraw who never came")]
+        if others := self.to_come(where, table):
+            forms.append(("<p>Where nobody is to come any more, whoever would take a place is "
+                          "withdrawn too, one after the other, and the places stay empty. That "
+                          "can't be taken back either. This button enters nothing yet too.</p>\n",
+                          17, absent + others, "Withdraw these and all who wait"))
+        return "".join(
+            words + self.lines_form("/lines", form, f"/rounds?round={where}",
+                                    [f"WDR {where.replace('-', ' ')} {who}" for who in numbers],
+                                    button)
+            for words, form, numbers, button in forms)
 
     # ---- rounds
 

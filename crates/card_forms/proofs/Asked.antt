@@ -105,6 +105,16 @@ fills_all b pairs ks i vs end so_far =
 
 -- ---- the command of a form
 
+-- values of a row's fields make a command
+pub always_made : (pairs : List Pair) (word : List ℕ) (row : TheRow) (vs : List FieldValue)
+    → row_named word ≡ Some row → HasAll pairs row.fields vs → IsMade (row.tag, vs)
+always_made pairs word row vs is has =
+    let it = named_row word row is in
+    let of : AreOf (fields_in (row_of row.tag)) vs =
+    subst (λ (o : Option TheRow). AreOf (fields_in o) vs) (sym it.is)
+    (are_of _ pairs row.fields vs has) in
+    subst (λ (ws : List FieldValue). IsMade (row.tag, ws)) (sym of.1) (makes row.tag of.0)
+
 -- the command that these values make is the one that is asked for
 pub asked : (pairs : List Pair) (word : List ℕ) (row : TheRow) (vs : List FieldValue)
     (command : Command)
@@ -112,11 +122,7 @@ pub asked : (pairs : List Pair) (word : List ℕ) (row : TheRow) (vs : List Fiel
     → made_of (row.tag, vs) ≡ Some command → IsAsked pairs word command
 asked pairs word row vs command is form has made =
     let it = named_row word row is in
-    let of : AreOf (fields_in (row_of row.tag)) vs =
-    subst (λ (o : Option TheRow). AreOf (fields_in o) vs) (sym it.is)
-    (are_of _ pairs row.fields vs has) in
-    let m : IsMade (row.tag, vs) =
-    subst (λ (ws : List FieldValue). IsMade (row.tag, ws)) (sym of.1) (makes row.tag of.0) in
+    let m : IsMade (row.tag, vs) = always_made pairs word row vs is has in
     let same : m.command ≡ command =
     (let e : Some m.command ≡ Some command = sym m.is ∙ made in cc) in
     let parts_are : (let p : Parts = (row.tag, vs) in p) ≡ parts command =

@@ -1,3 +1,5 @@
 pub mod Asked
 pub mod FiveFields
 pub mod SameCards
+pub mod Lacking
+pub mod Refused

@@ -57,8 +57,10 @@ HasAttempt pairs attempt = HasNumber (codes "attempt") 1 5 pairs attempt
 abbrev pub HasName : List Pair → List ℕ → Type 0
 HasName pairs name = name ≡ field (codes "name") pairs
 
+-- at most 400 moves
 abbrev pub HasMoves : List Pair → List Move → Type 0
-HasMoves pairs moves = SpellsMoves (field (codes "moves") pairs) moves
+HasMoves pairs moves =
+    SpellsMoves (field (codes "moves") pairs) moves × (length moves ≤ 400)
 
 -- an event and a round are one field of the form
 abbrev pub the_round : List Pair → Option RoundId
@@ -93,11 +95,14 @@ IsClock text time = Spells measure.Time text (entered.Time time 0) × (time ≤ 
 abbrev pub is_none : List ℕ → Bool
 is_none text = length text == 0 || bytes_eq text (codes "-")
 
+abbrev pub IsNumberBelow : List ℕ → ℕ → Type 0
+IsNumberBelow text below = number_between 1 360000 text ≡ Some below
+
 -- what an attempt has to be below, in the event's unit
 abbrev pub IsBelow : Measure → List ℕ → ℕ → Type 0
 IsBelow measure.Time text below = IsClock text below
-IsBelow measure.Moves text below = number_between 1 360000 text ≡ Some below
-IsBelow measure.Multi text below = number_between 1 360000 text ≡ Some below
+IsBelow measure.Moves text below = IsNumberBelow text below
+IsBelow measure.Multi text below = IsNumberBelow text below
 
 -- no cutoff where neither field has anything
 abbrev pub HasCutoff : List Pair → Event → Option (ℕ × ℕ) → Type 0
@@ -173,11 +178,14 @@ abbrev pub IsAsked : List Pair → List ℕ → Command → Type 0
 IsAsked pairs word command =
     (slice_get (words_of command) 0 ≡ Some word) × HasFields pairs command
 
--- a text is the spelling of the command that the fields ask for
+-- a text is the spelling of the command of this word that the fields ask for
+abbrev pub WordAsks : List Pair → List ℕ → List ℕ → Type 0
+WordAsks pairs word text =
+    (command : Command) × IsAsked pairs word command × (text ≡ spelling command)
+
+-- the same of the word in the field `command`
 abbrev pub FieldsAsk : List Pair → List ℕ → Type 0
-FieldsAsk pairs text =
-    (command : Command) × IsAsked pairs (field (codes "command") pairs) command
-    × (text ≡ spelling command)
+FieldsAsk pairs text = WordAsks pairs (field (codes "command") pairs) text
 
 -- by whether the field `text` is empty: the command that the fields ask for, or that text
 abbrev pub AsksBy : Bool → List Pair → List ℕ → Type 0

@@ -4,3 +4,4 @@ pub mod Cards
 pub mod Readings
 pub mod Asking
 pub mod Entries
+pub mod Faults

@@ -1,7 +1,7 @@
 -- The fields of a card, read.
 use Rattle.std.specs.Prelude.{◌≡◌, ℕ, suc, ◌+◌, ◌==◌, ◌&&◌, if◌then◌else◌, List, [], ◌∷◌}
-use Rattle.std.specs.Prelude.{length, Bool, true, false, not, bytes_eq, drop, flat_map, map, nat_lt, position}
-use Rattle.std.specs.Prelude.{slice_get, unwrap_or}
+use Rattle.std.specs.Prelude.{length, Bool, true, false, not, bytes_eq, drop, flat_map, map, nat_lt}
+use Rattle.std.specs.Prelude.{position, slice_get, unwrap_or}
 use Rattle.std.specs.Prelude.{Option, None, Some, Result, Ok, Err}
 use Rattle.std.specs.List.{list_all, list_any}
 use Rattle.std.specs.Option.{ok_or, option_and_then, option_map}

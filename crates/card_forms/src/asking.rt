@@ -1,9 +1,13 @@
 //! Commands, from their forms.
 
-ghost use Rattle.std.specs.Prelude.{◌≡◌, ◌↔◌, codes, Err, IfOk, None, Some};
+ghost use Rattle.std.specs.Prelude.{◌≡◌, ◌↔◌, codes, Err, IfErr, IfOk, None, Some, true};
+ghost use Rattle.std.specs.List.{list_any};
 ghost use Rattle.texts.specs.Table.{plain, row_named};
-ghost use Rattle.card_forms.specs.Asking.{Asks, FieldsAsk, IsAsked, IsCommandText, has_form};
+ghost use Rattle.card_forms.specs.Asking.{Asks, FieldsAsk, IsAsked, IsCommandText, WordAsks};
+ghost use Rattle.card_forms.specs.Asking.{has_form};
 ghost use Rattle.card_forms.specs.Cards.{form_id_of};
+ghost use Rattle.card_forms.specs.Faults.{Blames, IsFault, IsNoCommand, IsSaid, IsWrong, IsWrongBy};
+ghost use Rattle.card_forms.specs.Faults.{IsWrongIf, blamed, has_no_text, is_moves, is_name};
 ghost use Rattle.card_forms.specs.Pairs.{value_of};
 
 use crate::cards::form_id_of;
@@ -28,8 +32,7 @@ pub struct CommandForm {
 /// The text of a command, and the field that is to blame where it is no command.
 struct Asked {
     text: Vec<u8>,
-    last: Field,
-    why: Wrong,
+    blamed: (Field, Wrong),
 }
 
 /// The commands that have a form; all others have none.
@@ -63,7 +66,10 @@ fn command_of(
     pairs: &Pairs,
 ) -> Result<Command, FieldFault>
     requires { row_named word.now ≡ Some (plain row.now) }
-    ensures { IfOk result (IsAsked pairs.now word.now) }
+    ensures asked { IfOk result (IsAsked pairs.now word.now) }
+    ensures form { IfOk result (λ command. has_form row.now.tag ≡ true) }
+    ensures wrong { IfErr result (IsSaid
+        (IsWrongIf (has_form row.now.tag) pairs.now (plain row.now).fields)) }
 {
     if !has_form(row.tag) {
         return Err(FieldFault::NO_FORM);
@@ -75,31 +81,84 @@ fn command_of(
     }
 }
 
-/// The field of a command that is to blame where its text is none, and why: all others are in their
-/// ranges.
-fn blamed(kinds: &[FieldKind]) -> (Field, Wrong) {
-    match kinds.last() {
-        Some(FieldKind::Name | FieldKind::NewName) => (Field::Name, Wrong::NotAName),
-        Some(FieldKind::Moves) => (Field::Moves, Wrong::NotMoves),
-        _ => (Field::Command, Wrong::NotACommand),
+fn is_name(kind: FieldKind) -> bool
+    ensures { result ≡ is_name kind }
+{
+    matches!(kind, FieldKind::Name | FieldKind::NewName)
+}
+
+fn is_moves(kind: FieldKind) -> bool
+    ensures { result ≡ is_moves kind }
+{
+    matches!(kind, FieldKind::Moves)
+}
+
+fn has_name(kinds: &[FieldKind]) -> bool
+    ensures { result ≡ list_any is_name kinds.now }
+{
+    kinds.iter().any(|kind| is_name(*kind))
+}
+
+fn has_moves(kinds: &[FieldKind]) -> bool
+    ensures { result ≡ list_any is_moves kinds.now }
+{
+    kinds.iter().any(|kind| is_moves(*kind))
+}
+
+/// What is to blame where the text of a command of these fields is none, each of which has a value:
+/// its name, or else its moves.
+fn blamed(kinds: &[FieldKind]) -> (Field, Wrong)
+    ensures { result ≡ blamed kinds.now }
+{
+    if has_name(kinds) {
+        (Field::Name, Wrong::NotAName)
+    } else if has_moves(kinds) {
+        (Field::Moves, Wrong::NotMoves)
+    } else {
+        (Field::Command, Wrong::NotACommand)
     }
+}
+
+/// The text of the command of a word and its row that the fields ask for.
+fn asked_by_row(
+    alloc: Global,
+    pairs: &Pairs,
+    word: &[u8],
+    row: &CommandRow,
+) -> Result<Asked, FieldFault>
+    requires { row_named word.now ≡ Some (plain row.now) }
+    ensures asks { IfOk result (λ asked. WordAsks pairs.now word.now asked.text.items) }
+    ensures form { IfOk result (λ asked. has_form row.now.tag ≡ true) }
+    ensures blamed { IfOk result (λ asked. asked.blamed ≡ blamed (plain row.now).fields) }
+    ensures wrong { IfErr result (IsSaid
+        (IsWrongIf (has_form row.now.tag) pairs.now (plain row.now).fields)) }
+{
+    let command = command_of(alloc, word, row, pairs)?;
+    let text = print(alloc, &command)?;
+    Ok(Asked {
+        text,
+        blamed: blamed(row.fields),
+    })
 }
 
 /// The text of the command that the fields ask for.
 fn asked_by_fields(alloc: Global, pairs: &Pairs) -> Result<Asked, FieldFault>
-    ensures { IfOk result (λ asked. FieldsAsk pairs.now asked.text.items) }
+    ensures asks { IfOk result (λ asked. FieldsAsk pairs.now asked.text.items) }
+    ensures blamed { IfOk result (λ asked. Blames true pairs.now asked.blamed) }
+    ensures wrong { IfErr result (IsSaid (IsWrongBy true pairs.now)) }
 {
     let word = trimmed(pairs.value("command"));
-    let row = row_named(word).ok_or(FieldFault::NO_FORM)?;
-    let command = command_of(alloc, word, row, pairs)?;
-    let text = print(alloc, &command)?;
-    let (last, why) = blamed(row.fields);
-    Ok(Asked { text, last, why })
+    match row_named(word) {
+        Some(row) => asked_by_row(alloc, pairs, word, row),
+        None => Err(FieldFault::NO_FORM),
+    }
 }
 
 /// The text of the command that a form asks for.
 fn asked_by(alloc: Global, pairs: &Pairs) -> Result<Asked, FieldFault>
-    ensures { IfOk result (λ asked. Asks pairs.now asked.text.items) }
+    ensures asks { IfOk result (λ asked. Asks pairs.now asked.text.items) }
+    ensures blamed { IfOk result (λ asked. Blames (has_no_text pairs.now) pairs.now asked.blamed) }
+    ensures wrong { IfErr result (IsSaid (IsWrong pairs.now)) }
 {
     let text = trimmed(pairs.value("text"));
     if text.is_empty() {
@@ -108,8 +167,7 @@ fn asked_by(alloc: Global, pairs: &Pairs) -> Result<Asked, FieldFault>
     let text = Vec::from_slice(alloc, text)?;
     Ok(Asked {
         text,
-        last: Field::Text,
-        why: Wrong::NotACommand,
+        blamed: (Field::Text, Wrong::NotACommand),
     })
 }
 
@@ -117,22 +175,23 @@ fn asked_by(alloc: Global, pairs: &Pairs) -> Result<Asked, FieldFault>
 fn checked(alloc: Global, asked: Asked) -> Result<CommandText, FieldFault>
     ensures command { IfOk result IsCommandText }
     ensures same { IfOk result (λ text. text ≡ asked.text.items) }
+    ensures wrong { IfErr result (IsSaid (IsNoCommand asked.blamed asked.text.items)) }
 {
-    let Asked { text, last, why } = asked;
+    let Asked { text, blamed } = asked;
+    let (field, why) = blamed;
     match read(alloc, &text) {
         Ok(_) => CommandText::new(text).ok_or(FieldFault::Wrong {
-            field: last,
+            field,
             why: Wrong::TooLong,
         }),
         Err(CommandFault::NoMemory) => Err(FieldFault::NoMemory),
         Err(CommandFault::TooLong) => Err(FieldFault::Wrong {
-            field: last,
+            field,
             why: Wrong::TooLong,
         }),
-        Err(CommandFault::NotACommand | CommandFault::BadField { .. }) => Err(FieldFault::Wrong {
-            field: last,
-            why,
-        }),
+        Err(CommandFault::NotACommand | CommandFault::BadField { .. }) => {
+            Err(FieldFault::Wrong { field, why })
+        }
     }
 }
 
@@ -164,6 +223,9 @@ pub fn command_form(alloc: Global, pairs: &Pairs) -> Result<CommandForm, Command
     // The fault is this one exactly where the form has no id.
     ensures bad_id { (result ≡ Err CommandFormFault.BadId)
         ↔ (form_id_of (value_of (codes "id") pairs.now) ≡ None) }
+    // The fault says what is wrong, and with which field; then no text that is asked for is a
+    // command.
+    ensures wrong { IfErr result (IsFault pairs.now) }
 {
     let id = form_id_of(pairs.value("id")).ok_or(CommandFormFault::BadId)?;
     let asked = asked_by(alloc, pairs)?;

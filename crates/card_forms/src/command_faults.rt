@@ -1,6 +1,10 @@
 //! What is wrong with a command's form.
 
+ghost use Rattle.std.specs.Prelude.{◌≡◌};
+ghost use Rattle.card_forms.specs.Faults.{field_name};
+
 use std::alloc::AllocError;
+use std::fmt;
 use thiserror::Error;
 
 /// A field of a command's form.
@@ -36,46 +40,97 @@ pub enum Field {
     Text,
 }
 
+impl fmt::Display for Field {
+    ghost use Rattle.std.specs.Prelude.{Some};
+    ghost use Rattle.card_forms.specs.Faults.{field_name};
+
+    ghost output = { λ field. Some (field_name field) };
+
+    fn fmt<W: fmt::Write>(&self, f: &mut fmt::Formatter<W>) -> fmt::Result {
+        f.write_str(name_of(*self))
+    }
+}
+
+/// The name of a field in the form.
+fn name_of(field: Field) -> &'static str
+    ensures { result.now ≡ field_name field }
+{
+    match field {
+        Field::Command => "command",
+        Field::Number => "number",
+        Field::Name => "name",
+        Field::Event => "event",
+        Field::Round => "round",
+        Field::Format => "format",
+        Field::After => "after",
+        Field::Cutoff => "cutoff",
+        Field::Limit => "limit",
+        Field::Advance => "advance",
+        Field::Amount => "amount",
+        Field::Attempt => "attempt",
+        Field::Moves => "moves",
+        Field::Text => "text",
+    }
+}
+
 /// What is wrong with a field of a command's form. Its text is a few words for the scoretaker.
-#[derive(Clone, Copy, Debug, PartialEq, Eq, Error)]
+#[derive(Clone, Copy, Debug, PartialEq, Eq)]
 pub enum Wrong {
-    /// There is nothing but spaces.
-    #[error("nothing is written")]
-    Empty,
-    /// The word is no command's.
-    #[error("there is no such command")]
+    /// The word is no command's, or the command has no form.
     NoSuchCommand,
     /// It is no number of this range.
-    #[error("a number of {low} to {high}")]
     NotBetween { low: u32, high: u32 },
     /// It is no name of a competitor in any edition; or, in `REN`, it is none in edition 3.
-    #[error("a name has 1 to 160 bytes that are seen, no quote mark, one space between its parts")]
     NotAName,
     /// It is the name of no event.
-    #[error("there is no such event")]
     NotAnEvent,
     /// It is no event and round, as `333-1`.
-    #[error("there is no such round")]
     NotARound,
     /// It is the name of no format.
-    #[error("there is no such format")]
     NotAFormat,
     /// It is no time.
-    #[error("a time is like 10.43 or 1:02.33")]
     NotATime,
     /// It is neither `top`, `pct` nor `final`.
-    #[error("top, pct or final")]
     NotAnAdvance,
     /// It is not the tokens of 1 to 400 moves.
-    #[error("moves are like R U' F2 Rw x")]
     NotMoves,
     /// The text is no command.
-    #[error("this is no command")]
     NotACommand,
     /// The command would have more than 600 bytes.
-    #[error("too long")]
     TooLong,
 }
+
+impl fmt::Display for Wrong {
+    ghost use Rattle.std.specs.Prelude.{Some};
+    ghost use Rattle.card_forms.specs.Faults.{wrong_words};
+
+    ghost output = { λ wrong. Some (wrong_words wrong) };
+
+    fn fmt<W: fmt::Write>(&self, f: &mut fmt::Formatter<W>) -> fmt::Result {
+        match self {
+            Wrong::NoSuchCommand => f.write_str("there is no such command"),
+            Wrong::NotBetween { low, high } => {
+                f.write_str("a number of ")?;
+                low.fmt(f)?;
+                f.write_str(" to ")?;
+                high.fmt(f)
+            }
+            Wrong::NotAName => f.write_str(NAME_WORDS),
+            Wrong::NotAnEvent => f.write_str("there is no such event"),
+            Wrong::NotARound => f.write_str("there is no such round"),
+            Wrong::NotAFormat => f.write_str("there is no such format"),
+            Wrong::NotATime => f.write_str("a time is like 10.43 or 1:02.33"),
+            Wrong::NotAnAdvance => f.write_str("top, pct or final"),
+            Wrong::NotMoves => f.write_str("moves are like R U' F2 Rw x"),
+            Wrong::NotACommand => f.write_str("this is no command"),
+            Wrong::TooLong => f.write_str("too long"),
+        }
+    }
+}
+
+/// What is said of a text that is no name.
+const NAME_WORDS: &str =
+    "a name has 1 to 160 bytes that are seen, no quote mark, one space between its parts";
 
 /// Why a form asks for no command.
 #[derive(Clone, Copy, Debug, PartialEq, Eq, Error)]
@@ -84,7 +139,7 @@ pub enum CommandFormFault {
     #[error("the form has no id")]
     BadId,
     /// A field is wrong: the first one, in the order of the command's fields.
-    #[error("{why}")]
+    #[error("{field}: {why}")]
     Wrong { field: Field, why: Wrong },
     /// Memory ran out.
     #[error("no memory")]
@@ -92,10 +147,10 @@ pub enum CommandFormFault {
 }
 
 impl From<FieldFault> for CommandFormFault {
-    ghost use Rattle.std.specs.Prelude.{◌≢◌};
-    ghost use Rattle.card_forms.specs.declared.command_faults.CommandFormFault.TheVariants.{BadId};
+    ghost use Rattle.std.specs.Prelude.{◌≡◌};
+    ghost use Rattle.card_forms.specs.Faults.{form_fault};
 
-    ghost from_gives = { λ _ fault. fault ≢ BadId };
+    ghost from_gives = { λ at fault. fault ≡ form_fault at };
 
     fn from(fault: FieldFault) -> CommandFormFault {
         match fault {

@@ -1,7 +1,8 @@
 //! The values of a command's fields, from its form.
 
-ghost use Rattle.std.specs.Prelude.{◌≡◌, ◌≤◌, IfOk, length};
+ghost use Rattle.std.specs.Prelude.{◌≡◌, ◌≤◌, IfErr, IfOk, length};
 ghost use Rattle.card_forms.specs.Asking.{HasAll, HasValue, has_round, is_round};
+ghost use Rattle.card_forms.specs.Faults.{IsFirstLacking, IsLacking, IsSaid};
 
 use crate::command_faults::FieldFault;
 use crate::command_fields::{
@@ -22,7 +23,8 @@ fn value(
     by_round: bool,
     kind: FieldKind,
 ) -> Result<FieldValue, FieldFault>
-    ensures { IfOk result (HasValue by_round pairs.now kind) }
+    ensures value { IfOk result (HasValue by_round pairs.now kind) }
+    ensures lacks { IfErr result (IsSaid (IsLacking by_round pairs.now kind)) }
 {
     match kind {
         FieldKind::Number => Ok(FieldValue::Number(competitor(pairs)?)),
@@ -63,7 +65,9 @@ pub(crate) fn values(
     kinds: &[FieldKind],
 ) -> Result<Values, FieldFault>
     requires { length kinds.now ≤ 6 }
-    ensures { IfOk result (λ vs. HasAll pairs.now kinds.now vs.items) }
+    ensures values { IfOk result (λ vs. HasAll pairs.now kinds.now vs.items) }
+    ensures lacks { IfErr result
+        (IsSaid (IsFirstLacking (has_round kinds.now) pairs.now kinds.now)) }
 {
     let by_round = has_round(kinds);
     let mut values = ArrayVec::new();

@@ -26,7 +26,8 @@ file_end =
 
 unfoldable pub lines_end : List ℕ
 lines_end =
-    codes "<label>One command a line, as in REG 17 Ann Li "
+    codes "<input type=\"hidden\" name=\"back\" value=\"/import\">\n"
+    ++ codes "<label>One command a line, as in REG 17 Ann Li "
     ++ codes "<textarea name=\"lines\" rows=\"12\" cols=\"60\"></textarea></label>\n"
     ++ codes "<button>Look at them</button></form></section>\n"
 

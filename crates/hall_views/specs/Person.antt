@@ -68,13 +68,18 @@ leave_event accepted number event =
 abbrev pub leave_buttons : List Command → ℕ → List ℕ
 leave_buttons accepted number = flat_map (leave_event accepted number) all_events
 
--- a form with these buttons, and the rule of who takes the place
+abbrev pub withdrawing_head : List ℕ
+withdrawing_head =
+    codes "<h2>Withdraw</h2>\n<p>From a round that is open, before the first attempt in it. From a "
+    ++ codes "first round it is taken back by entering the competitor once more, under "
+    ++ codes "<a href=\"/people\">competitors</a>. From a later round it can't be taken back: the "
+    ++ codes "best of the round before who has a result, did not go on and has not taken a place "
+    ++ codes "yet takes the place.</p>\n"
+
+-- a form with these buttons, what becomes of it, and the rule of who takes the place
 unfoldable pub withdrawing : List ℕ → ℕ → ℕ → List ℕ → List ℕ
 withdrawing token form number buttons =
-    codes "<h2>Withdraw</h2>\n<p>From a round that is open, before the first attempt in it. From a "
-    ++ codes "later round it can't be taken back: the best of the round before who has a result, "
-    ++ codes "did not go on and has not taken a place yet takes the place.</p>\n"
-    ++ person_form token form (codes "WDR") number ++ buttons ++ codes "</form>\n"
+    withdrawing_head ++ person_form token form (codes "WDR") number ++ buttons ++ codes "</form>\n"
 
 -- no form where there is no button
 abbrev pub withdrawing_if : List ℕ → ℕ → ℕ → List ℕ → List ℕ

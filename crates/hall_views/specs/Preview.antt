@@ -1,14 +1,22 @@
 -- The page that shows which commands would be entered.
 use Rattle.std.specs.Prelude.{ℕ, ◌-◌, Bool, true, false, if◌then◌else◌, nat_lt, List, [], ◌∷◌, ◌++◌}
 use Rattle.std.specs.Prelude.{codes, count_by, decimal, flat_map, get_or, length}
+use Rattle.std.specs.Prelude.{Option, None, Some, Result, Ok, Err}
 use Rattle.markup.specs.board_page.Escaped.{escaped}
 use Rattle.texts.specs.meanings.Meanings.{meaning_of}
+use Rattle.texts.specs.Reading.{command_of}
+use Rattle.texts.specs.declared.command.Command.{Command}
+use Rattle.texts.specs.declared.command.Command.TheVariants.{Withdraw}
+use Rattle.texts.specs.declared.command.Remarked.{Remarked}
+use Rattle.texts.specs.declared.reading.CommandFault.{CommandFault}
 use Rattle.texts.specs.declared.answer.Answer.{Answer}
 use Rattle.texts.specs.declared.answer.Answer.TheVariants.{Done, Refused}
 use Rattle.texts.specs.declared.answer.Code.{Code}
 use Rattle.markup.specs.Pieces.{joined}
 use Rattle.table_views.specs.declared.around.Around.{Around}
 use Rattle.table_views.specs.Frame.{top, bottom}
+use Rattle.table_views.specs.Logs.{accepted_in}
+use Rattle.table_views.specs.People.{name_in}
 use Rattle.hall_views.specs.declared.preview.Tried.{Tried}
 use Rattle.hall_views.specs.Forms.{commands_word}
 use Rattle.hall_views.specs.Lines.{enters, line, lines_form}
@@ -35,11 +43,36 @@ refused_if text (Refused code) = refused_item text code
 abbrev pub refused_line : Tried → List ℕ
 refused_line tried = refused_if tried.text.now tried.answer
 
-abbrev pub entered_item : List ℕ → List ℕ
-entered_item text = joined (codes "<li><code>" ∷ escaped text ∷ codes "</code></li>\n" ∷ [])
+-- who is withdrawn by a command, if it is one that withdraws
+abbrev pub leaver_of : Command → Option ℕ
+leaver_of (Withdraw id number) = Some number
+leaver_of _ = None
 
-abbrev pub entered_line : Tried → List ℕ
-entered_line tried = if would_enter tried then entered_item tried.text.now else []
+abbrev pub leaver_told : Result Remarked CommandFault → Option ℕ
+leaver_told (Err why) = None
+leaver_told (Ok told) = leaver_of told.command
+
+-- who is withdrawn by the command that a text spells
+abbrev pub leaver : List ℕ → Option ℕ
+leaver text = leaver_told (command_of text)
+
+-- the name of a competitor, if one is withdrawn
+abbrev pub leaver_name : List Command → Option ℕ → List ℕ
+leaver_name accepted None = []
+leaver_name accepted (Some number) =
+    codes " <bdi>" ++ escaped (name_in accepted number) ++ codes "</bdi>"
+
+abbrev pub entered_text : List ℕ → List ℕ
+entered_text text = joined (codes "<li><code>" ∷ escaped text ∷ codes "</code>" ∷ [])
+
+-- a command, with the name of whom it withdraws
+unfoldable pub entered_item : List Command → List ℕ → List ℕ
+entered_item accepted text =
+    entered_text text ++ leaver_name accepted (leaver text) ++ codes "</li>\n"
+
+abbrev pub entered_line : List Command → Tried → List ℕ
+entered_line accepted tried =
+    if would_enter tried then entered_item accepted tried.text.now else []
 
 -- the lines that are sent are those that would be entered, as they are
 abbrev pub sent_line : Tried → List ℕ
@@ -64,27 +97,36 @@ refused_list refused tried =
 abbrev pub enter_words : ℕ → List ℕ
 enter_words count = joined (codes "Enter " ∷ decimal count ∷ commands_word count ∷ [])
 
-unfoldable pub entered_all : List ℕ → ℕ → ℕ → List Tried → List ℕ
-entered_all token id entered tried =
-    codes "<h2>To enter</h2>\n<ol>\n" ++ flat_map entered_line tried ++ codes "</ol>\n"
-    ++ lines_form enters token id (codes "/import") (flat_map sent_line tried) (enter_words entered)
+unfoldable pub entered_all : Around → List ℕ → ℕ → List Tried → List ℕ
+entered_all around back entered tried =
+    codes "<h2>To enter</h2>\n<ol>\n"
+    ++ flat_map (entered_line (accepted_in around.mirror.now)) tried ++ codes "</ol>\n"
+    ++ lines_form enters around.token.now (get_or around.ids.now 0 0) back
+    (flat_map sent_line tried)
+    (enter_words entered)
 
 -- those that would be entered, and the form that enters them, where there are any
-abbrev pub entered_list : List ℕ → ℕ → ℕ → List Tried → List ℕ
-entered_list token id entered tried =
-    if nat_lt 0 entered then entered_all token id entered tried else []
+abbrev pub entered_list : Around → List ℕ → ℕ → List Tried → List ℕ
+entered_list around back entered tried =
+    if nat_lt 0 entered then entered_all around back entered tried else []
 
-unfoldable pub lists : Around → ℕ → ℕ → List Tried → List ℕ
-lists around entered refused tried =
-    told entered refused ++ refused_list refused tried
-    ++ entered_list around.token.now (get_or around.ids.now 0 0) entered tried
-    ++ codes "<p><a href=\"/import\">Another file, or other lines</a></p></section>\n"
+-- a link to the page that the commands came from
+abbrev pub back_line : List ℕ → List ℕ
+back_line back = joined (
+    codes "<p><a href=\"" ∷ escaped back ∷ codes "\">Back, and enter nothing</a></p></section>\n"
+    ∷ []
+    )
 
-abbrev pub preview_section : Around → List Tried → List ℕ
-preview_section around tried =
-    lists around (count_by would_enter tried) (length tried - count_by would_enter tried) tried
+unfoldable pub lists : Around → List ℕ → ℕ → ℕ → List Tried → List ℕ
+lists around back entered refused tried =
+    told entered refused ++ refused_list refused tried ++ entered_list around back entered tried
+    ++ back_line back
 
-unfoldable pub preview_page : Around → List Tried → List ℕ
-preview_page around tried =
+abbrev pub preview_section : Around → List ℕ → List Tried → List ℕ
+preview_section around back tried =
+    lists around back (count_by would_enter tried) (length tried - count_by would_enter tried) tried
+
+unfoldable pub preview_page : Around → List ℕ → List Tried → List ℕ
+preview_page around back tried =
     top (codes "hall") (codes "What would be entered") around.desks.now (length around.mirror.now)
-    ++ preview_section around tried ++ bottom
+    ++ preview_section around back tried ++ bottom

@@ -29,6 +29,7 @@ Each of several persons with one name gets his WCA ID behind it</label>
 ";
 
 const LINES_END: &[u8] = b"\
+<input type=\"hidden\" name=\"back\" value=\"/import\">
 <label>One command a line, as in REG 17 Ann Li \
 <textarea name=\"lines\" rows=\"12\" cols=\"60\"></textarea></label>
 <button>Look at them</button></form></section>

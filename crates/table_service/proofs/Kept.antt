@@ -1,12 +1,13 @@
 -- What a journal's file has after each call.
-use Rattle.std.proofs.Common.{◌≡◌, ◌∙◌, ◌+◌, ◌≤◌, ◌++◌, inl, inr, ℕ, Bool, true, false, List}
-use Rattle.std.proofs.Common.{Option, None, Some, length, take, min, ap, sym, refl, subst, arith}
-use Rattle.std.proofs.Common.{length-append}
+use Rattle.std.proofs.Common.{◌≡◌, ◌∙◌, ◌⊎◌, ◌+◌, ◌^◌, ◌≤◌, ◌<◌, ◌++◌, inl, inr, ℕ, Bool, true}
+use Rattle.std.proofs.Common.{false, List, Option, None, Some, length, take, min, ap, sym, refl}
+use Rattle.std.proofs.Common.{subst, arith, length-append, true≢false}
 use Rattle.std.proofs.Math.Seq.{take-append-add, take-length}
 use Rattle.std.proofs.lemmas.List.{length-take-le, take-append-le}
 use Rattle.table_service.specs.Disks.{Appends, AppendsTo, Cuts, CutsBack, CutsBackTo, CutsTo}
-use Rattle.table_service.specs.Disks.{DiskOf, IsSyncedIn, IsWholeIn, Keeps, Puts, PutsTo, Syncs}
-use Rattle.table_service.specs.Disks.{SyncsTo, Told, disk, journal}
+use Rattle.table_service.specs.Disks.{DiskOf, HasFailed, HasLines, HasLinesTo, IsSynced, IsSyncedIn}
+use Rattle.table_service.specs.Disks.{IsWholeIn, JournalOf, Keeps, OpensOver, Puts, PutsTo, Syncs}
+use Rattle.table_service.specs.Disks.{SyncsTo, Told, disk, journal, kept_if, lines_in}
 
 -- ---- bytes are put
 
@@ -22,11 +23,12 @@ module _ (bytes : List ℕ) where
   put_both : (done : Bool) (d e f : DiskOf) → AppendsTo true bytes d e → SyncsTo done e f
       → PutsTo done bytes d f
   put_both true d e f appends syncs =
-      syncs ∙ ap (λ (x : DiskOf). disk x.bytes (length x.bytes)) appends
+      syncs ∙ ap (λ (x : DiskOf). disk x.bytes (length x.bytes) x.failures) appends
   put_both false d e f appends syncs = (
     length bytes,
-    syncs ∙ appends
-        ∙ ap (λ (xs : List ℕ). disk (d.bytes ++ xs) d.synced) (sym (take-length bytes)),
+    syncs ∙ ap (λ (x : DiskOf). disk x.bytes x.synced (x.failures + 1)) appends
+        ∙ ap (λ (xs : List ℕ). disk (d.bytes ++ xs) d.synced (d.failures + 1))
+        (sym (take-length bytes)),
   )
 
   pub put_done : (put done : Bool) (h0 h1 h2 : Option DiskOf) → put ≡ true
@@ -53,8 +55,9 @@ module _ (n : ℕ) where
   cut_both : (done : Bool) (d e f : DiskOf) → CutsTo true n d e → SyncsTo done e f
       → CutsBackTo done n d f
   cut_both true d e f cuts syncs =
-      syncs ∙ ap (λ (x : DiskOf). disk x.bytes (length x.bytes)) cuts
-  cut_both false d e f cuts syncs = inr (syncs ∙ cuts)
+      syncs ∙ ap (λ (x : DiskOf). disk x.bytes (length x.bytes) x.failures) cuts
+  cut_both false d e f cuts syncs =
+      inr (syncs ∙ ap (λ (x : DiskOf). disk x.bytes x.synced (x.failures + 1)) cuts)
 
   pub cut_done : (cut done : Bool) (h0 h1 h2 : Option DiskOf) → cut ≡ true → Cuts cut n h0 h1
       → Syncs done h1 h2 → CutsBack done n h0 h2
@@ -84,19 +87,28 @@ module _ (n : ℕ) (bytes : List ℕ) where
       ∙ ap (λ (xs : List ℕ). xs ++ bytes)
       (sym (ap (λ (k : ℕ). take k d.bytes) (sym whole) ∙ take-length d.bytes))
 
-  pub lines_kept : (h0 h1 : Option DiskOf) (b c : Bool) → IsWholeIn n h0 → Puts true bytes h0 h1
-      → Keeps true bytes (journal h0 n b) (journal h1 (n + length bytes) c)
-  lines_kept None None b c whole puts = record { told = refl; synced = tt }
-  lines_kept None (Some e) b c whole puts = absurd puts
-  lines_kept (Some d) None b c whole puts = absurd puts
-  lines_kept (Some d) (Some e) b c whole puts =
+  kept_so : (j k : JournalOf) → k.broken ≡ false → lines_in k ≡ kept_if true (lines_in j) bytes
+      → IsSynced k → Keeps true bytes j k
+  kept_so j k whole told synced = record {
+    told = told;
+    synced = synced;
+    whole = λ (is : true ≡ true). whole;
+    failed = λ (not : true ≡ false). absurd (true≢false not);
+    broken = λ (is : k.broken ≡ true). absurd (true≢false (sym is ∙ whole));
+  }
+
+  pub lines_kept : (h0 h1 : Option DiskOf) (b : Bool) → b ≡ false → IsWholeIn n h0
+      → Puts true bytes h0 h1 → Keeps true bytes (journal h0 n b) (journal h1 (n + length bytes) b)
+  lines_kept None None b is whole puts =
+      kept_so (journal None n b) (journal None (n + length bytes) b) is refl tt
+  lines_kept None (Some e) b is whole puts = absurd puts
+  lines_kept (Some d) None b is whole puts = absurd puts
+  lines_kept (Some d) (Some e) b is whole puts =
       let size = long d e whole puts in
       let synced : e.synced ≡ length e.bytes =
       ap (λ (x : DiskOf). x.synced) puts ∙ sym (ap (λ (x : DiskOf). length x.bytes) puts) in
-      record {
-        told = ap Some (all_there d e whole puts);
-        synced = omega (arith, size, synced);
-      }
+      kept_so (journal (Some d) n b) (journal (Some e) (n + length bytes) b) is
+      (ap Some (all_there d e whole puts)) (omega (arith, size, synced))
 
   pub whole_kept : (h0 h1 : Option DiskOf) → IsWholeIn n h0 → Puts true bytes h0 h1
       → IsWholeIn (n + length bytes) h1
@@ -168,13 +180,48 @@ module _ (n : ℕ) where
   has_cut done (Some d) (Some e) None has cuts = absurd cuts
   has_cut done (Some d) (Some e) (Some f) has cuts = cut_has done d e f has cuts
 
+  -- the file failed, and its lines are what they were
   has_kept : (bytes : List ℕ) (h0 h1 : Option DiskOf) (b c : Bool) → Has n h0 h1
-      → Keeps false bytes (journal h0 n b) (journal h1 n c)
-  has_kept bytes None None b c has = record { told = refl; synced = tt }
-  has_kept bytes None (Some e) b c has = absurd has
-  has_kept bytes (Some d) None b c has = absurd has
-  has_kept bytes (Some d) (Some e) b c has =
-      record { told = ap Some has.0; synced = has.1 }
+      → HasFailed h0 h1 → Keeps false bytes (journal h0 n b) (journal h1 n c)
+  has_kept bytes None None b c has fails = record {
+    told = refl;
+    synced = tt;
+    whole = λ (is : false ≡ true). absurd (true≢false (sym is));
+    failed = λ (not : false ≡ false). inl fails;
+    broken = λ (is : c ≡ true). inr fails;
+  }
+  has_kept bytes None (Some e) b c has fails = absurd has
+  has_kept bytes (Some d) None b c has fails = absurd has
+  has_kept bytes (Some d) (Some e) b c has fails = record {
+    told = ap Some has.0;
+    synced = has.1;
+    whole = λ (is : false ≡ true). absurd (true≢false (sym is));
+    failed = λ (not : false ≡ false). inl fails;
+    broken = λ (is : c ≡ true). inr fails;
+  }
+
+  fails_cut : (done : Bool) (d e f : DiskOf) → d.failures < e.failures → CutsBackTo done n e f
+      → d.failures < f.failures
+  fails_cut true d e f fails cuts =
+      let same : f.failures ≡ e.failures = ap (λ (x : DiskOf). x.failures) cuts in
+      omega (arith, fails, same)
+  fails_cut false d e f fails (inl is) =
+      let more : f.failures ≡ e.failures + 1 = ap (λ (x : DiskOf). x.failures) is in
+      omega (arith, fails, more)
+  fails_cut false d e f fails (inr is) =
+      let more : f.failures ≡ e.failures + 1 = ap (λ (x : DiskOf). x.failures) is in
+      omega (arith, fails, more)
+
+  has_failed : (bytes : List ℕ) (done : Bool) (h0 h1 h2 : Option DiskOf) → Puts false bytes h0 h1
+      → CutsBack done n h1 h2 → HasFailed h0 h2
+  has_failed bytes done None None None puts cuts = tt
+  has_failed bytes done None None (Some f) puts cuts = absurd cuts
+  has_failed bytes done None (Some e) h2 puts cuts = absurd puts
+  has_failed bytes done (Some d) None h2 puts cuts = absurd puts
+  has_failed bytes done (Some d) (Some e) None puts cuts = absurd cuts
+  has_failed bytes done (Some d) (Some e) (Some f) puts cuts =
+      let more : e.failures ≡ d.failures + 1 = ap (λ (x : DiskOf). x.failures) puts.1 in
+      fails_cut done d e f (omega (arith, more)) cuts
 
   whole_cut : (h0 h1 h2 : Option DiskOf) → Has n h0 h1 → CutsBack true n h1 h2 → IsWholeIn n h2
   whole_cut None None None has cuts = tt
@@ -192,6 +239,7 @@ module _ (n : ℕ) where
       not_kept b c =
           has_kept bytes h0 h2 b c
           (has_cut done h0 h1 h2 (has_put bytes h0 h1 whole synced puts) cuts)
+          (has_failed bytes done h0 h1 h2 puts cuts)
 
       pub whole_again : done ≡ true → IsWholeIn n h2
       whole_again is =
@@ -199,7 +247,89 @@ module _ (n : ℕ) where
           (subst (λ (b : Bool). CutsBack b n h1 h2) is cuts)
 
   -- nothing was tried
-  pub nothing_kept : (bytes : List ℕ) (h : Option DiskOf) (b c : Bool) → IsSyncedIn n h
-      → Keeps false bytes (journal h n b) (journal h n c)
-  nothing_kept bytes None b c synced = record { told = refl; synced = tt }
-  nothing_kept bytes (Some d) b c synced = record { told = refl; synced = synced }
+  untried : (bytes : List ℕ) (h : Option DiskOf) (b : Bool) → IsSyncedIn n h
+      → (b ≡ true) ⊎ (2 ^ 64 ≤ n + length bytes)
+      → Keeps false bytes (journal h n b) (journal h n b)
+  untried bytes None b synced why = record {
+    told = refl;
+    synced = tt;
+    whole = λ (is : false ≡ true). absurd (true≢false (sym is));
+    failed = λ (not : false ≡ false). inr why;
+    broken = λ (is : b ≡ true). inl is;
+  }
+  untried bytes (Some d) b synced why = record {
+    told = refl;
+    synced = synced;
+    whole = λ (is : false ≡ true). absurd (true≢false (sym is));
+    failed = λ (not : false ≡ false). inr why;
+    broken = λ (is : b ≡ true). inl is;
+  }
+
+  pub broken_keeps_nothing : (bytes : List ℕ) (h : Option DiskOf) (b : Bool) → IsSyncedIn n h
+      → b ≡ true → Keeps false bytes (journal h n b) (journal h n b)
+  broken_keeps_nothing bytes h b synced is = untried bytes h b synced (inl is)
+
+  pub full_keeps_nothing : (bytes : List ℕ) (h : Option DiskOf) (b : Bool) → IsSyncedIn n h
+      → 2 ^ 64 ≤ n + length bytes → Keeps false bytes (journal h n b) (journal h n b)
+  full_keeps_nothing bytes h b synced full = untried bytes h b synced (inr full)
+
+-- ---- a journal is opened
+
+module _ (n : ℕ) where
+  low : (cut : Bool) (d : DiskOf) → HasLinesTo cut n d → n ≤ length d.bytes
+  low true d has = has
+  low false d has = omega (arith, has)
+
+  sync_to : (d e : DiskOf) → length d.bytes ≡ n → SyncsTo true d e → CutsBackTo true n d e
+  sync_to d e long syncs =
+      syncs
+      ∙ ap (λ (xs : List ℕ). disk xs (length xs) d.failures)
+      (sym (ap (λ (k : ℕ). take k d.bytes) (sym long) ∙ take-length d.bytes))
+
+  -- to sync a file of whole lines is to take nothing away
+  pub sync_cuts : (done : Bool) (h0 h1 : Option DiskOf) → HasLines false n h0 → Syncs done h0 h1
+      → done ≡ true → CutsBack true n h0 h1
+  sync_cuts done None None has syncs is = tt
+  sync_cuts done None (Some e) has syncs is = absurd syncs
+  sync_cuts done (Some d) None has syncs is = absurd syncs
+  sync_cuts done (Some d) (Some e) has syncs is =
+      sync_to d e has (subst (λ (b : Bool). SyncsTo b d e) is syncs)
+
+  long_cut : (d e : DiskOf) → n ≤ length d.bytes → CutsBackTo true n d e → length e.bytes ≡ n
+  long_cut d e low cuts =
+      ap (λ (x : DiskOf). length x.bytes) cuts ∙ length-take-le n d.bytes low
+
+  pub opened_whole : (cut : Bool) (h0 h1 : Option DiskOf) → HasLines cut n h0
+      → CutsBack true n h0 h1 → IsWholeIn n h1
+  opened_whole cut None None has cuts = tt
+  opened_whole cut None (Some e) has cuts = absurd cuts
+  opened_whole cut (Some d) None has cuts = absurd cuts
+  opened_whole cut (Some d) (Some e) has cuts = long_cut d e (low cut d has) cuts
+
+  pub opened_synced : (cut : Bool) (h0 h1 : Option DiskOf) → HasLines cut n h0
+      → CutsBack true n h0 h1 → IsSyncedIn n h1
+  opened_synced cut None None has cuts = tt
+  opened_synced cut None (Some e) has cuts = absurd cuts
+  opened_synced cut (Some d) None has cuts = absurd cuts
+  opened_synced cut (Some d) (Some e) has cuts =
+      let synced : e.synced ≡ length e.bytes =
+      ap (λ (x : DiskOf). x.synced) cuts ∙ sym (ap (λ (x : DiskOf). length x.bytes) cuts) in
+      let long = long_cut d e (low cut d has) cuts in
+      omega (arith, synced, long)
+
+  opens_to : (d e : DiskOf) → length e.bytes ≡ n → CutsBackTo true n d e
+      → take n e.bytes ≡ take n d.bytes
+  opens_to d e long cuts =
+      ap (λ (k : ℕ). take k e.bytes) (sym long) ∙ take-length e.bytes
+      ∙ ap (λ (x : DiskOf). x.bytes) cuts
+
+  pub opens : (cut : Bool) (h0 h1 : Option DiskOf) → HasLines cut n h0 → CutsBack true n h0 h1
+      → OpensOver n h0 (journal h1 n false)
+  opens cut None None has cuts = record { long = refl; whole = refl; lines = refl }
+  opens cut None (Some e) has cuts = absurd cuts
+  opens cut (Some d) None has cuts = absurd cuts
+  opens cut (Some d) (Some e) has cuts = record {
+    long = refl;
+    whole = refl;
+    lines = ap Some (opens_to d e (long_cut d e (low cut d has) cuts) cuts);
+  }

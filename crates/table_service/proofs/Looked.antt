@@ -91,13 +91,13 @@ module _ (around : Around) (options : Options) (bytes : List ℕ) (found : FileL
     (of : IsOfFile options bytes found) where
   -- the file's commands are looked at
   pub file_looked : (printed : Vec ℕ Global) → found ≡ file.Lines printed → (text : List ℕ)
-      → text ≡ printed.items → (r : Result Plan AllocError) → IfOk r (LooksAt around text)
-      → IfOk r (PlansFile around options bytes)
+      → text ≡ printed.items → (r : Result Plan AllocError)
+      → IfOk r (LooksAt around (codes "/import") text) → IfOk r (PlansFile around options bytes)
   file_looked printed is text same (Ok plan) looks =
       let so : IsOfFile options bytes (file.Lines printed) =
       subst (λ (f : FileLines). IsOfFile options bytes f) is of in
-      inl
-      (so.0, so.1, subst (λ (t : List ℕ). LooksAt around t plan) (same ∙ so.2) looks)
+      let place = codes "/import" in
+      inl (so.0, so.1, subst (λ (t : List ℕ). LooksAt around place t plan) (same ∙ so.2) looks)
   file_looked printed is text same (Err error) looks = tt
 
   -- the file gives none

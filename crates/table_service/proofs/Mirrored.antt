@@ -191,7 +191,8 @@ module _ (e : Event) (scrambles : ℕ → Option (List Move)) (card : CardEntry)
       ∙ last b
     where
       last : (c : Bool)
-          → option_map set_code (cond c None (Some set.NoMoreAttempts)) ≡ cond c None (Some code.NoMoreAttempts)
+          → option_map set_code (cond c None (Some set.NoMoreAttempts))
+          ≡ cond c None (Some code.NoMoreAttempts)
       last true = refl
       last false = refl
 

@@ -1,6 +1,6 @@
 -- The items that are shown, from the newest on.
-use Rattle.std.proofs.Common.{◌≡◌, ◌∙◌, ◌+◌, ◌-◌, ◌++◌, ◌∷◌, ◌<◌, ◌≤◌, ℕ, Bool, List, Some, ap, arith}
-use Rattle.std.proofs.Common.{drop, length, reverse, slice_get, sym}
+use Rattle.std.proofs.Common.{◌≡◌, ◌∙◌, ◌+◌, ◌-◌, ◌++◌, ◌∷◌, ◌<◌, ◌≤◌, ℕ, Bool, List, Some, ap}
+use Rattle.std.proofs.Common.{arith, drop, length, reverse, slice_get, sym}
 use Rattle.std.proofs.lemmas.List.{at_drop_all, at_drop_more, get_or-reverse, length-reverse}
 use Rattle.std.proofs.lemmas.Option.{get_or_from_slice_get}
 use Rattle.acceptor.specs.declared.entry.Entry.{Entry}

@@ -1,7 +1,7 @@
 -- What is planned for requests, by cases: entries are taken for forms alone that ask for them.
 use Rattle.std.proofs.Common.{◌≡◌, ◌∙◌, inl, inr, Bool, true, false, ℕ, List, [], ◌∷◌, ap, bytes_eq}
 use Rattle.std.proofs.Common.{codes, subst, sym, Option, None, Some, Result, Ok, Err, refl}
-use Rattle.std.proofs.Common.{get_or, length, slice_get, ◌||◌}
+use Rattle.std.proofs.Common.{get_or, is_some, length, slice_get, ◌||◌, if◌then◌else◌}
 use Rattle.std.proofs.lemmas.Slice.Eq.{bytes_eq-Decides}
 use Rattle.acceptor.specs.declared.entry.Entry.{Entry}
 use Rattle.attempts.specs.declared.Value.{Value}
@@ -11,6 +11,7 @@ use Rattle.card_forms.specs.declared.faults.CardFormFault.{CardFormFault}
 use Rattle.card_forms.specs.declared.pairs.Pair.{Pair}
 use Rattle.card_forms.specs.Cards.{card_form_of, form_id_of}
 use Rattle.card_forms.specs.Entries.{card_entry, card_in, command_entries, entry_with}
+use Rattle.card_forms.specs.Entries.{is_same_but_remark}
 use Rattle.card_forms.specs.Pairs.{value_of}
 use Rattle.card_forms.specs.Readings.{IsReadAs}
 use Rattle.entry_views.specs.declared.notes.Note.{Note}
@@ -24,7 +25,7 @@ use Rattle.table_views.specs.declared.around.Around.{Around}
 use Rattle.table_views.specs.Editions.{is_latest}
 use Rattle.table_views.specs.Logs.{accepted_in}
 use Rattle.texts.specs.declared.command.CardEntry.{CardEntry}
-use Rattle.texts.specs.Fields.{enters_later, was_of}
+use Rattle.texts.specs.Fields.{cut_remark, enters_later, was_of}
 use Rattle.table_service.specs.declared.plan.Effect.{Effect}
 use Rattle.table_service.specs.declared.plan.Effect.TheVariants as effect
 use Rattle.table_service.specs.declared.plan.Plan.{Plan}
@@ -44,12 +45,13 @@ use Rattle.table_service.specs.Checks.{doubts}
 use Rattle.table_service.specs.Gate.{has_token, is_own}
 use Rattle.table_service.specs.Imports.{PlansBody, PlansCarried, PlansPartsIf, boundary_in}
 use Rattle.table_service.specs.Imports.{content_of}
-use Rattle.table_service.specs.Laws.{AsksAgain, AsksBack, AsksFor, IsForm}
+use Rattle.table_service.specs.Laws.{AsksAgain, AsksBack, AsksFor, AsksForCard, IsForm}
 use Rattle.table_service.specs.Lists.{LooksAt, PlansAsked, PlansLines, PlansListOf, is_known}
 use Rattle.table_service.specs.Lists.{would_be_done}
 use Rattle.table_service.specs.Plans.{HoldsCard, PlansCardAs, PlansCardEntry, PlansCardIf}
 use Rattle.table_service.specs.Plans.{PlansCommand, PlansFit, PlansForm, PlansSpelled, ShowsView}
-use Rattle.table_service.specs.Plans.{card_place, cards_place, is_entered, page_after}
+use Rattle.table_service.specs.Plans.{are_confirmed, card_place, cards_place, is_entered}
+use Rattle.table_service.specs.Plans.{page_after}
 use Rattle.table_service.specs.Remarks.{remark_of}
 use Rattle.table_service.specs.Replying.{GoesTo, ShowsAs, refuses, shows}
 use Rattle.table_service.specs.Requests.{is_post, is_read, path_of, query_of, sent_pairs}
@@ -58,44 +60,71 @@ use Rattle.table_service.specs.Sent.{PlansFormAt, PlansPosted}
 use Rattle.table_service.specs.Services.{IsAround, Plans, PlansIf, PlansWith, ServiceOf}
 use Rattle.table_service.specs.Undoing.{PlansUndoCard, PlansUndoEntry, PlansUndoId, PlansUndoIf}
 use Rattle.table_service.specs.Undoing.{PlansUndoItem, may_undo, undone_entry}
-use Rattle.table_service.specs.Taking.{AreTaken, PlansOther, PlansRoom, has_room, is_sent, other_in}
+use Rattle.table_service.specs.Taking.{AreTaken, PlansOther, PlansRoom, both_or, has_room, is_sent}
+use Rattle.table_service.specs.Taking.{other_by, other_in, sent_as}
 
 -- the browser is sent on
 abbrev pub GoesOn : Reply → Type 0
 GoesOn answer = (location : List ℕ) × GoesTo location answer
 
+same_but_remark : (one other : List ℕ) → one ≡ other → is_same_but_remark one other ≡ true
+same_but_remark one other same =
+    (bytes_eq-Decides (cut_remark one).0 (cut_remark other).0).1
+    (ap (λ (bytes : List ℕ). (cut_remark bytes).0) same)
+
+-- an id is not known that is known neither with the text of an entry nor with another one
+unknown_by : (item : Option Item) (entry : Entry) → sent_as item entry ≡ false
+    → both_or (other_by item entry) entry.text None ≡ None → is_some item ≡ false
+unknown_by None entry unsent others = refl
+unknown_by (Some item) entry unsent others = by (bytes_eq item.entry.text entry.text) refl others
+  where
+    by : (same : Bool) → bytes_eq item.entry.text entry.text ≡ same
+        → both_or (if same then None else Some item.entry.text) entry.text None ≡ None
+        → true ≡ false
+    by true same others =
+        sym (same_but_remark item.entry.text entry.text
+        ((bytes_eq-Decides item.entry.text entry.text).0 same))
+        ∙ unsent
+    by false same others = absurd (cc)
+
+is_unknown : (q : ItemsOf) (entry : Entry) → is_sent q entry ≡ false
+    → other_in q (entry ∷ []) ≡ None → is_some (item_in q entry.id) ≡ false
+is_unknown q entry unsent others = unknown_by (item_in q entry.id) entry unsent others
+
 -- entries that are taken are what the pairs at a path ask for, with this remark of a card, the
 -- browser is sent on, and so much holds besides
-abbrev pub FoundBy : Type 0 → ItemsOf → List ℕ → List Pair → List ℕ → Reply → Effect → Type 0
-FoundBy More q path pairs remark answer effect.Nothing = Unit {0}
-FoundBy More q path pairs remark answer effect.Ids = Unit {0}
-FoundBy More q path pairs remark answer (effect.Take them) =
-    More × AsksFor q path pairs remark them.items × GoesOn answer
-FoundBy More q path pairs remark answer (effect.Again entry of) =
-    More × AsksFor q path pairs remark (entry ∷ []) × GoesOn answer
-FoundBy More q path pairs remark answer (effect.Answer of) = Unit {0}
+abbrev pub FoundBy : Type 0 → List Entry → ItemsOf → List ℕ → List Pair → List ℕ → Reply → Effect
+    → Type 0
+FoundBy More log q path pairs remark answer effect.Nothing = Unit {0}
+FoundBy More log q path pairs remark answer effect.Ids = Unit {0}
+FoundBy More log q path pairs remark answer (effect.Take them) =
+    More × AsksFor log q path pairs remark them.items × GoesOn answer
+FoundBy More log q path pairs remark answer (effect.Again entry of) =
+    More × AsksFor log q path pairs remark (entry ∷ []) × GoesOn answer
+FoundBy More log q path pairs remark answer (effect.Answer of) = Unit {0}
 
-module _ (More : Type 0) (q : ItemsOf) (path : List ℕ) (pairs : List Pair) (remark : List ℕ)
-    (plan : Plan) where
+module _ (More : Type 0) (log : List Entry) (q : ItemsOf) (path : List ℕ) (pairs : List Pair)
+    (remark : List ℕ) (plan : Plan) where
   abbrev Found : Type 0
-  Found = FoundBy More q path pairs remark plan.reply plan.effect
+  Found = FoundBy More log q path pairs remark plan.reply plan.effect
 
   refused : (why : Problem) → plan ≡ refuses why → Found
   refused why is =
-      subst (λ (p : Plan). FoundBy More q path pairs remark p.reply p.effect) (sym is) tt
+      subst (λ (p : Plan). FoundBy More log q path pairs remark p.reply p.effect) (sym is) tt
 
   shown : (answer : Reply) → plan ≡ shows answer → Found
   shown answer is =
-      subst (λ (p : Plan). FoundBy More q path pairs remark p.reply p.effect) (sym is) tt
+      subst (λ (p : Plan). FoundBy More log q path pairs remark p.reply p.effect) (sym is) tt
 
   nothing : plan.effect ≡ effect.Nothing → Found
-  nothing is = subst (λ (e : Effect). FoundBy More q path pairs remark plan.reply e) (sym is) tt
+  nothing is = subst (λ (e : Effect). FoundBy More log q path pairs remark plan.reply e) (sym is) tt
 
   ids : plan.effect ≡ effect.Ids → Found
-  ids is = subst (λ (e : Effect). FoundBy More q path pairs remark plan.reply e) (sym is) tt
+  ids is = subst (λ (e : Effect). FoundBy More log q path pairs remark plan.reply e) (sym is) tt
 
   answered : (of : ℕ) → plan.effect ≡ effect.Answer of → Found
-  answered of is = subst (λ (e : Effect). FoundBy More q path pairs remark plan.reply e) (sym is) tt
+  answered of is =
+      subst (λ (e : Effect). FoundBy More log q path pairs remark plan.reply e) (sym is) tt
 
   page : (status : Shown) (is : Option (List ℕ)) → ShowsAs status is plan → Found
   page status None is = refused problem.NotFound is
@@ -109,14 +138,15 @@ module _ (More : Type 0) (q : ItemsOf) (path : List ℕ) (pairs : List Pair) (re
   view around title (Some (asked.Page what)) is = page _ is.0 is.2
 
   -- looking at lines, or at a competition's file, takes nothing
-  looked : (around : Around) (lines : List ℕ) → LooksAt around lines plan → Found
-  looked around lines (inl unfit) = ids unfit.1.1
-  looked around lines (inr is) = ids is.2.shows.1
+  looked : (around : Around) (back lines : List ℕ) → LooksAt around back lines plan → Found
+  looked around back lines (inl unfit) = ids unfit.1.1
+  looked around back lines (inr is) = ids is.2.shows.1
 
   file : (around : Around) (parts : List (List ℕ × List ℕ)) (carries : Bool)
       → PlansCarried around parts carries plan → Found
   file around parts false plans = refused problem.Foreign plans
-  file around parts true (inl looks) = looked around (printed.lines looks.0) looks.2
+  file around parts true (inl looks) =
+      looked around (codes "/import") (printed.lines looks.0) looks.2
   file around parts true (inr faults) = ids faults.3.1
 
   parts_if : (around : Around) (parts : Option (List (List ℕ × List ℕ)))
@@ -130,30 +160,35 @@ module _ (More : Type 0) (q : ItemsOf) (path : List ℕ) (pairs : List Pair) (re
   body around bytes None plans = refused problem.BadForm plans
   body around bytes (Some boundary) plans = parts_if around (parts_of boundary bytes) plans
 
-  module _ (more : More) (around : Around) (says : around.remark.now ≡ remark) where
-    taken_as : (entries : List Entry) → AsksFor q path pairs remark entries → (what : Effect)
+  module _ (more : More) (around : Around) (same : around.mirror.now ≡ log)
+      (says : around.remark.now ≡ remark) where
+    -- what holds beside the mirror's log holds beside this log
+    by_log : (P : List Entry → Type 0) → P around.mirror.now → P log
+    by_log P holds = subst P same holds
+
+    taken_as : (entries : List Entry) → AsksFor log q path pairs remark entries → (what : Effect)
         → AreTaken entries what → GoesOn plan.reply
-        → FoundBy More q path pairs remark plan.reply what
+        → FoundBy More log q path pairs remark plan.reply what
     taken_as entries asks effect.Nothing are on = absurd are
     taken_as entries asks effect.Ids are on = absurd are
     taken_as entries asks (effect.Take them) are on =
-        (more, subst (λ (es : List Entry). AsksFor q path pairs remark es) (sym are) asks, on)
+        (more, subst (λ (es : List Entry). AsksFor log q path pairs remark es) (sym are) asks, on)
     taken_as entries asks (effect.Again entry of) are on = absurd are
     taken_as entries asks (effect.Answer of) are on = absurd are
 
-    module _ (place : List ℕ) (entries : List Entry) (asks : AsksFor q path pairs remark entries)
-      where
-        room : (has : Bool) → PlansRoom has place entries plan → Found
-        room false plans = refused problem.Busy plans
-        room true plans = taken_as entries asks plan.effect plans.takes (place, plans.goes)
+    module _ (place : List ℕ) (entries : List Entry)
+        (asks : AsksFor log q path pairs remark entries) where
+      room : (has : Bool) → PlansRoom has place entries plan → Found
+      room false plans = refused problem.Busy plans
+      room true plans = taken_as entries asks plan.effect plans.takes (place, plans.goes)
 
-        other : (known : Option (List ℕ × List ℕ))
-            → PlansOther known q around place entries plan → Found
-        other (Some both) plans = ids plans.1
-        other None plans = room (has_room q (length entries)) plans
+      other : (known : Option (List ℕ × List ℕ))
+          → PlansOther known q around place entries plan → Found
+      other (Some both) plans = ids plans.1
+      other None plans = room (has_room q (length entries)) plans
 
-        taken : PlansOther (other_in q entries) q around place entries plan → Found
-        taken plans = other (other_in q entries) plans
+      taken : PlansOther (other_in q entries) q around place entries plan → Found
+      taken plans = other (other_in q entries) plans
 
     -- ---- a card
 
@@ -161,64 +196,95 @@ module _ (More : Type 0) (q : ItemsOf) (path : List ℕ) (pairs : List Pair) (re
         → HoldsCard q around form notes status plan → Found
     held form notes status holds = page status holds.page holds.shows
 
-    module _ (at : path ≡ codes "/card") (form : CardForm) (sent : card_form_of pairs ≡ Ok form)
-      where
-        card_entered : (card : CardEntry) → IsReadAs form card → (entry : Entry)
-            → card_entry form.id card around.remark.now ≡ Some entry → (notes : List Note)
-            (entered : Bool) → PlansCardEntry q around form notes entry entered plan → Found
-        card_entered card read entry is notes true plans =
-            taken (card_place form) (entry ∷ [])
+    module _ (at : path ≡ codes "/card")
+        (latest : is_latest (accepted_in around.mirror.now) ≡ true) (form : CardForm)
+        (sent : card_form_of pairs ≡ Ok form) where
+      abbrev notes_of : CardEntry → List Note
+      notes_of card = doubts (accepted_in around.mirror.now) card
+
+      module _ (card : CardEntry) (read : IsReadAs form card) (entry : Entry)
+          (is : card_entry form.id card around.remark.now ≡ Some entry) (it : CardEntry)
+          (spells : card_in entry.text ≡ Some it) where
+        card_asked : are_confirmed (value_of (codes "sure") pairs) (notes_of it) ≡ true
+            → AsksForCard log pairs remark (entry ∷ [])
+        card_asked sure =
+            record {
+              latest = by_log (λ (es : List Entry). is_latest (accepted_in es) ≡ true) latest;
+              form = form;
+              sent = sent;
+              card = card;
+              read = read;
+              entry = entry;
+              is = subst (λ (r : List ℕ). card_entry form.id card r ≡ Some entry) says is;
+              spelled = it;
+              spells = spells;
+              sure = by_log
+                  (λ (es : List Entry).
+                  are_confirmed (value_of (codes "sure") pairs) (doubts (accepted_in es) it)
+                  ≡ true)
+                  sure;
+              alone = refl;
+            }
+
+        card_taken : is_sent q entry ≡ false
+            → is_entered q entry.id (value_of (codes "sure") pairs) (notes_of it) ≡ true
+            → (known : Option (List ℕ × List ℕ)) → other_in q (entry ∷ []) ≡ known
+            → PlansOther known q around (card_place form) (entry ∷ []) plan → Found
+        card_taken unsent entered (Some both) others plans = ids plans.1
+        card_taken unsent entered None others plans =
+            room (card_place form) (entry ∷ [])
             (inl (
               at,
-              record {
-                form = form;
-                sent = sent;
-                card = card;
-                read = read;
-                entry = entry;
-                is = subst (λ (r : List ℕ). card_entry form.id card r ≡ Some entry) says is;
-                alone = refl;
-              },
+              card_asked (subst
+                  (λ (b : Bool).
+                  (b || are_confirmed (value_of (codes "sure") pairs) (notes_of it)) ≡ true)
+                  (is_unknown q entry unsent others) entered),
             ))
-            plans
-        card_entered card read entry is notes false plans = held form notes _ plans
+            (has_room q 1) plans
 
-        card_fit : (card : CardEntry) → IsReadAs form card → (sure : List ℕ) (entry : Entry)
-            → card_entry form.id card around.remark.now ≡ Some entry → (it : CardEntry)
-            (known : Bool) → PlansFit known q around form sure entry it plan → Found
-        card_fit card read sure entry is it true plans = nothing plans.1
-        card_fit card read sure entry is it false plans =
-            card_entered card read entry is (doubts (accepted_in around.mirror.now) it)
-            (is_entered q entry.id sure (doubts (accepted_in around.mirror.now) it)) plans
+        card_entered : is_sent q entry ≡ false → (entered : Bool)
+            → is_entered q entry.id (value_of (codes "sure") pairs) (notes_of it) ≡ entered
+            → PlansCardEntry q around form (notes_of it) entry entered plan → Found
+        card_entered unsent true entered plans =
+            card_taken unsent entered (other_in q (entry ∷ [])) refl plans
+        card_entered unsent false entered plans = held form _ _ plans
 
-        card_spelled : (card : CardEntry) → IsReadAs form card → (sure : List ℕ) (entry : Entry)
-            → card_entry form.id card around.remark.now ≡ Some entry
-            → (spelled : Option CardEntry) → PlansSpelled q around form sure entry spelled plan
-            → Found
-        card_spelled card read sure entry is None plans = refused problem.BadForm plans
-        card_spelled card read sure entry is (Some it) plans =
-            card_fit card read sure entry is it (is_sent q entry) plans
+        card_fit : (known : Bool) → is_sent q entry ≡ known
+            → PlansFit known q around form (value_of (codes "sure") pairs) entry it plan → Found
+        card_fit true unsent plans = nothing plans.1
+        card_fit false unsent plans =
+            card_entered unsent
+            (is_entered q entry.id (value_of (codes "sure") pairs) (notes_of it)) refl plans
 
-        card_as : (card : CardEntry) → IsReadAs form card → (sure : List ℕ)
-            (entry : Option Entry) → card_entry form.id card around.remark.now ≡ entry
-            → PlansCardAs q around form sure entry plan → Found
-        card_as card read sure None is plans = held form _ _ plans
-        card_as card read sure (Some entry) is plans =
-            card_spelled card read sure entry is (card_in entry.text) plans
+      card_spelled : (card : CardEntry) → IsReadAs form card → (entry : Entry)
+          → card_entry form.id card around.remark.now ≡ Some entry → (it : Option CardEntry)
+          → card_in entry.text ≡ it
+          → PlansSpelled q around form (value_of (codes "sure") pairs) entry it plan → Found
+      card_spelled card read entry is None spells plans = refused problem.BadForm plans
+      card_spelled card read entry is (Some it) spells plans =
+          card_fit card read entry is it spells (is_sent q entry) refl plans
 
-    card_form : path ≡ codes "/card" → (sure : List ℕ) (r : Result CardForm CardFormFault)
-        → card_form_of pairs ≡ r → PlansForm q around sure r plan → Found
-    card_form at sure (Err why) is plans = refused problem.BadForm plans
-    card_form at sure (Ok form) is (inl reads) =
-        card_as at form is reads.entry reads.read sure
+      card_as : (card : CardEntry) → IsReadAs form card → (entry : Option Entry)
+          → card_entry form.id card around.remark.now ≡ entry
+          → PlansCardAs q around form (value_of (codes "sure") pairs) entry plan → Found
+      card_as card read None is plans = held form _ _ plans
+      card_as card read (Some entry) is plans =
+          card_spelled card read entry is (card_in entry.text) refl plans
+
+    card_form : path ≡ codes "/card" → is_latest (accepted_in around.mirror.now) ≡ true
+        → (r : Result CardForm CardFormFault) → card_form_of pairs ≡ r
+        → PlansForm q around (value_of (codes "sure") pairs) r plan → Found
+    card_form at latest (Err why) is plans = refused problem.BadForm plans
+    card_form at latest (Ok form) is (inl reads) =
+        card_as at latest form is reads.entry reads.read
         (card_entry form.id reads.entry around.remark.now) refl reads.plans
-    card_form at sure (Ok form) is (inr unread) = held form _ _ unread.2
+    card_form at latest (Ok form) is (inr unread) = held form _ _ unread.2
 
-    card_if : path ≡ codes "/card" → (latest : Bool) → PlansCardIf latest around q pairs plan
-        → Found
-    card_if at false plans = ids plans.1
-    card_if at true plans =
-        card_form at (value_of (codes "sure") pairs) (card_form_of pairs) refl plans
+    card_if : path ≡ codes "/card" → (latest : Bool)
+        → is_latest (accepted_in around.mirror.now) ≡ latest
+        → PlansCardIf latest around q pairs plan → Found
+    card_if at false latest plans = ids plans.1
+    card_if at true latest plans = card_form at latest (card_form_of pairs) refl plans
 
     -- ---- a command, and several
 
@@ -244,8 +310,9 @@ module _ (More : Type 0) (q : ItemsOf) (path : List ℕ) (pairs : List Pair) (re
         (named : form_id_of (value_of (codes "id") pairs) ≡ Some id) where
       texts_asked : (texts : List (List ℕ))
           → texts_in (value_of (codes "lines") pairs) ≡ Some texts → (done : Bool)
+          → (is_known q id || would_be_done around.mirror.now id texts) ≡ done
           → PlansAsked around q pairs id texts done plan → Found
-      texts_asked texts are true plans =
+      texts_asked texts are true done plans =
           taken (page_after pairs) (command_entries id texts)
           (inr (inr (inl (
             at,
@@ -254,17 +321,20 @@ module _ (More : Type 0) (q : ItemsOf) (path : List ℕ) (pairs : List Pair) (re
               named = named;
               texts = texts;
               read = are;
+              done = by_log
+                  (λ (es : List Entry). (is_known q id || would_be_done es id texts) ≡ true)
+                  done;
               are = refl;
             },
           ))))
           plans
-      texts_asked texts are false plans = ids plans.1
+      texts_asked texts are false done plans = ids plans.1
 
       lines_asked : PlansLines around q pairs id plan → Found
       lines_asked (inl unfit) = ids unfit.1.1
       lines_asked (inr asks) =
           texts_asked asks.texts asks.are
-          (is_known q id || would_be_done around.mirror.now id asks.texts) asks.plans
+          (is_known q id || would_be_done around.mirror.now id asks.texts) refl asks.plans
 
     list : path ≡ codes "/commands" → (id : Option ℕ)
         → form_id_of (value_of (codes "id") pairs) ≡ id → PlansListOf around q pairs id plan
@@ -282,21 +352,23 @@ module _ (More : Type 0) (q : ItemsOf) (path : List ℕ) (pairs : List Pair) (re
         subst (λ (r : List ℕ). card_entry id (card_over card was) r ≡ Some entry) says is
 
     module _ (at : path ≡ codes "/again") (of : ℕ) (named : id_of pairs ≡ Some of) where
-      again_as : (entry : Entry) → AsksAgain q pairs remark (entry ∷ []) → GoesOn plan.reply
+      again_as : (entry : Entry) → AsksAgain log q pairs remark (entry ∷ []) → GoesOn plan.reply
           → plan.effect ≡ effect.Again entry of → Found
       again_as entry asks on is =
-          subst (λ (e : Effect). FoundBy More q path pairs remark plan.reply e) (sym is)
+          subst (λ (e : Effect). FoundBy More log q path pairs remark plan.reply e) (sym is)
           (more, inr (inr (inr (inl (at, asks)))), on)
 
-      module _ (item : Item) (known : item_in q of ≡ Some item) where
+      module _ (item : Item) (known : item_in q of ≡ Some item)
+          (may : may_answer around.mirror.now q of ≡ true) where
         again_entered : (card : CardEntry) → card_in item.entry.text ≡ Some card
-            → (was : List Value) (enters : Bool) (id : ℕ) (has : Bool) (entry : Option Entry)
+            → (was : List Value) → was_of (value_of (codes "was") pairs) ≡ Some was
+            → (enters : Bool) (id : ℕ) (has : Bool) (entry : Option Entry)
             → again_entry enters id card around.remark.now was ≡ entry
             → PlansAgainEntry has around q of card entry plan → Found
-        again_entered card typed was enters id has None is plans = ids plans.1
-        again_entered card typed was enters id false (Some entry) is plans =
+        again_entered card typed was shows enters id has None is plans = ids plans.1
+        again_entered card typed was shows enters id false (Some entry) is plans =
             refused problem.Busy plans
-        again_entered card typed was enters id true (Some entry) is plans =
+        again_entered card typed was shows enters id true (Some entry) is plans =
             again_as entry
             record {
               of = of;
@@ -305,7 +377,9 @@ module _ (More : Type 0) (q : ItemsOf) (path : List ℕ) (pairs : List Pair) (re
               item = item;
               known = known;
               typed = typed;
+              may = by_log (λ (es : List Entry). may_answer es q of ≡ true) may;
               was = was;
+              shows = shows;
               entry = entry;
               id = id;
               is = entry_of enters id card was entry is;
@@ -313,28 +387,31 @@ module _ (More : Type 0) (q : ItemsOf) (path : List ℕ) (pairs : List Pair) (re
             }
             (cards_place card.id, plans.0) plans.1
 
-        again_card : (was : Option (List Value)) (card : Option CardEntry)
-            → card_in item.entry.text ≡ card → PlansAgainCard around q of was card plan → Found
-        again_card None card typed plans = refused problem.BadForm plans
-        again_card (Some was) None typed plans = refused problem.BadForm plans
-        again_card (Some was) (Some card) typed plans =
-            again_entered card typed was (enters_later (length was) card.now)
+        again_card : (was : Option (List Value)) → was_of (value_of (codes "was") pairs) ≡ was
+            → (card : Option CardEntry) → card_in item.entry.text ≡ card
+            → PlansAgainCard around q of was card plan → Found
+        again_card None shows card typed plans = refused problem.BadForm plans
+        again_card (Some was) shows None typed plans = refused problem.BadForm plans
+        again_card (Some was) shows (Some card) typed plans =
+            again_entered card typed was shows (enters_later (length was) card.now)
             (get_or around.ids.now 0 0) (has_room q 1)
             (again_entry (enters_later (length was) card.now) (get_or around.ids.now 0 0) card
             around.remark.now was)
             refl plans
 
-        again_if : (may : Bool) → PlansAgainIf may around q pairs of item plan → Found
-        again_if false plans = nothing plans.1
-        again_if true plans =
-            again_card (was_of (value_of (codes "was") pairs)) (card_in item.entry.text) refl
-            plans
+      again_if : (item : Item) → item_in q of ≡ Some item → (may : Bool)
+          → may_answer around.mirror.now q of ≡ may
+          → PlansAgainIf may around q pairs of item plan → Found
+      again_if item known false may plans = nothing plans.1
+      again_if item known true may plans =
+          again_card item known may (was_of (value_of (codes "was") pairs)) refl
+          (card_in item.entry.text) refl plans
 
       again_item : (item : Option Item) → item_in q of ≡ item
           → PlansAgainItem around q pairs of item plan → Found
       again_item None known plans = refused problem.BadForm plans
       again_item (Some item) known plans =
-          again_if item known (may_answer around.mirror.now q of) plans
+          again_if item known (may_answer around.mirror.now q of) refl plans
 
     again : path ≡ codes "/again" → (of : Option ℕ) → id_of pairs ≡ of
         → PlansAgainId around q pairs of plan → Found
@@ -358,13 +435,14 @@ module _ (More : Type 0) (q : ItemsOf) (path : List ℕ) (pairs : List Pair) (re
     -- ---- taking a card back
 
     module _ (at : path ≡ codes "/undo") (of : ℕ) (named : id_of pairs ≡ Some of) where
-      back_as : (entry : Entry) → AsksBack q pairs remark (entry ∷ []) → GoesOn plan.reply
+      back_as : (entry : Entry) → AsksBack log q pairs remark (entry ∷ []) → GoesOn plan.reply
           → plan.effect ≡ effect.Again entry of → Found
       back_as entry asks on is =
-          subst (λ (e : Effect). FoundBy More q path pairs remark plan.reply e) (sym is)
+          subst (λ (e : Effect). FoundBy More log q path pairs remark plan.reply e) (sym is)
           (more, inr (inr (inr (inr (at, asks)))), on)
 
-      module _ (item : Item) (known : item_in q of ≡ Some item) where
+      module _ (item : Item) (known : item_in q of ≡ Some item)
+          (may : may_undo around.mirror.now q of ≡ true) where
         back_entered : (card : CardEntry) → card_in item.entry.text ≡ Some card → (id : ℕ)
             (has : Bool) (entry : Option Entry)
             → undone_entry (accepted_in around.mirror.now) id card around.remark.now ≡ entry
@@ -380,13 +458,16 @@ module _ (More : Type 0) (q : ItemsOf) (path : List ℕ) (pairs : List Pair) (re
               item = item;
               known = known;
               typed = typed;
-              accepted = accepted_in around.mirror.now;
+              may = by_log (λ (es : List Entry). may_undo es q of ≡ true) may;
               entry = entry;
               id = id;
-              is = subst
+              is = by_log
+                  (λ (es : List Entry).
+                  undone_entry (accepted_in es) id card remark ≡ Some entry)
+                  (subst
                   (λ (r : List ℕ).
                   undone_entry (accepted_in around.mirror.now) id card r ≡ Some entry)
-                  says is;
+                  says is);
               alone = refl;
             }
             (cards_place card.id, plans.0) plans.1
@@ -400,15 +481,17 @@ module _ (More : Type 0) (q : ItemsOf) (path : List ℕ) (pairs : List Pair) (re
             around.remark.now)
             refl plans
 
-        back_if : (may : Bool) → PlansUndoIf may around q of item plan → Found
-        back_if false plans = nothing plans.1
-        back_if true plans = back_card (card_in item.entry.text) refl plans
+      back_if : (item : Item) → item_in q of ≡ Some item → (may : Bool)
+          → may_undo around.mirror.now q of ≡ may → PlansUndoIf may around q of item plan → Found
+      back_if item known false may plans = nothing plans.1
+      back_if item known true may plans =
+          back_card item known may (card_in item.entry.text) refl plans
 
       back_item : (item : Option Item) → item_in q of ≡ item → PlansUndoItem around q of item plan
           → Found
       back_item None known plans = refused problem.BadForm plans
       back_item (Some item) known plans =
-          back_if item known (may_undo around.mirror.now q of) plans
+          back_if item known (may_undo around.mirror.now q of) refl plans
 
     back : path ≡ codes "/undo" → (of : Option ℕ) → id_of pairs ≡ of
         → PlansUndoId around q of plan → Found
@@ -436,7 +519,8 @@ module _ (More : Type 0) (q : ItemsOf) (path : List ℕ) (pairs : List Pair) (re
     sent_lines true lines at plans =
         list ((bytes_eq-Decides path (codes "/commands")).0 at)
         (form_id_of (value_of (codes "id") pairs)) refl plans
-    sent_lines false true at plans = looked around (value_of (codes "lines") pairs) plans
+    sent_lines false true at plans =
+        looked around (page_after pairs) (value_of (codes "lines") pairs) plans
     sent_lines false false at plans =
         sent_answers (bytes_eq path (codes "/again")) refl plans
 
@@ -445,7 +529,7 @@ module _ (More : Type 0) (q : ItemsOf) (path : List ℕ) (pairs : List Pair) (re
         → Found
     sent true one at other plans =
         card_if ((bytes_eq-Decides path (codes "/card")).0 at)
-        (is_latest (accepted_in around.mirror.now)) plans
+        (is_latest (accepted_in around.mirror.now)) refl plans
     sent false true other at plans =
         command ((bytes_eq-Decides path (codes "/command")).0 at) plans
     sent false false other another plans =
@@ -459,8 +543,8 @@ module _ (s : ServiceOf) (request : Request (List ℕ)) (plan : Plan) where
 
   abbrev FoundFor : Type 0
   FoundFor =
-      FoundBy (IsForm s request) s.outbox.list (path_of request) (sent_pairs request) remark
-      plan.reply plan.effect
+      FoundBy (IsForm s request) s.mirroring.entries s.outbox.list (path_of request)
+      (sent_pairs request) remark plan.reply plan.effect
 
   module _ (own : is_own s.hosts request ≡ true) where
     module _ (set : List ℕ) (around : Around) (is : IsAround s set around) where
@@ -469,48 +553,50 @@ module _ (s : ServiceOf) (request : Request (List ℕ)) (plan : Plan) where
           → PlansPosted around s.outbox.list (path_of request) (sent_pairs request) carries plan
           → FoundFor
       posted post false not-so plans =
-          refused (IsForm s request) s.outbox.list (path_of request) (sent_pairs request) remark
-          plan problem.Foreign plans
+          refused (IsForm s request) s.mirroring.entries s.outbox.list (path_of request)
+          (sent_pairs request) remark plan problem.Foreign plans
       posted post true so plans =
-          sent (IsForm s request) s.outbox.list (path_of request) (sent_pairs request) remark plan
+          sent (IsForm s request) s.mirroring.entries s.outbox.list (path_of request)
+          (sent_pairs request) remark plan
           record {
             own = own;
             method = post;
             token = subst (λ (t : List ℕ). has_token t (sent_pairs request) ≡ true) is.token so;
           }
-          around is.remark (bytes_eq (path_of request) (codes "/card"))
+          around is.mirror is.remark (bytes_eq (path_of request) (codes "/card"))
           (bytes_eq (path_of request) (codes "/command")) refl refl plans
 
       by_form : is_post request ≡ true → (imports : Bool)
           → PlansFormAt around s.outbox.list request imports plan → FoundFor
       by_form post true plans =
-          body (IsForm s request) s.outbox.list (path_of request) (sent_pairs request) remark plan
-          around request.body (boundary_in request) plans
+          body (IsForm s request) s.mirroring.entries s.outbox.list (path_of request)
+          (sent_pairs request) remark plan around request.body (boundary_in request) plans
       by_form post false plans =
           posted post (has_token around.token.now (sent_pairs request)) refl plans
 
       by_method : (read post : Bool) → is_post request ≡ post
           → PlansBy around s.title s.outbox.list request read post plan → FoundFor
       by_method true post so plans =
-          view (IsForm s request) s.outbox.list (path_of request) (sent_pairs request) remark plan
-          around s.title (asked_at (path_of request) (query_of request)) plans
+          view (IsForm s request) s.mirroring.entries s.outbox.list (path_of request)
+          (sent_pairs request) remark plan around s.title
+          (asked_at (path_of request) (query_of request)) plans
       by_method false true so plans =
           by_form so (bytes_eq (path_of request) (codes "/import")) plans
       by_method false false so plans =
-          refused (IsForm s request) s.outbox.list (path_of request) (sent_pairs request) remark
-          plan problem.Method plans
+          refused (IsForm s request) s.mirroring.entries s.outbox.list (path_of request)
+          (sent_pairs request) remark plan problem.Method plans
 
     by_ids : (set : Option (List ℕ)) → PlansWith s request set plan → FoundFor
     by_ids None plans =
-        refused (IsForm s request) s.outbox.list (path_of request) (sent_pairs request) remark plan
-        problem.Busy plans
+        refused (IsForm s request) s.mirroring.entries s.outbox.list (path_of request)
+        (sent_pairs request) remark plan problem.Busy plans
     by_ids (Some set) plans =
         by_method set plans.around plans.is (is_read request) (is_post request) refl plans.plans
 
   by_own : (own : Bool) → is_own s.hosts request ≡ own → PlansIf s request own plan → FoundFor
   by_own false so plans =
-      refused (IsForm s request) s.outbox.list (path_of request) (sent_pairs request) remark plan
-      problem.Foreign plans
+      refused (IsForm s request) s.mirroring.entries s.outbox.list (path_of request)
+      (sent_pairs request) remark plan problem.Foreign plans
   by_own true so plans = by_ids so (slice_get s.ids 0) plans
 
   -- entries are taken for a form alone that asks for them

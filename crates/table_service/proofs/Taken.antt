@@ -48,8 +48,8 @@ module _ (old new : ServiceOf) (request : Request (List ℕ)) (response : Respon
 
   abbrev FoundAs : Effect → Type 0
   FoundAs what =
-      FoundBy (IsForm old request) old.outbox.list (path_of request) (sent_pairs request)
-      (remark_of old.name old.clock) plan.reply what
+      FoundBy (IsForm old request) old.mirroring.entries old.outbox.list (path_of request)
+      (sent_pairs request) (remark_of old.name old.clock) plan.reply what
 
   module _ (entries : List Entry) (list : ItemsOf)
       (takes : TakesAll old.outbox.list entries old.time list) where
@@ -60,8 +60,8 @@ module _ (old new : ServiceOf) (request : Request (List ℕ)) (response : Respon
 
   module _ (entries : List Entry) (list : ItemsOf)
       (takes : TakesAll old.outbox.list entries old.time list)
-      (asks : AsksFor old.outbox.list (path_of request) (sent_pairs request)
-      (remark_of old.name old.clock) entries)
+      (asks : AsksFor old.mirroring.entries old.outbox.list (path_of request)
+      (sent_pairs request) (remark_of old.name old.clock) entries)
       (form : IsForm old request) (on : GoesOn plan.reply) where
     taken : TakesNone list old response new
         ⊎ (KeepsList true list old new × Writes plan.reply response) → Comes

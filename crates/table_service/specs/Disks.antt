@@ -1,14 +1,19 @@
 -- A file of which is known what a crash leaves, and the journal in it.
-use Rattle.std.specs.Prelude.{ℕ, ◌≡◌, ◌⊎◌, ◌≤◌, ◌++◌, Bool, true, false, List, length, take, min}
-use Rattle.std.specs.Prelude.{Option, None, Some, option_map}
+use Rattle.std.specs.Prelude.{ℕ, ◌≡◌, ◌⊎◌, ◌≤◌, ◌<◌, ◌+◌, ◌^◌, ◌++◌, Bool, true, false, List}
+use Rattle.std.specs.Prelude.{Option, None, Some, length, min, option_map, take}
 
--- the bytes of a file, and how many of the first of them a crash leaves
+-- the bytes of a file, how many of the first of them a crash leaves, and how many calls failed
 pub record DiskOf : Type 0 where
   pub bytes : List ℕ
   pub synced : ℕ
+  pub failures : ℕ
 
-abbrev pub disk : List ℕ → ℕ → DiskOf
-disk bytes synced = record { bytes = bytes; synced = synced }
+abbrev pub disk : List ℕ → ℕ → ℕ → DiskOf
+disk bytes synced failures = record { bytes = bytes; synced = synced; failures = failures }
+
+-- a call failed, and nothing else changed
+abbrev pub failed_once : DiskOf → DiskOf
+failed_once d = disk d.bytes d.synced (d.failures + 1)
 
 -- where nothing is told of a file, nothing is told of it later
 abbrev pub Told : (DiskOf → DiskOf → Type 0) → Option DiskOf → Option DiskOf → Type 0
@@ -18,24 +23,24 @@ Told becomes _ _ = ⊥
 
 -- bytes are put after the others; or a front part of them is
 abbrev pub AppendsTo : Bool → List ℕ → DiskOf → DiskOf → Type 0
-AppendsTo true bytes old new = new ≡ disk (old.bytes ++ bytes) old.synced
+AppendsTo true bytes old new = new ≡ disk (old.bytes ++ bytes) old.synced old.failures
 AppendsTo false bytes old new =
-    (count : ℕ) × (new ≡ disk (old.bytes ++ take count bytes) old.synced)
+    (count : ℕ) × (new ≡ disk (old.bytes ++ take count bytes) old.synced (old.failures + 1))
 
 abbrev pub Appends : Bool → List ℕ → Option DiskOf → Option DiskOf → Type 0
 Appends done bytes old new = Told (AppendsTo done bytes) old new
 
 -- a crash leaves all bytes
 abbrev pub SyncsTo : Bool → DiskOf → DiskOf → Type 0
-SyncsTo true old new = new ≡ disk old.bytes (length old.bytes)
-SyncsTo false old new = new ≡ old
+SyncsTo true old new = new ≡ disk old.bytes (length old.bytes) old.failures
+SyncsTo false old new = new ≡ failed_once old
 
 abbrev pub Syncs : Bool → Option DiskOf → Option DiskOf → Type 0
 Syncs done old new = Told (SyncsTo done) old new
 
 abbrev pub CutsTo : Bool → ℕ → DiskOf → DiskOf → Type 0
-CutsTo true count old new = new ≡ disk (take count old.bytes) (min count old.synced)
-CutsTo false count old new = new ≡ old
+CutsTo true count old new = new ≡ disk (take count old.bytes) (min count old.synced) old.failures
+CutsTo false count old new = new ≡ failed_once old
 
 abbrev pub Cuts : Bool → ℕ → Option DiskOf → Option DiskOf → Type 0
 Cuts done count old new = Told (CutsTo done count) old new
@@ -43,8 +48,10 @@ Cuts done count old new = Told (CutsTo done count) old new
 -- bytes are put after the others, and a crash leaves all; or a front part of them is put there, and
 -- a crash leaves what it left before
 abbrev pub PutsTo : Bool → List ℕ → DiskOf → DiskOf → Type 0
-PutsTo true bytes old new = new ≡ disk (old.bytes ++ bytes) (length (old.bytes ++ bytes))
-PutsTo false bytes old new = (count : ℕ) × (new ≡ disk (old.bytes ++ take count bytes) old.synced)
+PutsTo true bytes old new =
+    new ≡ disk (old.bytes ++ bytes) (length (old.bytes ++ bytes)) old.failures
+PutsTo false bytes old new =
+    (count : ℕ) × (new ≡ disk (old.bytes ++ take count bytes) old.synced (old.failures + 1))
 
 abbrev pub Puts : Bool → List ℕ → Option DiskOf → Option DiskOf → Type 0
 Puts done bytes old new = Told (PutsTo done bytes) old new
@@ -52,9 +59,11 @@ Puts done bytes old new = Told (PutsTo done bytes) old new
 -- what stands after so many bytes is taken away, and a crash leaves the others; or it stays, or is
 -- taken away and a crash may bring it back
 abbrev pub CutsBackTo : Bool → ℕ → DiskOf → DiskOf → Type 0
-CutsBackTo true count old new = new ≡ disk (take count old.bytes) (length (take count old.bytes))
+CutsBackTo true count old new =
+    new ≡ disk (take count old.bytes) (length (take count old.bytes)) old.failures
 CutsBackTo false count old new =
-    (new ≡ old) ⊎ (new ≡ disk (take count old.bytes) (min count old.synced))
+    (new ≡ failed_once old)
+    ⊎ (new ≡ disk (take count old.bytes) (min count old.synced) (old.failures + 1))
 
 abbrev pub CutsBack : Bool → ℕ → Option DiskOf → Option DiskOf → Type 0
 CutsBack done count old new = Told (CutsBackTo done count) old new
@@ -93,13 +102,46 @@ abbrev pub with_kept : Option (List ℕ) → List ℕ → Option (List ℕ)
 with_kept None bytes = None
 with_kept (Some before) bytes = Some (before ++ bytes)
 
+-- a call of the file failed, as far as that is told
+abbrev pub HasFailed : Option DiskOf → Option DiskOf → Type 0
+HasFailed old new = Told (λ old new. old.failures < new.failures) old new
+
+-- why lines can't be kept: the file fails; it failed before, so that a part of a line may stand
+-- after those that were kept; or they would be 2^64 bytes and more
+abbrev pub CannotKeep : List ℕ → JournalOf → JournalOf → Type 0
+CannotKeep lines old new =
+    HasFailed old.disk new.disk ⊎ ((old.broken ≡ true)
+    ⊎ (2 ^ 64 ≤ old.length + length lines))
+
 -- lines are kept, or it fails
 abbrev pub kept_if : Bool → Option (List ℕ) → List ℕ → Option (List ℕ)
 kept_if true before lines = with_kept before lines
 kept_if false before lines = before
 
 -- where lines are kept they stand after the others, and a crash leaves them; else the lines that
--- were there are
+-- were there are, and it is told why. Nothing more can be kept only after the file failed
 pub record Keeps (kept : Bool) (lines : List ℕ) (old new : JournalOf) : Type 0 where
   pub told : lines_in new ≡ kept_if kept (lines_in old) lines
   pub synced : IsSynced new
+  pub whole : kept ≡ true → new.broken ≡ false
+  pub failed : kept ≡ false → CannotKeep lines old new
+  pub broken : new.broken ≡ true → (old.broken ≡ true) ⊎ HasFailed old.disk new.disk
+
+-- ---- a journal is opened
+
+-- a file begins with so many bytes of whole lines, after which a part of a line may stand where it
+-- was cut, and nothing where it was not
+abbrev pub HasLinesTo : Bool → ℕ → DiskOf → Type 0
+HasLinesTo true count d = count ≤ length d.bytes
+HasLinesTo false count d = length d.bytes ≡ count
+
+abbrev pub HasLines : Bool → ℕ → Option DiskOf → Type 0
+HasLines cut count None = Unit {0}
+HasLines cut count (Some d) = HasLinesTo cut count d
+
+-- the file of a journal over a file with so many bytes of whole lines: these are its lines, and it
+-- goes on after them
+pub record OpensOver (count : ℕ) (old : Option DiskOf) (new : JournalOf) : Type 0 where
+  pub long : new.length ≡ count
+  pub whole : new.broken ≡ false
+  pub lines : lines_in new ≡ option_map (λ d. take count d.bytes) old

@@ -1,8 +1,10 @@
 -- Which requests are from the program's own pages.
-use Rattle.std.specs.Prelude.{ℕ, ◌&&◌, nat_le, nat_eq, Bool, List, length, drop, codes, is_some}
+use Rattle.std.specs.Prelude.{◌≡◌, ℕ, ◌&&◌, nat_le, nat_eq, Bool, List, length, drop, codes}
+use Rattle.std.specs.Prelude.{is_some}
 use Rattle.std.specs.Prelude.{slice_get}
 use Rattle.std.specs.Prelude.{bytes_eq}
 use Rattle.std.specs.List.{list_all, list_any, starts_with}
+use Rattle.hex.specs.Hex.{encode_lower}
 use Rattle.http.specs.declared.request.Request.{Request}
 use Rattle.http.specs.Request.{head_of}
 use Rattle.http_header.specs.FieldValue.{FieldValue}
@@ -40,6 +42,10 @@ is_own hosts request =
     has_some (values_in (codes "host") request)
     && are_hosts hosts (values_in (codes "host") request)
     && are_origins hosts (values_in (codes "origin") request)
+
+-- what each form carries so that it is taken: 16 bytes, each as two hexadecimal digits
+abbrev pub IsToken : List ℕ → Type 0
+IsToken text = (bytes : List ℕ) × (length bytes ≡ 16) × (text ≡ encode_lower bytes)
 
 -- a form carries the token
 abbrev pub has_token : List ℕ → List Pair → Bool

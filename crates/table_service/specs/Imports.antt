@@ -50,7 +50,7 @@ options_of parts = record {
 abbrev pub PlansFile : Around → Options → List ℕ → Plan → Type 0
 PlansFile around options bytes plan =
     ((commands : List Command) × SetsUp options bytes commands
-    × LooksAt around (lines commands) plan)
+    × LooksAt around (codes "/import") (lines commands) plan)
     ⊎ ((why : FileFault) × FileFails options bytes why × (words : List ℕ)
     × ShowsPage shown.Wrong (faults_page around (codes "/import") words) plan)
 

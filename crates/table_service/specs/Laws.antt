@@ -1,6 +1,6 @@
 -- What holds of each answer of the score table.
-use Rattle.std.specs.Prelude.{◌≡◌, ◌⊎◌, ℕ, ◌+◌, ◌++◌, ◌∷◌, [], true, false, List, Some, Ok, codes}
-use Rattle.std.specs.Prelude.{take}
+use Rattle.std.specs.Prelude.{◌≡◌, ◌⊎◌, ℕ, ◌+◌, ◌++◌, ◌||◌, ◌∷◌, [], true, false, List, Some, Ok}
+use Rattle.std.specs.Prelude.{codes, take}
 use Rattle.acceptor.specs.declared.entry.Entry.{Entry}
 use Rattle.attempts.specs.declared.Value.{Value}
 use Rattle.http.specs.declared.request.Request.{Request}
@@ -22,22 +22,28 @@ use Rattle.outbox.specs.declared.state.State.TheVariants as state
 use Rattle.outbox.specs.Histories.{Call, CallLeads, World, world}
 use Rattle.outbox.specs.Items.{ItemsOf, item_in}
 use Rattle.outbox.specs.Lines.{HallOf}
+use Rattle.outbox.specs.Outboxes.{may_answer}
 use Rattle.outbox.specs.States.{state_of}
 use Rattle.rounds.specs.Tables.{Table}
+use Rattle.table_views.specs.Editions.{is_latest}
 use Rattle.table_views.specs.Logs.{accepted_in}
 use Rattle.table_views.specs.Standing.{values_of}
+use Rattle.texts.specs.Fields.{was_of}
 use Rattle.texts.specs.declared.command.CardEntry.{CardEntry}
 use Rattle.texts.specs.declared.command.Command.{Command}
 use Rattle.texts.specs.declared.command.Command.TheVariants.{Card}
 use Rattle.texts.specs.declared.command.Settings.{Settings}
 use Rattle.table_service.specs.declared.plan.Problem.TheVariants as problem
 use Rattle.table_service.specs.Answering.{card_over, id_of}
+use Rattle.table_service.specs.Checks.{doubts}
 use Rattle.table_service.specs.Disks.{IsSynced, lines_in}
 use Rattle.table_service.specs.Gate.{has_token, is_own}
+use Rattle.table_service.specs.Lists.{is_known, would_be_done}
+use Rattle.table_service.specs.Plans.{are_confirmed}
 use Rattle.table_service.specs.Remarks.{remark_of}
 use Rattle.table_service.specs.Replies.{IsProblem, security}
 use Rattle.table_service.specs.Requests.{is_post, path_of, sent_pairs}
-use Rattle.table_service.specs.Undoing.{undone_entry}
+use Rattle.table_service.specs.Undoing.{may_undo, undone_entry}
 use Rattle.table_service.specs.Services.{Answers, IsKept, ServiceOf, TakesAll}
 
 -- ---- what is taken
@@ -49,15 +55,21 @@ pub record IsForm (s : ServiceOf) (request : Request (List ℕ)) : Type 0 where
   pub method : is_post request ≡ true
   pub token : has_token s.token (sent_pairs request) ≡ true
 
--- the form of a card is read as this one command, over what its page showed, under its own id, with
--- this remark
-pub record AsksForCard (pairs : List Pair) (remark : List ℕ) (entries : List Entry) : Type 0 where
+-- The form of a card is read as this one command, over what its page showed, under its own id, with
+-- this remark. By this log the latest edition holds, and the form confirms all that is to be
+-- confirmed of the card that its entry spells.
+pub record AsksForCard (log : List Entry) (pairs : List Pair) (remark : List ℕ)
+    (entries : List Entry) : Type 0 where
+  pub latest : is_latest (accepted_in log) ≡ true
   pub form : CardForm
   pub sent : card_form_of pairs ≡ Ok form
   pub card : CardEntry
   pub read : IsReadAs form card
   pub entry : Entry
   pub is : card_entry form.id card remark ≡ Some entry
+  pub spelled : CardEntry
+  pub spells : card_in entry.text ≡ Some spelled
+  pub sure : are_confirmed (value_of (codes "sure") pairs) (doubts (accepted_in log) spelled) ≡ true
   pub alone : entries ≡ entry ∷ []
 
 -- the command that a command's form asks for
@@ -69,52 +81,58 @@ pub record AsksForOne (pairs : List Pair) (entries : List Entry) : Type 0 where
   pub asks : AsksOf pairs text
   pub are : entries ≡ command_entries id (text ∷ [])
 
--- the commands of the lines of a form, each under an id of its own
-pub record AsksForAll (pairs : List Pair) (entries : List Entry) : Type 0 where
+-- the commands of the lines of a form, each under an id of its own; the first is known, or all of
+-- them would be accepted after this log
+pub record AsksForAll (log : List Entry) (q : ItemsOf) (pairs : List Pair) (entries : List Entry)
+    : Type 0 where
   pub id : ℕ
   pub named : form_id_of (value_of (codes "id") pairs) ≡ Some id
   pub texts : List (List ℕ)
   pub read : texts_in (value_of (codes "lines") pairs) ≡ Some texts
+  pub done : (is_known q id || would_be_done log id texts) ≡ true
   pub are : entries ≡ command_entries id texts
 
--- what was typed into a card that was not saved, over what the form's page showed that stands
-pub record AsksAgain (q : ItemsOf) (pairs : List Pair) (remark : List ℕ) (entries : List Entry)
-    : Type 0 where
+-- what was typed into a card that this log does not save, over what the form's page showed that
+-- stands
+pub record AsksAgain (log : List Entry) (q : ItemsOf) (pairs : List Pair) (remark : List ℕ)
+    (entries : List Entry) : Type 0 where
   pub of : ℕ
   pub named : id_of pairs ≡ Some of
   pub card : CardEntry
   pub item : Item
   pub known : item_in q of ≡ Some item
   pub typed : card_in item.entry.text ≡ Some card
+  pub may : may_answer log q of ≡ true
   pub was : List Value
+  pub shows : was_of (value_of (codes "was") pairs) ≡ Some was
   pub entry : Entry
   pub id : ℕ
   pub is : card_entry id (card_over card was) remark ≡ Some entry
   pub alone : entries ≡ entry ∷ []
 
--- what stood before a card that is saved, over what that card left, by these accepted commands
-pub record AsksBack (q : ItemsOf) (pairs : List Pair) (remark : List ℕ) (entries : List Entry)
-    : Type 0 where
+-- what stood before a card that this log saves, over what that card left, by what the log accepts
+pub record AsksBack (log : List Entry) (q : ItemsOf) (pairs : List Pair) (remark : List ℕ)
+    (entries : List Entry) : Type 0 where
   pub of : ℕ
   pub named : id_of pairs ≡ Some of
   pub card : CardEntry
   pub item : Item
   pub known : item_in q of ≡ Some item
   pub typed : card_in item.entry.text ≡ Some card
-  pub accepted : List Command
+  pub may : may_undo log q of ≡ true
   pub entry : Entry
   pub id : ℕ
-  pub is : undone_entry accepted id card remark ≡ Some entry
+  pub is : undone_entry (accepted_in log) id card remark ≡ Some entry
   pub alone : entries ≡ entry ∷ []
 
--- the entries that the pairs at a path ask for; a card has this remark
-abbrev pub AsksFor : ItemsOf → List ℕ → List Pair → List ℕ → List Entry → Type 0
-AsksFor q path pairs remark entries =
-    ((path ≡ codes "/card") × AsksForCard pairs remark entries)
+-- the entries that the pairs at a path ask for, where the log is this one; a card has this remark
+abbrev pub AsksFor : List Entry → ItemsOf → List ℕ → List Pair → List ℕ → List Entry → Type 0
+AsksFor log q path pairs remark entries =
+    ((path ≡ codes "/card") × AsksForCard log pairs remark entries)
     ⊎ ((path ≡ codes "/command") × AsksForOne pairs entries)
-    ⊎ ((path ≡ codes "/commands") × AsksForAll pairs entries)
-    ⊎ ((path ≡ codes "/again") × AsksAgain q pairs remark entries)
-    ⊎ ((path ≡ codes "/undo") × AsksBack q pairs remark entries)
+    ⊎ ((path ≡ codes "/commands") × AsksForAll log q pairs entries)
+    ⊎ ((path ≡ codes "/again") × AsksAgain log q pairs remark entries)
+    ⊎ ((path ≡ codes "/undo") × AsksBack log q pairs remark entries)
 
 -- no item is taken
 abbrev pub TakesNothing : ServiceOf → ServiceOf → Type 0
@@ -127,7 +145,7 @@ pub record IsTaken (old : ServiceOf) (request : Request (List ℕ)) (response : 
   pub entries : List Entry
   pub list : ItemsOf
   pub form : IsForm old request
-  pub asked : AsksFor old.outbox.list (path_of request) (sent_pairs request)
+  pub asked : AsksFor old.mirroring.entries old.outbox.list (path_of request) (sent_pairs request)
       (remark_of old.name old.clock) entries
   pub taken : TakesAll old.outbox.list entries old.time list
   pub items : new.outbox.list.items ≡ list.items

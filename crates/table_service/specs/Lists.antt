@@ -83,14 +83,15 @@ paired (text ∷ texts) [] = []
 paired (text ∷ texts) (answer ∷ answers) = (text, answer) ∷ paired texts answers
 
 -- the page says what each would be answered, if the first had the first id of the page's forms
-pub record Previews (around : Around) (texts : List (List ℕ)) (plan : Plan) : Type 0 where
+pub record Previews (around : Around) (back : List ℕ) (texts : List (List ℕ)) (plan : Plan)
+    : Type 0 where
   pub tried : List Tried
   pub are : map tried_as tried
       ≡ paired texts (answered around.mirror.now (get_or around.ids.now 0 0) texts)
-  pub shows : ShowsPage shown.Asked (preview_page around tried) plan
+  pub shows : ShowsPage shown.Asked (preview_page around back tried) plan
 
--- lines are looked at
-abbrev pub LooksAt : Around → List ℕ → Plan → Type 0
-LooksAt around lines plan =
-    (AreUnfit lines × RefusesWith around (codes "/import") unfit_words plan)
-    ⊎ ((texts : List (List ℕ)) × (texts_in lines ≡ Some texts) × Previews around texts plan)
+-- lines are looked at, from the page at the path `back`
+abbrev pub LooksAt : Around → List ℕ → List ℕ → Plan → Type 0
+LooksAt around back lines plan =
+    (AreUnfit lines × RefusesWith around back unfit_words plan)
+    ⊎ ((texts : List (List ℕ)) × (texts_in lines ≡ Some texts) × Previews around back texts plan)

@@ -11,7 +11,7 @@ use Rattle.table_service.specs.Answering.{PlansAgain, PlansAnswered}
 use Rattle.table_service.specs.Gate.{has_token}
 use Rattle.table_service.specs.Imports.{PlansImport}
 use Rattle.table_service.specs.Lists.{LooksAt, PlansList}
-use Rattle.table_service.specs.Plans.{PlansCard, PlansCommand, PlansRead}
+use Rattle.table_service.specs.Plans.{PlansCard, PlansCommand, PlansRead, page_after}
 use Rattle.table_service.specs.Replying.{refuses}
 use Rattle.table_service.specs.Requests.{is_post, is_read, path_of, sent_pairs}
 use Rattle.table_service.specs.Undoing.{PlansUndo}
@@ -38,7 +38,7 @@ PlansSentAnswers around q path pairs plan =
 abbrev pub PlansAtLines : Around → ItemsOf → List ℕ → List Pair → Bool → Bool → Plan → Type 0
 PlansAtLines around q path pairs true lines plan = PlansList around q pairs plan
 PlansAtLines around q path pairs false true plan =
-    LooksAt around (value_of (codes "lines") pairs) plan
+    LooksAt around (page_after pairs) (value_of (codes "lines") pairs) plan
 PlansAtLines around q path pairs false false plan = PlansSentAnswers around q path pairs plan
 
 -- the pairs of lines that are sent to a path

@@ -8,7 +8,8 @@ use std::io::Write;
 
 /// A file at whose end bytes are put.
 pub trait Disk {
-    /// Its bytes, and how many of the first of them a crash leaves, where that is told.
+    /// Its bytes, how many of the first of them a crash leaves, and how many of its calls failed,
+    /// where that is told.
     ghost holds: { Self → Option DiskOf };
 
     /// Puts bytes after the others. False where that fails; then a front part of them may be there.

@@ -1,7 +1,7 @@
 //! The journal's file.
 
-ghost use Rattle.std.specs.Prelude.{◌≡◌};
-ghost use Rattle.table_service.specs.Disks.{CutsBack, Keeps, Puts};
+ghost use Rattle.std.specs.Prelude.{◌≡◌, IfOk, false, true};
+ghost use Rattle.table_service.specs.Disks.{CutsBack, HasLines, Keeps, OpensOver, Puts};
 
 use crate::disk::{Disk, SystemFile};
 use outbox::{HallName, Journal, JournalFault, read_journal};
@@ -101,8 +101,8 @@ fn cut_back<D: Disk>(disk: &mut D, length: u64) -> bool
 
 impl<D: Disk> JournalFile<D> {
     /// Puts lines, with their ends, after the others, so that they are there after a crash. False
-    /// where that fails; then what stands after the others is taken away, and nothing more is put
-    /// there where that fails too.
+    /// where the file fails; then what stands after the others is taken away, and nothing more is
+    /// put there where that fails too. Also false where they would be 2^64 bytes and more.
     pub(crate) fn keep(&mut self, lines: &[u8]) -> bool
         ensures { Keeps result lines.now self.old self.new }
     {
@@ -160,25 +160,44 @@ fn bytes_of(alloc: Global, file: &File) -> Result<Vec<u8>, FileFault> {
     Ok(bytes)
 }
 
-/// The journal that a file has, whose last line is taken out of it where it was not written to its
-/// end. What was read is synced: a program that was killed before its sync may have left lines that
-/// a crash would take.
-fn opened_over(disk: SystemFile, journal: Journal) -> Result<Opened, FileFault> {
-    let mut disk = disk;
-    let length = journal.whole as u64;
-    let stands = if journal.cut {
-        cut_back(&mut disk, length)
+/// Makes sure that a file has its whole lines alone, of so many bytes, also after a crash: a part
+/// of a line is taken away where it was cut. What was read is synced: a program that was killed
+/// before its sync may have left lines that a crash would take. False where that fails.
+fn make_whole<D: Disk>(disk: &mut D, length: u64, cut: bool) -> bool
+    requires { HasLines cut length (D.holds disk.old) }
+    ensures { result ≡ true → CutsBack true length (D.holds disk.old) (D.holds disk.new) }
+{
+    if cut {
+        cut_back(disk, length)
     } else {
         disk.sync()
-    };
-    if !stands {
+    }
+}
+
+/// The file of a journal over a file that has so many bytes of whole lines, after which a part of a
+/// line stands where it was cut.
+fn opened_over<D: Disk + Drop>(disk: D, length: u64, cut: bool) -> Result<JournalFile<D>, FileFault>
+    requires { HasLines cut length (D.holds disk) }
+    ensures { IfOk result (OpensOver length (D.holds disk)) }
+{
+    let mut disk = disk;
+    if !make_whole(&mut disk, length, cut) {
         return Err(FileFault::System);
     }
-    let file = JournalFile {
+    Ok(JournalFile {
         disk,
         length,
         is_broken: false,
-    };
+    })
+}
+
+/// The journal that a file has, whose last line is taken out of it where it was not written to its
+/// end.
+fn opened_with(disk: SystemFile, journal: Journal) -> Result<Opened, FileFault>
+    ensures { IfOk result (λ opened. (opened.journal ≡ journal)
+        × (opened.file.length ≡ journal.whole) × (opened.file.broken ≡ false)) }
+{
+    let file = opened_over(disk, journal.whole as u64, journal.cut)?;
     Ok(Opened { journal, file })
 }
 
@@ -192,7 +211,7 @@ fn begun(alloc: Global, disk: SystemFile, hall: &HallName, now: u64) -> Result<O
         return Err(FileFault::System);
     }
     let journal = read_journal(alloc, hall, FIRST_DESK, &line, now)?;
-    opened_over(disk, journal)
+    opened_with(disk, journal)
 }
 
 /// Opens the journal of a hall at a path, or begins it there, and reads what it says. A line that
@@ -208,7 +227,7 @@ pub fn open_journal(
     let bytes = bytes_of(rt.alloc(), &file)?;
     let disk = SystemFile { file };
     match read_journal(rt.alloc(), hall, FIRST_DESK, &bytes, now) {
-        Ok(journal) => opened_over(disk, journal),
+        Ok(journal) => opened_with(disk, journal),
         Err(JournalFault::Empty) => begun(rt.alloc(), disk, hall, now),
         Err(fault) => Err(FileFault::Unread(fault)),
     }

@@ -7,7 +7,8 @@ use outbox::laws::{saved_is_entered, told_by_the_log};
 
 /// A law: nothing is taken but what a form asks for that names no foreign host or origin, comes by
 /// POST and carries the token: a card is the one command that its form is read as, under the id of
-/// that form. It is answered that it is taken only where its line is kept.
+/// that form, which confirms all that the mirror's log of that moment asks of the card. It is
+/// answered that it is taken only where its line is kept.
 pub fn forms_alone_are_taken()
     ensures { TakesForForms }
 {}

@@ -49,24 +49,35 @@ pub(crate) fn first_id(ids: &[FormId; 32]) -> FormId
     ids[0]
 }
 
-/// The page that says what each command would be answered.
-fn preview(alloc: Global, around: &Around<'_>, texts: &CommandTexts) -> Result<Plan, AllocError>
-    ensures { IfOk result (Previews around.entry.now texts.now) }
+/// The page that says what each command would be answered, after which the browser goes to this
+/// path.
+fn preview(
+    alloc: Global,
+    around: &Around<'_>,
+    back: &[u8],
+    texts: &CommandTexts,
+) -> Result<Plan, AllocError>
+    ensures { IfOk result (Previews around.entry.now back.now texts.now) }
 {
     let id = first_id(around.ids);
     let answers = answers_to(alloc, around.mirror.log(), id, texts)?;
     let tried = tried_of(alloc, texts.as_slice(), &answers)?;
-    let page = preview_page(alloc, around, &tried)?;
+    let page = preview_page(alloc, around, back, &tried)?;
     Ok(Plan::with_ids(Shown::Asked, page))
 }
 
-/// What is to be done for lines that are to be looked at.
-pub(crate) fn look(alloc: Global, around: &Around<'_>, lines: &[u8]) -> Result<Plan, AllocError>
-    ensures { IfOk result (LooksAt around.entry.now lines.now) }
+/// What is to be done for lines that are to be looked at, from the page at this path.
+pub(crate) fn look(
+    alloc: Global,
+    around: &Around<'_>,
+    back: &[u8],
+    lines: &[u8],
+) -> Result<Plan, AllocError>
+    ensures { IfOk result (LooksAt around.entry.now back.now lines.now) }
 {
     match texts_in(alloc, lines)? {
-        Some(texts) => preview(alloc, around, &texts),
-        None => refuse(alloc, around, PLACE, UNFIT),
+        Some(texts) => preview(alloc, around, back, &texts),
+        None => refuse(alloc, around, back, UNFIT),
     }
 }
 
@@ -80,7 +91,7 @@ fn look_at_file(
     ensures { IfOk result (PlansFile around.entry.now options bytes.now) }
 {
     match lines_of_file(alloc, bytes, options)? {
-        FileLines::Lines(lines) => look(alloc, around, &lines),
+        FileLines::Lines(lines) => look(alloc, around, PLACE, &lines),
         FileLines::Refused { fault, words } => {
             let _fault = fault;
             let page = faults_page(alloc, around, PLACE, &words)?;

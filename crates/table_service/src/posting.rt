@@ -1,11 +1,14 @@
 //! What is to be done for a request of one of the program's own pages.
 
-ghost use Rattle.std.specs.Prelude.{◌≡◌, IfOk};
+ghost use Rattle.std.specs.Prelude.{◌≡◌, IfOk, codes};
+ghost use Rattle.card_forms.specs.Pairs.{value_of};
+ghost use Rattle.table_service.specs.Lists.{LooksAt};
+ghost use Rattle.table_service.specs.Plans.{page_after};
 ghost use Rattle.table_service.specs.Sent.{PlansOwn, PlansPost, PlansSent};
 ghost use Rattle.table_service.specs.Requests.{is_post, is_read};
 
 use crate::answering::{plan_again, plan_answered};
-use crate::commanding::plan_command;
+use crate::commanding::{page_after, plan_command};
 use crate::entering::plan_card;
 use crate::listing::plan_list;
 use crate::looking::{look, plan_import};
@@ -33,6 +36,14 @@ fn is_post(request: &Request<Bytes>) -> bool
     request.method().as_str() == "POST"
 }
 
+/// What is to be done for lines that are to be looked at: the browser goes on to the form's `back`.
+fn look_back(alloc: Global, around: &Around<'_>, pairs: &Pairs) -> Result<Plan, AllocError>
+    ensures { IfOk result (LooksAt around.entry.now (page_after pairs.now)
+        (value_of (codes "lines") pairs.now)) }
+{
+    look(alloc, around, page_after(pairs), pairs.value("lines"))
+}
+
 /// What is to be done for the pairs that are sent to a path.
 fn plan_sent(
     alloc: Global,
@@ -50,7 +61,7 @@ fn plan_sent(
     } else if path == "/commands" {
         plan_list(alloc, outbox, around, pairs)
     } else if path == "/lines" {
-        look(alloc, around, pairs.value("lines"))
+        look_back(alloc, around, pairs)
     } else if path == "/again" {
         plan_again(alloc, outbox, around, pairs)
     } else if path == "/answered" {

@@ -1,8 +1,9 @@
 //! What a score table is told when it is started.
 
-ghost use Rattle.std.specs.Prelude.{◌≡◌, IfOk};
+ghost use Rattle.std.specs.Prelude.{◌≡◌, IfOk, string_bytes};
+ghost use Rattle.table_service.specs.Gate.{IsToken};
 
-use std::alloc::Global;
+use std::alloc::{AllocError, Global};
 use std::io;
 use std::net::SocketAddr;
 use std::random::RandomSource;
@@ -22,9 +23,17 @@ pub struct Setup {
     pub token: String,
 }
 
+/// The token of these bytes.
+fn token_of(alloc: Global, bytes: &[u8; 16]) -> Result<String, AllocError>
+    ensures { IfOk result (λ token. IsToken (string_bytes token)) }
+{
+    let token = hex::encode(alloc, bytes.as_slice())?;
+    Ok(token)
+}
+
 impl Setup {
-    /// That of a table at this address: on this machine, its name is a host too. The token is 128
-    /// random bits.
+    /// That of a table at this address: on this machine, its name is a host too. The token is 16
+    /// random bytes as 32 hexadecimal digits.
     pub fn new<R: RandomSource>(
         source: &R,
         alloc: Global,
@@ -34,6 +43,7 @@ impl Setup {
     ) -> io::Result<Setup>
         ensures title { IfOk result (λ s. s.title ≡ title) }
         ensures name { IfOk result (λ s. s.name ≡ name) }
+        ensures token { IfOk result (λ s. IsToken (string_bytes s.token)) }
     {
         let mut hosts = Vec::new(alloc);
         hosts.push(format!(in alloc; "{address}")?)?;
@@ -41,13 +51,9 @@ impl Setup {
             let port = address.port();
             hosts.push(format!(in alloc; "localhost:{port}")?)?;
         }
-        let mut first = [0; 8];
-        let mut last = [0; 8];
-        source.fill_bytes(&mut first)?;
-        source.fill_bytes(&mut last)?;
-        let first = u64::from_be_bytes(first);
-        let last = u64::from_be_bytes(last);
-        let token = format!(in alloc; "{first:016x}{last:016x}")?;
+        let mut bytes = [0; 16];
+        source.fill_bytes(&mut bytes)?;
+        let token = token_of(alloc, &bytes)?;
         Ok(Setup {
             title,
             name,

@@ -35,8 +35,8 @@ body.entry main { display: grid; grid-template-columns: 30rem minmax(0, 1fr); ga
   grid-template-areas: \"card round\" \"recent round\"; grid-template-rows: auto 1fr; }
 #card { grid-area: card; }
 #recent { grid-area: recent; }
-#beside { grid-area: round; contain: layout style; }
-body:has(#blind:checked) #round { visibility: hidden; }
+#beside { grid-area: round; contain: content; }
+#card:has(#blind:checked) ~ #beside #round { visibility: hidden; }
 [hidden] { display: none; }
 .field { display: grid; grid-template-columns: 6rem 9rem minmax(0, 1fr) auto; gap: .1rem .6rem;
   align-items: center; margin: .25rem 0; }
@@ -74,6 +74,7 @@ th, td { padding: .15rem .4rem; border-bottom: 1px solid var(--line); text-align
 #round :is(table, caption, thead, tbody) { display: block; }
 #round tr { display: grid; grid-template-columns: 3rem 3.5rem minmax(10rem, 1fr);
   grid-auto-columns: minmax(4.4rem, 6.2rem); grid-auto-flow: column; }
+#round tbody tr { content-visibility: auto; contain-intrinsic-size: auto 1.7rem; }
 #round th:nth-child(3), #round td:nth-child(3), body.hall th, body.hall td { text-align: left; }
 #round td:nth-child(3) { overflow-wrap: anywhere; min-width: 8rem; unicode-bidi: plaintext; }
 #round td:last-child, #round th:last-child { display: none; }
@@ -81,11 +82,10 @@ tr.absent { background: var(--soft); }
 tr.begun td:first-child { border-left: .3rem solid var(--wait); }
 tr.absent td:first-child { border-left: .3rem solid var(--line); }
 tr.done td:first-child { border-left: .3rem solid var(--good); }
-td.changed { animation: changed 5s; }
-@keyframes changed { from, 80% { background: var(--mark); } }
+td.changed { background: var(--mark); }
 #round tr.hidden { display: none; }
 tr.read td:nth-child(2)::after { content: \" \\2713\"; color: var(--good); }
-tr.current td { border-top: 2px solid var(--link); border-bottom: 2px solid var(--link); }
+tr.current { outline: 2px solid var(--link); outline-offset: -2px; }
 body.hall form { display: flex; flex-wrap: wrap; gap: .6rem; align-items: end; }
 body.hall td { overflow-wrap: anywhere; }
 body.hall ul, body.hall main section > ol { columns: 16rem; margin: .2rem 0; padding-left: 1.6rem; }
@@ -140,8 +140,11 @@ const rowsIn = (text) => [...text.matchAll(/^(<tr class=.*?<td>)([^<]*)(.*?numbe
   .map(([, start, place, rest, number]) => ({ place, number, html: start + rest }));
 const byNumber = (found) => new Map(found.map(({ number, html }) => [number, html]));
 const pageBeside = (text) => pageOf(text.replace(/^<tr class=.*/gm, ''));
-const say = (it, textContent, wrong) =>
-  Object.assign(it, { textContent, className: wrong ? 'wrong' : '' });
+// What is so already stays, since the browser lays out anew whatever is set.
+const put = (it, values) => {
+  for (const [key, value] of Object.entries(values)) if (it[key] !== value) it[key] = value;
+};
+const say = (it, textContent, wrong) => put(it, { textContent, className: wrong ? 'wrong' : '' });
 // ---- what is typed, read as the program reads it
 const two = (number) => String(number).padStart(2, '0');
 const clock = (n) => (n < 6000 ? Math.floor(n / 100)
@@ -257,7 +260,9 @@ function bestOf(readings) {
 let whose = '', moved = '', warned = null, sure = '', chosen = 0;
 const rows = () => all('#round tbody tr');
 const cell = (row, place) => row.cells[place].textContent;
-const rowOf = (text) => rows().find((row) => cell(row, 1) === String(Number(text)));
+// The rows by their numbers.
+const numbered = () => new Map(rows().map((row) => [cell(row, 1), row]));
+const rowOf = (text) => shown.numbered.get(String(Number(text)));
 const nameOf = (row) => cell(row, 1) + ' ' + cell(row, 2);
 const textsOf = (row) => fields.map((field, place) => cell(row, 5 + place).replace(/^-$/, ''));
 const enter = (field) => { field.focus(); field.select(); };
@@ -283,7 +288,7 @@ function update() {
     if (field.disabled) readings[place] = null;
     const { wrong, words = '' } = readings[place] || {};
     say(beside(field, 'output'), field.disabled ? 'the cutoff is not met' : wrong || words, wrong);
-    field.ariaInvalid = wrong ? 'true' : 'false';
+    put(field, { ariaInvalid: wrong ? 'true' : 'false' });
   });
   say($('average'), averageOf(readings.filter(Boolean).map((reading) => reading.value)));
   say($('best'), bestOf(readings));
@@ -298,24 +303,34 @@ function show(number, name, was, texts, typed) {
   say($('who'), name);
   form.elements.was.value = was;
   fields.forEach((field, place) => {
-    const stands = texts[place] || '';
-    Object.assign(beside(field, '.stands'), { textContent: stands, className: 'stands' });
-    field.value = !typed ? stands : place in typed ? typed[place] ?? stands : '';
+    const stands = texts[place] || '', text = !typed || typed[place] === null ? stands
+      : typed[place] || '';
+    put(beside(field, '.stands'), { textContent: stands, className: 'stands' });
+    field.value = reads(text, place, stands) ? stands : text;
   });
   warned = null;
   suggest([]);
   update(), point();
 }
-// What stands changed while the card is open: fields that were typed in stay as they are.
+// Whether a text that is no solution is read as what stands.
+function reads(text, place, stands) {
+  const { value, result = value } = read(text, place) || {};
+  return rules.unit !== 'moves' && result === stands;
+}
+const isWhole = (field) => field.selectionStart === 0 && field.selectionEnd === field.value.length;
+// What stands changed while the card is open: fields that were typed in stay as they are, unless
+// what was typed is read as what stands now and nobody types in it.
 function keepUp() {
   const row = rowOf(whose), was = form.elements.was.value;
   if (!whose || !row || isBlind() || row.dataset.was === was) return;
   textsOf(row).forEach((text, place) => {
     const field = fields[place], stands = beside(field, '.stands'), typed = touched(field);
     if (stands.textContent === text) return;
-    const here = field === document.activeElement, { result } = read(field.value, place) || {};
-    if (typed === null || (result === text && !here)) field.value = text;
-    if (typed === null && here) field.select();
+    const here = field === document.activeElement, left = !here || isWhole(field);
+    if (typed === null || (left && reads(typed, place, text))) {
+      field.value = text;
+      if (here) field.select();
+    }
     if (entered(field)) entered(field).remove();
     stands.textContent = text;
     stands.classList.add('changed');
@@ -323,6 +338,7 @@ function keepUp() {
   form.elements.was.value = row.dataset.was;
   [warned, sure] = [null, ''];
   update();
+  if (!isTyped()) tell(row);
 }
 function empty() {
   sure = moved = '';
@@ -345,11 +361,16 @@ function waitingOf(row) {
 }
 const typedIn = (line) =>
   all('.typed span', line).map((it) => it.className === 'kept' ? null : it.textContent);
-// Says by which entry of the log a card stands so, and where one without attempts is withdrawn.
+// Says by which entry of the log a card stands so, at once; and where one without attempts is
+// withdrawn, where nothing is typed on it for a moment.
 async function tell(row) {
-  const answer = await fetch(location.pathname + '?number=' + cell(row, 1)).catch(() => null);
-  const page = pageBeside(answer ? await answer.text() : '');
-  if (whose !== cell(row, 1) || isBlind()) return;
+  const number = cell(row, 1), path = location.pathname + '?number=' + number;
+  if (!hasAny(row)) await new Promise((done) => setTimeout(done, 400));
+  if (whose !== number || isBlind() || (!hasAny(row) && isTyped())) return;
+  const answer = await fetch(path).catch(() => null), text = answer ? await answer.text() : '';
+  const page = pageOf(text.split('<section id=\"recent\"', 1)[0]);
+  if (whose !== number || isBlind()) return;
+  for (const it of all('.origin', form)) it.remove();
   form.prepend(...all('.origin', page));
   fill(page.querySelector('form[data-unit]'));
 }
@@ -386,6 +407,7 @@ function candidates() {
 }
 function suggest(found) {
   chosen = Math.max(0, Math.min(chosen, found.length - 1));
+  if (found.length + $('found').children.length === 0) return;
   $('found').replaceChildren(...found.map((row, place) => {
     const line = make('li', nameOf(row)), is = place === chosen;
     Object.assign(line, { id: 'found' + place, role: 'option', ariaSelected: String(is) });
@@ -558,7 +580,6 @@ async function send() {
   for (busy = true; sending.length > 0;) {
     const card = sending[0];
     card.body.set('token', form.elements.token.value);
-    askOften();
     const answer = await fetch('/card', { method: 'POST', body: card.body, redirect: 'manual' })
       .catch(() => ({ status: 500 }));
     const taken = answer.status !== 403 && answer.status < 500;
@@ -585,8 +606,9 @@ function mark() {
 }
 // Marks the row whose number is typed.
 function point() {
-  const { value } = $('number');
-  for (const row of rows()) row.classList.toggle('current', cell(row, 1) === value);
+  const now = shown.numbered.get($('number').value);
+  for (const row of all('#round .current')) if (row !== now) row.classList.remove('current');
+  if (now) now.classList.add('current');
 }
 // Puts what was entered of late in the place of what is shown.
 function replaceRecent(page) {
@@ -605,7 +627,7 @@ function replaceRound(page, text) {
     if (it.outerHTML !== next.outerHTML) it.replaceWith(next);
   });
   const lines = rowsIn(text), body = document.querySelector('#round tbody'), made = make('tbody');
-  const before = new Map(rows().map((row) => [cell(row, 1), row]));
+  const before = shown.numbered;
   let at = body.firstElementChild;
   for (const { number, place, html } of lines) {
     let row = before.get(number);
@@ -619,27 +641,27 @@ function replaceRound(page, text) {
   }
   for (const row of rows().slice(lines.length)) row.remove();
   shown.rows = byNumber(lines);
+  shown.numbered = numbered();
 }
-// A row of the same competitor becomes as another one is.
+// A row of the same competitor becomes as another one is. Cells that differ are marked for a while;
+// by no animation, since each frame of one costs more than all else.
 function become(row, now) {
-  if (!row) return now;
+  if (!row || row.cells.length !== now.cells.length) return now;
   Object.assign(row, { className: now.className }).dataset.was = now.dataset.was;
-  [...now.cells].forEach((it, place) => {
-    const old = row.cells[place], className = place > 2 ? 'changed' : '';
-    if (old.textContent === it.textContent) old.className = '';
-    else old.replaceWith(Object.assign(it, { className }));
-  });
+  const pairs = [...row.cells].map((old, place) => [old, now.cells[place]]);
+  const differ = pairs.filter(([old, it]) => old.textContent !== it.textContent);
+  for (const [old, it] of differ) old.replaceWith(it);
+  const marked = differ.map(([, it]) => it).filter((it) => it.cellIndex > 2);
+  const name = (className) => marked.forEach((it) => Object.assign(it, { className }));
+  name('changed'), setTimeout(name, 4000, '');
   return row;
 }
 // The words of the bar are put anew only where they differ, since a screen reader says them then.
 function replaceBar(now) {
   const bar = $('bar'), parts = [...bar.children];
   if (parts.length !== now.children.length) return bar.replaceWith(now);
-  bar.className = now.className;
-  parts.forEach((it, place) => {
-    const { textContent } = now.children[place];
-    if (it.textContent !== textContent) Object.assign(it, { textContent });
-  });
+  put(bar, { className: now.className });
+  parts.forEach((it, place) => put(it, { textContent: now.children[place].textContent }));
 }
 // Says of each item that waited what became of it.
 function announce() {
@@ -647,7 +669,7 @@ function announce() {
     const which = [...line.childNodes].filter((it) => !/^(EM|FORM)$/.test(it.nodeName));
     const key = which.map((it) => it.textContent).join(''), told = line.querySelector('em');
     if (states.get(key) === 'waits' && line.className !== 'waits') {
-      say($('spoken'), key + told.textContent);
+      $('spoken').textContent = key + told.textContent;
     }
     states.set(key, line.className);
   }
@@ -717,7 +739,8 @@ async function post(action, pairs) {
   return wordsIn(pageOf(answer.text ? await answer.text() : '')) || 'not taken';
 }
 const positionOf = (page) => page.querySelector('#bar small').textContent;
-// Asks for the page of a path, at most twice at once, and says in the bar where none comes.
+// Asks for the page of a path, at most twice at once, and says in the bar where none comes. True
+// where one came.
 async function ask(path, take) {
   const turn = asked += 1, { under = 0, newest = 0 } = asks[path] || {};
   if (under > 1) return;
@@ -729,6 +752,7 @@ async function ask(path, take) {
     if (!answer.ok || turn < asks[path].newest) return;
     asks[path].newest = turn;
     take(text, turn);
+    return true;
   } catch (error) {
     if (turn < asks[path].newest) return;
     const told = 'The score table does not answer. Cards wait in this page: leave it open.';
@@ -762,21 +786,27 @@ function takePage(text, turn) {
   replaceFront(page), keepUp(), mark();
 }
 // Looks what was entered of late, which each page has, and that of `/import` is small whatever the
-// rounds are; and at the page itself where the log has grown, or may have what was sent. For one
-// length of the log, and while a card waits, that is only each second.
-let looked = 0, wanted = '';
+// rounds are; and at the page itself where the log has grown: at once where all that was sent is
+// decided, since the round has it then, and else each second, since a large round is dear.
+let looked = 0, wanted = '', later = 0, often = 0;
 async function look() {
-  await ask('/import', takeRecent);
-  const isSoon = performance.now() < looked + 1000, { latest } = shown;
-  const isSame = latest === shown.position && (waits || sent.length === 0);
-  if (isSame || (isSoon && (waits || latest === wanted))) return;
+  const came = await ask('/import', takeRecent);
+  if (came && waits && often > 0) often -= 1, look();
+  const left = looked + 1000 - performance.now(), { latest } = shown;
+  if (latest === shown.position && (waits || sent.length === 0)) return;
+  clearTimeout(later);
+  if (left > 0 && (waits || sent.length === 0 || latest === wanted)) {
+    return void (later = setTimeout(look, left));
+  }
   [looked, wanted] = [performance.now(), latest];
   ask(location.pathname + (form ? '' : location.search), takePage);
 }
-// Looks at once and then less and less often, since something was sent, until nothing waits.
+// Looks since something was sent, until nothing waits: some times as soon as the last answer came,
+// and then less and less often.
 function askOften() {
-  [waits, since] = [true, asked];
-  for (const after of [10, 20, 30, 50, 80, 130, 200, 350, 600]) {
+  [waits, since, often] = [true, asked, 4];
+  look();
+  for (const after of [10, 20, 30, 40, 55, 75, 100, 130, 200, 350, 600]) {
     setTimeout(() => waits && look(), after);
   }
 }
@@ -835,6 +865,7 @@ function addOptions() {
 }
 function begin() {
   shown.rows = byNumber(rowsIn($('round').outerHTML));
+  shown.numbered = numbered();
   for (const it of all('[hidden]')) it.hidden = false;
   addOptions();
   const choice = ({ target }) => mayLeave() ? empty() : target.checked = !target.checked;

@@ -1,12 +1,14 @@
-use Rattle.std.proofs.Common.{Ok, ap, ◌∙◌}
-use Rattle.texts.specs.declared.command.Entered.TheVariants as entered
+use Rattle.std.proofs.Common.{◌∙◌, ℕ, Option, subst, sym}
+use Rattle.std.specs.Prelude.{IfSome}
+use Rattle.card_forms.specs.Asking.{IsClock}
+use Rattle.card_forms.proofs.Lacking.{clock_lacks, clock_value}
 use Rattle.card_forms.proofs.command_fields.clock.Goals as goal
 
-pub returns-in-Ok-Time-default-eq0 : goal.returns-in-Ok-Time-default-eq0
-returns-in-Ok-Time-default-eq0 c =
-    let here = c.in-Ok-Time-default-eq0 in (
-      c.read.ensures.found (entered.Time here.hundredths 0)
-          (here.is
-          ∙ ap Ok (here.field-0-is ∙ ap (entered.Time here.hundredths) here.field-0-1-test)),
-      c.if-hundredths-le-MOST_TIME.true,
-    )
+pub returns-clause-value : goal.returns-clause-value
+returns-clause-value c =
+    subst (λ (o : Option ℕ). IfSome o (IsClock c.args.text.now)) (sym c.clock_of.ensures)
+    (clock_value c.args.text.now c.read.result c.read.ensures.found)
+
+pub returns-clause-lacks : goal.returns-clause-lacks
+returns-clause-lacks c none =
+    clock_lacks c.args.text.now c.read.result c.read.ensures.only (sym c.clock_of.ensures ∙ none)

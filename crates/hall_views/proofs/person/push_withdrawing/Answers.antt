@@ -1,21 +1,17 @@
 use Rattle.std.proofs.Common.{codes, ◌++◌}
 use Rattle.std.proofs.lemmas.Result.{on_ok_weaker}
 use Rattle.markup.proofs.board_page.Steps.{three_parts, two_parts, when_ok}
-use Rattle.hall_views.specs.Person.{person_form, withdrawing}
+use Rattle.hall_views.specs.Person.{person_form, withdrawing, withdrawing_head}
 use Rattle.hall_views.proofs.person.push_withdrawing.Goals as goal
 
 pub returns : goal.returns
 unfolding withdrawing
 returns c =
     let out = c.args.out.now.items in
-    let head =
-    codes "<h2>Withdraw</h2>\n<p>From a round that is open, before the first attempt in it. From a "
-    ++ codes "later round it can't be taken back: the best of the round before who has a result, "
-    ++ codes "did not go on and has not taken a place yet takes the place.</p>\n" in
     let start = person_form c.args.token.now c.args.form (codes "WDR") c.args.number in
     let buttons = c.args.buttons.now in
     on_ok_weaker c.extend_from_slice-3.result
-    (two_parts out (head ++ start ++ buttons) (codes "</form>\n") _ _
-    (three_parts out head start buttons _ _ _ c.in_ok-extend_from_slice.ensures.items
+    (two_parts out (withdrawing_head ++ start ++ buttons) (codes "</form>\n") _ _
+    (three_parts out withdrawing_head start buttons _ _ _ c.in_ok-extend_from_slice.ensures.items
     c.in_ok-push_person_form.ensures c.in_ok-extend_from_slice-2.ensures.items))
     (when_ok _ _ _ _ c.extend_from_slice-3.ensures.items)

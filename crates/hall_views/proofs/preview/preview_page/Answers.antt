@@ -11,5 +11,5 @@ returns c =
     three_parts []
     (top (codes "hall") (codes "What would be entered") around.desks.now
     (length around.mirror.now))
-    (preview_section around c.args.tried.now) bottom _ _ _ c.in_ok-page.ensures
+    (preview_section around c.args.back.now c.args.tried.now) bottom _ _ _ c.in_ok-page.ensures
     c.in_ok-push_section.ensures c.in_ok-push_bottom.ensures

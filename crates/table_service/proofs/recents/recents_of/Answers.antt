@@ -14,7 +14,8 @@ loop-later-preserved c =
           (map shown c.push_if.new.recents.items) _ (omega arith)
           (c.in-Some.ensures
           ∙ ap (λ (n : ℕ). slice_get list.items (n - 1 - c.loop-later.later)) count)
-          c.state_of-state.ensures c.is_answered.ensures c.is_shown-shows.ensures c.left_after-left.ensures
+          c.state_of-state.ensures c.is_answered.ensures c.is_shown-shows.ensures
+          c.left_after-left.ensures
           c.in_ok-push_if.ensures.shown c.loop-later.invariant.items;
       by = c.in_ok-push_if.ensures.by c.loop-later.invariant.by;
     }
