@@ -6,6 +6,7 @@ use Rattle.std.specs.declared.alloc.AllocError.{AllocError}
 use Rattle.acceptor.specs.declared.entry.Entry.{Entry}
 use Rattle.card_forms.specs.declared.pairs.Pair.{Pair}
 use Rattle.card_forms.specs.Entries.{command_entries}
+use Rattle.card_forms.specs.Faults.{IsWrong as AsksNone, Said, said_words}
 use Rattle.card_forms.specs.Pairs.{value_of}
 use Rattle.command_lists.specs.declared.file.FileLines.{FileLines}
 use Rattle.command_lists.specs.declared.file.FileLines.TheVariants as file
@@ -38,13 +39,18 @@ pub page_shown : (status : Shown) (text : List ℕ) (page : Vec ℕ Global) (pla
 page_shown status text page plan is made =
     subst (λ (p : Plan). ShowsPage status text p) (sym made) ((refl, is), refl)
 
--- the page says what is wrong
-pub is_wrong : (around : Around) (pairs : List Pair) (back why : List ℕ) → back ≡ page_after pairs
-    → (r : Result Plan AllocError) → IfOk r (RefusesWith around back why)
+-- the page says which field is wrong, and why
+pub is_wrong : (around : Around) (pairs : List Pair) (it : Said) → AsksNone pairs it
+    → (back words : List ℕ) → back ≡ page_after pairs → words ≡ said_words it
+    → (r : Result Plan AllocError) → IfOk r (RefusesWith around back words)
     → IfOk r (IsWrong around pairs)
-is_wrong around pairs back why same (Ok plan) wrong =
-    (why, subst (λ (place : List ℕ). RefusesWith around place why plan) same wrong)
-is_wrong around pairs back why same (Err error) wrong = tt
+is_wrong around pairs it none back words same says (Ok plan) wrong = (
+  it,
+  none,
+  subst (λ (place : List ℕ). RefusesWith around place (said_words it) plan) same
+      (subst (λ (why : List ℕ). RefusesWith around back why plan) says wrong),
+)
+is_wrong around pairs it none back words same says (Err error) wrong = tt
 
 module _ (around : Around) (q : ItemsOf) (pairs : List Pair) (id : ℕ) where
   -- the first of them is known, or all would be accepted

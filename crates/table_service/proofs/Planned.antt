@@ -290,7 +290,7 @@ module _ (More : Type 0) (log : List Entry) (q : ItemsOf) (path : List ℕ) (pai
 
     command : path ≡ codes "/command" → PlansCommand around q pairs plan → Found
     command at (inl lacks) = refused problem.BadForm lacks.1
-    command at (inr (inl wrong)) = ids wrong.1.1
+    command at (inr (inl wrong)) = ids wrong.2.1
     command at (inr (inr asks)) =
         taken (page_after pairs) (entry_with asks.id asks.text ∷ [])
         (inr (inl (

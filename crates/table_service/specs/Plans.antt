@@ -15,6 +15,7 @@ use Rattle.card_forms.specs.declared.pairs.Pair.{Pair}
 use Rattle.card_forms.specs.Asking.{Asks, IsCommandText}
 use Rattle.card_forms.specs.Cards.{card_form_of, form_id_of}
 use Rattle.card_forms.specs.Entries.{card_entry, card_in, entry_with}
+use Rattle.card_forms.specs.Faults.{IsWrong as AsksNone, Said, said_words}
 use Rattle.card_forms.specs.Pairs.{value_of}
 use Rattle.card_forms.specs.Readings.{IsNotRead, IsReadAs}
 use Rattle.outbox.specs.Items.{ItemsOf, item_in}
@@ -186,9 +187,11 @@ abbrev pub page_after : List Pair → List ℕ
 page_after pairs =
     if has_forms (value_of (codes "back") pairs) then value_of (codes "back") pairs else codes "/"
 
--- the page that says what is wrong
+-- the form asks for no command: the page says which of its fields is wrong, and why
 abbrev pub IsWrong : Around → List Pair → Plan → Type 0
-IsWrong around pairs plan = (why : List ℕ) × RefusesWith around (page_after pairs) why plan
+IsWrong around pairs plan =
+    (it : Said) × AsksNone pairs it
+    × RefusesWith around (page_after pairs) (said_words it) plan
 
 -- the form asks for a command, which is taken under its id
 pub record AsksCommand (q : ItemsOf) (around : Around) (pairs : List Pair) (plan : Plan)

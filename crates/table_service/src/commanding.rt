@@ -2,6 +2,7 @@
 
 ghost use Rattle.std.specs.Prelude.{◌≡◌, ◌∷◌, [], IfOk};
 ghost use Rattle.card_forms.specs.Entries.{entry_with};
+ghost use Rattle.card_forms.specs.Faults.{IsWrong as AsksNone};
 ghost use Rattle.hall_views.specs.Refused.{faults_page};
 ghost use Rattle.table_service.specs.Plans.{IsWrong, PlansCommand, RefusesWith, has_forms};
 ghost use Rattle.table_service.specs.Plans.{page_after};
@@ -12,7 +13,7 @@ use crate::entries::plan_entries;
 use crate::plan::{Plan, Problem, Shown};
 use crate::reading::{number_below, round_below};
 use card_forms::{
-    CommandForm, CommandFormFault, CommandTexts, Pairs, command_entries, command_form,
+    CommandForm, CommandFormFault, CommandTexts, Field, Pairs, Wrong, command_entries, command_form,
 };
 use hall_views::{faults_page, refused_page};
 use outbox::Outbox;
@@ -66,17 +67,19 @@ pub(crate) fn tell(
     Ok(Plan::with_ids(Shown::Wrong, page))
 }
 
-/// The page that says what is wrong.
+/// The page that says which field of a form is wrong, and why.
 fn wrong(
     alloc: Global,
     around: &Around<'_>,
     pairs: &Pairs,
-    fault: CommandFormFault,
+    field: Field,
+    why: Wrong,
 ) -> Result<Plan, AllocError>
+    requires { AsksNone pairs.now (field, why) }
     ensures { IfOk result (IsWrong around.entry.now pairs.now) }
 {
-    let why = format!(in alloc; "{fault}")?;
-    refuse(alloc, around, page_after(pairs), why.as_bytes())
+    let words = format!(in alloc; "{field}: {why}")?;
+    refuse(alloc, around, page_after(pairs), words.as_bytes())
 }
 
 /// What is to be done for a command that a form asks for.
@@ -109,6 +112,6 @@ pub(crate) fn plan_command(
         Ok(form) => plan_text(alloc, outbox, around, form, page_after(pairs)),
         Err(CommandFormFault::NoMemory) => Err(AllocError),
         Err(CommandFormFault::BadId) => Ok(Plan::problem(Problem::BadForm)),
-        Err(fault) => wrong(alloc, around, pairs, fault),
+        Err(CommandFormFault::Wrong { field, why }) => wrong(alloc, around, pairs, field, why),
     }
 }
