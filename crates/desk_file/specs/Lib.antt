@@ -1,2 +1,3 @@
 pub mod Files
+pub mod Marks
 pub mod stored_log

@@ -1,9 +1,10 @@
 -- The desk that is opened on its files.
-use Rattle.std.specs.Prelude.{◌≡◌, false, List}
+use Rattle.std.specs.Prelude.{◌≡◌, false, List, []}
+use Rattle.acceptor.specs.Storing.{first_stored}
 use Rattle.acceptor.specs.declared.entry.Entry.{Entry}
 use Rattle.acceptor.specs.declared.stored.Stored.{Stored}
 use Rattle.sqlite.specs.Recovery.{Image}
-use Rattle.desk_file.specs.Files.{HeldAs, HeldBy, IsMadeIn, StandsIn}
+use Rattle.desk_file.specs.Files.{HeldAs, HeldBy, StandsIn}
 use Rattle.replica.specs.Nodes.{NodeValue}
 use Rattle.replica.specs.roles.Opening.{opened}
 use Rattle.store.specs.declared.home.Home.{Home}
@@ -13,12 +14,19 @@ use Rattle.hall_file.specs.declared.service.Making.TheVariants as making
 
 -- What the two files held of a desk that is opened with this state and this log. As it is needed:
 -- its tables had them, or there was no table yet and they are the first ones. Where a store has to
--- be there: its tables had them. Where one has to be made: there was no table, and they are the
--- first ones.
+-- be there: its tables had them. Where one was made before the file was put into use: its tables
+-- had them, and they are the first ones.
 abbrev pub HeldFor : Making → Image → Home → Stored → List Entry → Type 0
 HeldFor making.AsNeeded files home s log = HeldBy files home s log
 HeldFor making.Open files home s log = HeldAs files (StandsIn home s log)
-HeldFor making.New files home s log = HeldAs files (IsMadeIn s log)
+HeldFor making.New files home s log =
+    HeldAs files (StandsIn home s log) × (s ≡ first_stored) × (log ≡ [])
+
+-- how a file is opened that is there: one that was made, as one that has to be there
+abbrev pub opening_of : Making → Making
+opening_of making.AsNeeded = making.AsNeeded
+opening_of making.Open = making.Open
+opening_of making.New = making.Open
 
 -- The keeper of this desk keeps a state and a log that the files held so, where they have given
 -- back what was written to them.

@@ -81,11 +81,12 @@ IsOfStore fault.Device = Unit {0}
 IsOfStore fault.NoMemory = Unit {0}
 IsOfStore _ = ⊥
 
--- those of the file and of the other desks' addresses, before the desk is opened
+-- those of the file and of the desks' addresses, before the desk is opened
 abbrev pub IsOfOpening : ServeFault → Service → Type 0
 IsOfOpening fault.NoStore s = s.making ≡ making.Open
 IsOfOpening fault.StoreThere s = s.making ≡ making.New
 IsOfOpening (fault.UnknownHost desk) s = IsOfFile s.making × IsNoAddress (texts_of s) desk
+IsOfOpening fault.CannotListen s = s.making ≡ making.New
 IsOfOpening f s = IsOfStore f
 
 -- each fault of the store goes by its own name

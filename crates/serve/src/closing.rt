@@ -1,5 +1,6 @@
 //! A desk's file, closed when the desk has served.
 
+use desk_file::put_away;
 use node::Node;
 use sqlite::{FileFrom, FileStore, Start};
 use store::keeper::Keeper;
@@ -13,9 +14,10 @@ pub trait Close {
 
 impl<S: Start> Close for SqlKeeper<FileStore<FileFrom<S>>> {
     /// Copies what stands in the file's log into the file itself, so that who copies the file alone
-    /// has everything. Where the device refuses that, the log beside the file still has it.
+    /// has everything, and says in the file that it is in use no more. Where the device refuses
+    /// that, the log beside the file still has it.
     fn close(self) {
-        let _ = self.into_connection().close();
+        put_away(self);
     }
 }
 

@@ -1,22 +1,37 @@
 //! The store of a desk that is to serve: opened or made, as it is asked for.
 
-ghost use Rattle.std.specs.Prelude.{◌≡◌, IfErr, IfOk};
+ghost use Rattle.std.specs.Prelude.{◌≡◌, [], IfErr, IfOk, IsTrue};
+ghost use Rattle.acceptor.specs.Storing.{first_stored};
+ghost use Rattle.sqlite.specs.Recovery.{Image};
 ghost use Rattle.sqlite.specs.WalFiles.{image_at};
 ghost use Rattle.store.specs.Ranges.{IsHome};
-ghost use Rattle.serve.specs.Files.{KeepsFor};
+ghost use Rattle.store.specs.declared.home.Home.{Home as Place};
+ghost use Rattle.serve.specs.Files.{KeepsFor, opening_of};
 ghost use Rattle.serve.specs.Printing.{IsOfOpening, IsOfStore, refusal_of};
 
 use crate::fault::{ServeFault, fault_of_open};
-use crate::hall::unknown_in;
-use desk_file::{make_keeper, open_keeper, open_keeper_there};
+use crate::hall::{listen, unknown_in};
+use acceptor::stored::Stored;
+use desk_file::{check_use, fault_of_load, make_file, open_keeper, open_keeper_there, put_in_use};
 use hall_file::service::{Making, Service};
-use sqlite::{FileFrom, FileStore, Start};
+use learner::log::Log;
+use sqlite::{FileFrom, FileStore, Start, Unknown};
+use std::alloc::Global;
 use std::fs;
 use std::io::ErrorKind;
 use std::rt::Files;
 use store::home::Home;
 use store::keeper::Keeper;
 use store::sql::SqlKeeper;
+
+/// The store of a desk that was opened.
+#[derive(Drop)]
+pub struct Opened<K> {
+    /// What keeps the desk's state and its log.
+    pub keeper: K,
+    /// A number that grows each time that the file is opened to serve.
+    pub start: u32,
+}
 
 /// Why a file is not opened in which a store is, or none.
 fn refusal_of(making: Making, there: bool) -> Option<ServeFault>
@@ -44,8 +59,8 @@ fn has_bytes<R: Files>(rt: &R, path: &str) -> Result<bool, ServeFault>
 }
 
 /// Looks whether the store is there that is to be opened, or none where one is to be made, and then
-/// whether each desk's address can be found. Where a store is made as it is needed, nothing is
-/// looked at.
+/// whether each desk's address can be found, and whether the desk's own can be had before a store
+/// is made. Where a store is made as it is needed, nothing is looked at.
 fn may_open(rt: &HostRuntime, service: Service<'_>) -> Result<(), ServeFault>
     ensures { IfErr result (λ f. IsOfOpening f service.entry) }
 {
@@ -62,22 +77,32 @@ fn may_open(rt: &HostRuntime, service: Service<'_>) -> Result<(), ServeFault>
     if let Some(desk) = unknown_in(rt, service.addresses) {
         return Err(ServeFault::UnknownHost { desk });
     }
-    Ok(())
+    match service.making {
+        Making::AsNeeded | Making::Open => Ok(()),
+        Making::New => match listen(rt, service, 0) {
+            Ok(_) => Ok(()),
+            Err(fault) => Err(fault),
+        },
+    }
 }
 
-/// Opens the store of a desk, or makes it, as its service says. `S` stands for what its file held.
-///
-/// # Errors
-///
-/// - `NoStore` where one has to be there, and the file is not there or has nothing in it, and
-///   `StoreThere` where one has to be made, and the file has something in it: nothing is opened.
-/// - `UnknownHost` where the store is to be opened or made as a hall's file says, and no address is
-///   found of a desk: nothing is opened or made.
-/// - `StoreThere` also where one has to be made, and the database has a table: nothing is made.
-/// - `Damaged` also where one has to be there, and the database has no table: none is made. So it
-///   is with a file of one page whose log was lost.
-/// - `WrongDesk`, `Damaged`, `Device` and `NoMemory` as for [`open_keeper`].
-pub fn open_store<S: Start>(
+/// Makes the file of a desk where one has to be made.
+fn make_as_asked(rt: &HostRuntime, service: Service<'_>, home: Home) -> Result<(), ServeFault>
+    requires { IsHome home }
+    ensures { IfErr result (λ f. IsOfOpening f service.entry) }
+{
+    match service.making {
+        Making::AsNeeded | Making::Open => Ok(()),
+        Making::New => match make_file(rt, home, service.store) {
+            Ok(()) => Ok(()),
+            Err(fault) => Err(fault_of_open(fault)),
+        },
+    }
+}
+
+/// Opens a file as this desk's store, of whatever it held: where a store is made as it is needed,
+/// in a file without one too.
+fn open_as_asked<S: Start>(
     rt: &HostRuntime,
     service: Service<'_>,
     home: Home,
@@ -85,12 +110,9 @@ pub fn open_store<S: Start>(
 ) -> Result<SqlKeeper<FileStore<FileFrom<S>>>, ServeFault>
     requires { IsHome home }
     ensures opened { IfOk result (KeepsFor ⟦<SqlKeeper<FileStore<FileFrom<S>>> as Keeper>⟧
-        service.entry.making (image_at S.Start) home) }
+        (opening_of service.entry.making) (image_at S.Start) home) }
     ensures err { IfErr result (λ f. IsOfOpening f service.entry) }
 {
-    if let Err(fault) = may_open(rt, service) {
-        return Err(fault);
-    }
     let path = service.store;
     match service.making {
         Making::AsNeeded => match open_keeper(rt, home, path, start) {
@@ -101,10 +123,128 @@ pub fn open_store<S: Start>(
             Ok(keeper) => Ok(keeper),
             Err(fault) => Err(fault_of_open(fault)),
         },
-        Making::New => match make_keeper(rt, home, path, start) {
-            Ok(Some(keeper)) => Ok(keeper),
-            Ok(None) => Err(ServeFault::StoreThere),
+        Making::New => match open_keeper_there(rt, home, path, start) {
+            Ok(keeper) => Ok(keeper),
             Err(fault) => Err(fault_of_open(fault)),
         },
+    }
+}
+
+/// Opens the file of a desk as its store, closes it with all that it has, and puts it into its next
+/// use. So a file that is no desk's store is never marked.
+fn put_file_in_use(rt: &HostRuntime, service: Service<'_>, home: Home) -> Result<u32, ServeFault>
+    requires { IsHome home }
+    ensures { IfErr result (λ f. IsOfOpening f service.entry) }
+{
+    if let Err(fault) = check_use(rt, service.store) {
+        return Err(fault_of_open(fault));
+    }
+    let keeper = match open_as_asked(rt, service, home, Unknown) {
+        Ok(keeper) => keeper,
+        Err(fault) => return Err(fault),
+    };
+    match put_in_use(rt, keeper) {
+        Ok(start) => Ok(start),
+        Err(fault) => Err(fault_of_open(fault)),
+    }
+}
+
+/// Whether they are a desk's first state and an empty log.
+fn is_new(stored: &Stored, log: &Log) -> bool
+    ensures { IsTrue result → (stored.now ≡ first_stored) × (log.now.entries ≡ []) }
+{
+    *stored == Stored::new() && log.len() == 0
+}
+
+/// The keeper of a store that was made, where it keeps a desk's first state with an empty log.
+fn first_of<K: Keeper + Drop>(
+    alloc: Global,
+    service: Service<'_>,
+    mut keeper: K,
+) -> Result<K, ServeFault>
+    requires { service.making ≡ Making.New }
+    ensures first { IfOk result (λ it. (files : Image) (home : Place)
+        → KeepsFor K.Keeper Making.Open files home keeper
+        → KeepsFor K.Keeper Making.New files home it) }
+    ensures err { IfErr result (λ f. IsOfOpening f service.entry) }
+{
+    match keeper.load(alloc) {
+        Ok((stored, log)) => {
+            if !is_new(&stored, &log) {
+                return Err(ServeFault::StoreThere);
+            }
+            Ok(keeper)
+        }
+        Err(fault) => Err(fault_of_open(fault_of_load(fault))),
+    }
+}
+
+/// The keeper of a store that was opened, where it keeps what was asked for.
+fn as_asked<K: Keeper + Drop>(
+    alloc: Global,
+    service: Service<'_>,
+    keeper: K,
+) -> Result<K, ServeFault>
+    ensures kept { IfOk result (λ it. (files : Image) (home : Place)
+        → KeepsFor K.Keeper (opening_of service.entry.making) files home keeper
+        → KeepsFor K.Keeper service.entry.making files home it) }
+    ensures err { IfErr result (λ f. IsOfOpening f service.entry) }
+{
+    match service.making {
+        Making::AsNeeded => Ok(keeper),
+        Making::Open => Ok(keeper),
+        Making::New => first_of(alloc, service, keeper),
+    }
+}
+
+/// Opens the store of a desk, or makes it, as its service says, and puts its file into its next use
+/// before anything is kept in it. `S` stands for what the file and its log held once it was in use.
+///
+/// # Errors
+///
+/// - `NoStore` where one has to be there, and the file is not there or has nothing in it, and
+///   `StoreThere` where one has to be made, and the file has something in it: nothing is opened.
+/// - `UnknownHost` where the store is to be opened or made as a hall's file says, and no address is
+///   found of a desk: nothing is opened or made.
+/// - `CannotListen` where one has to be made, and the desk's address can't be had: none is made.
+/// - `Damaged` where one has to be made, and the log of a file is there that is lost: none is made.
+/// - `Damaged` where the file is in use, and the log of this use is not beside it: it is the file
+///   of an older desk then. Nothing is opened.
+/// - `Damaged` also where one has to be there, and the database has no table: none is made. So it
+///   is with a file of one page whose log was lost.
+/// - `WrongDesk`, `Damaged`, `Device` and `NoMemory` as for [`open_keeper`].
+/// - `StoreThere` also where one has to be made, and it has more than a first state once it is
+///   opened.
+pub fn open_store<S: Start>(
+    rt: &HostRuntime,
+    service: Service<'_>,
+    home: Home,
+    start: S,
+) -> Result<Opened<SqlKeeper<FileStore<FileFrom<S>>>>, ServeFault>
+    requires { IsHome home }
+    ensures opened { IfOk result (λ it. KeepsFor ⟦<SqlKeeper<FileStore<FileFrom<S>>> as Keeper>⟧
+        service.entry.making (image_at S.Start) home it.keeper) }
+    ensures err { IfErr result (λ f. IsOfOpening f service.entry) }
+{
+    if let Err(fault) = may_open(rt, service) {
+        return Err(fault);
+    }
+    if let Err(fault) = make_as_asked(rt, service, home) {
+        return Err(fault);
+    }
+    let number = match put_file_in_use(rt, service, home) {
+        Ok(number) => number,
+        Err(fault) => return Err(fault),
+    };
+    let opened = match open_as_asked(rt, service, home, start) {
+        Ok(keeper) => keeper,
+        Err(fault) => return Err(fault),
+    };
+    match as_asked(rt.alloc(), service, opened) {
+        Ok(keeper) => Ok(Opened {
+            keeper,
+            start: number,
+        }),
+        Err(fault) => Err(fault),
     }
 }

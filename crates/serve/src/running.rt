@@ -232,9 +232,10 @@ pub fn serve<S: Start, W: Write>(
         Ok(doors) => doors,
         Err(fault) => return Err(fault),
     };
-    let keeper = match open_store(rt, service, home, start) {
-        Ok(keeper) => keeper,
+    let opened = match open_store(rt, service, home, start) {
+        Ok(opened) => opened,
         Err(fault) => return Err(fault),
     };
-    serve_kept(rt, service, doors, 0, keeper, writer)
+    let number = u64::from(opened.start);
+    serve_kept(rt, service, doors, number, opened.keeper, writer)
 }

@@ -14,7 +14,7 @@ ghost use Rattle.desk_file.specs.stored_log.model.Back.{IsBack};
 ghost use Rattle.desk_file.specs.stored_log.model.Kept.{IsKeptBy, IsLogOf};
 
 use crate::stored_log::fault::{LogFault, fault_of_open, fault_of_run};
-use crate::{fault_of_load, open_file};
+use crate::{check_use, fault_of_load, open_file};
 use archive::write_log;
 use learner::log::Log;
 use sqlite::{Alter, Connection, Error, FileFrom, FileStore, Row, Start};
@@ -141,7 +141,8 @@ fn log_in<S: Alter + Drop>(rt: &HostRuntime, mut conn: Connection<S>) -> Result<
     }
 }
 
-/// Opens a file that is there. `S` stands for what it and its log held.
+/// Opens a file that is there, and has the log of its use beside it where it is in use. `S` stands
+/// for what it and its log held.
 fn open<S: Start>(
     rt: &HostRuntime,
     path: &str,
@@ -156,6 +157,9 @@ fn open<S: Start>(
         Ok(true) => {}
         Ok(false) => return Err(LogFault::Damaged),
         Err(fault) => return Err(fault),
+    }
+    if let Err(fault) = check_use(rt, path) {
+        return Err(fault_of_open(fault));
     }
     match open_file(rt, path, start) {
         Ok(conn) => Ok(conn),
@@ -182,8 +186,8 @@ fn log_of<S: Start>(rt: &HostRuntime, path: &str, start: S) -> Result<Log, LogFa
 ///
 /// # Errors
 ///
-/// - `Damaged` where the file holds no desk's store, and `Device` where it is not there or can't be
-///   opened or read: nothing is written.
+/// - `Damaged` where the file holds no desk's store, or is in use without its log beside it, and
+///   `Device` where it is not there or can't be opened or read: nothing is written.
 /// - `Write` where a write fails: a front part of the lines is written.
 /// - `NoMemory` where memory runs out: nothing is written, or a front part of the lines.
 pub fn write_stored_log<S: Start, W: Write>(

@@ -47,10 +47,10 @@ returns-in-Err-doors_of-clause-fails g c =
 
 pub returns-clause-serves : goal.returns-clause-serves
 returns-clause-serves g c =
-    runs_on _ _ c.in-Ok.home c.in-Ok-open_store.keeper c.args.service _ c.serve_kept.result
+    runs_on _ _ c.in-Ok.home c.in-Ok-open_store.opened.keeper c.args.service _ c.serve_kept.result
     c.in-Ok.ensures.ok.0 c.in-Ok-open_store.ensures.opened c.serve_kept.ensures.serves
 
 pub returns-clause-fails : goal.returns-clause-fails
 returns-clause-fails g c =
-    fails_on _ _ c.in-Ok.home c.in-Ok-open_store.keeper c.args.service _ c.serve_kept.result
+    fails_on _ _ c.in-Ok.home c.in-Ok-open_store.opened.keeper c.args.service _ c.serve_kept.result
     c.in-Ok.ensures.ok.0 c.in-Ok-open_store.ensures.opened c.serve_kept.ensures.fails
