@@ -16,7 +16,7 @@ sys.path.append(str(Path(__file__).resolve().parent.parent / "scripts"))
 import running
 
 MOST = 300_000
-VERSIONS = {1: "One", 2: "Two", 3: "Three", 4: "Four"}
+VERSIONS = {1: "One", 2: "Two", 3: "Three", 4: "Four", 5: "Five"}
 EVENTS = ("Cube3", "Cube2", "Cube4", "Cube5", "Cube6", "Cube7", "Blind3", "FewestMoves",
           "OneHanded", "Clock",
           "Megaminx", "Pyraminx", "Skewb", "Square1", "Blind4", "Blind5", "MultiBlind")
@@ -28,9 +28,9 @@ CODES = ("Unread", "Repeat", "UnknownCompetitor", "NameTaken", "RoundUnknown", "
          "CutoffLost",
          "Unfinished", "HasAttempts", "NotClosed", "Changed")
 # how many of the codes each version has: none after Unfinished, none after NotClosed, or all
-CODES_IN = {1: 22, 2: 22, 3: 24, 4: 25}
+CODES_IN = {1: 22, 2: 22, 3: 24, 4: 25, 5: 25}
 REFUSALS = ("Busy", "LogFull", "BallotsSpent", "NoMemory", "Down", "NotThere", "NoSuchRound",
-            "Foreign", "NotAllowed")
+            "Foreign", "NotAllowed", "HallDiffers")
 STYLES = ("Text", "Table")
 ROLES = ("Idle", "Gathering", "Proposing", "Leading")
 
@@ -121,7 +121,17 @@ class Fields:
         named = [("length", length_of_log), ("waiting", byte), ("role", role),
                  ("promised", Fields.promised), ("told", Fields.lengths)]
         values = [f"{name}: {taken(self)}" for name, taken in named]
-        return f"Standing {{ {', '.join(values)} }}"
+        differs = self.difference() if self.version >= 5 else "None"
+        return f"Standing {{ {', '.join(values)}, differs: {differs} }}"
+
+    def difference(self):
+        """What a desk heard that does not agree with its log: from version 5 on."""
+        case = self.number(1, 0, 2)
+        if case == 0:
+            return "None"
+        name, number = ("OtherEntry", "position") if case == 1 else ("Shorter", "length")
+        desk = self.number(1, 1, 5)
+        return f"Some({name} {{ desk: {desk}, {number}: {self.position()} }})"
 
     def log_entries(self):
         """The position, the length of the log, and at most 400 entries that end within it."""
@@ -145,7 +155,7 @@ def style(fields):
 
 
 def refusal(fields):
-    return fields.one_of(REFUSALS, 1)
+    return fields.one_of(REFUSALS[:9 if fields.version < 5 else 10], 1)
 
 
 def role(fields):
@@ -192,11 +202,14 @@ KINDS_FROM_3 = {
     37: ("Standing", [("standing", Fields.standing)]),
     38: ("Entries", [("position", Fields.log_entries)]),
 }
+KINDS_FROM_5 = {
+    23: ("Await", [("id", Fields.id), ("seconds", byte)]),
+}
 
 
 def goes(kind, sender, receiver):
     desk, client = range(1, 6), (0,)
-    from_, to = (desk, desk) if kind <= 7 else (client, desk) if kind <= 22 else (desk, client)
+    from_, to = (desk, desk) if kind <= 7 else (client, desk) if kind <= 23 else (desk, client)
     return sender in from_ and receiver in to
 
 
@@ -205,6 +218,7 @@ def frame(data):
     if data[0] not in VERSIONS:
         return "BadVersion"
     kinds = KINDS | KINDS_FROM_3 if data[0] >= 3 else KINDS
+    kinds = kinds | KINDS_FROM_5 if data[0] >= 5 else kinds
     if data[7] not in kinds:
         return "BadKind"
     name, wanted = kinds[data[7]]

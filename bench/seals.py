@@ -117,14 +117,11 @@ def seal_lines(text):
 
 
 def open_lines(text):
-    direction, size, text = text.split(" ", 2)
+    direction, _size, text = text.split(" ", 2)
     key, stream = parts_of(text)
-    ends = [*range(int(size), len(stream), int(size)), len(stream)]
-    held = [len(opened(key, DIRECTIONS[direction], stream[:end])[1]) for end in ends]
-    bodies, rest, fault = opened(key, DIRECTIONS[direction], stream)
+    bodies, _rest, fault = opened(key, DIRECTIONS[direction], stream)
     data = b"".join(bodies)
-    return [f"{len(data)} bytes, {mac(b'', data).hex()}, {max(held)} held at most, "
-            f"{len(rest)} at the end, {fault}"]
+    return [f"{len(data)} bytes, {mac(b'', data).hex()}, {fault}"]
 
 
 def main():

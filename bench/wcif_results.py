@@ -6,7 +6,8 @@
     bench/wcif_results.py random FROM TO stdin|stdout
 
 `file` prints the file with the results of the meet that the commands make, or a line `fault: ` for
-each thing of the meet that the file has no place for. `cases` prints the exports of the input of
+each thing of the meet that the file has no place for, and a line `note: ` for what is told of the
+file. `cases` prints the exports of the input of
 `files` of tests/bytes and what it has to print for them, and `random` those of random meets and
 files. It is written from the definition (docs/FORMATS.md) over Python's `json` and the meets of
 bench/rules.py, and uses nothing of the crates.
@@ -69,9 +70,13 @@ def items(value, name):
     return found if is_list(found) else []
 
 
-def id_of(value):
-    found = member(value, "id")
+def text(value, name):
+    found = member(value, name)
     return found if isinstance(found, str) and not isinstance(found, Spelled) else ""
+
+
+def id_of(value):
+    return text(value, "id")
 
 
 # --- results -------------------------------------------------------------------------------------
@@ -102,17 +107,72 @@ def ordered(meet):
             for which in range(1, 5) if (what, which) in meet.rounds}
 
 
-def faults(rounds, value):
-    ids = [id_of(item) for event in items(value, "events") for item in items(event, "rounds")]
-    numbers = [member(person, "registrantId") for person in items(value, "persons")
-               if member(member(person, "registration"), "status") == "accepted"]
-    numbers = {str(number) for number in numbers if isinstance(number, Spelled)}
+def quoted(name):
+    """A text in double quotes, with escapes for what is not seen."""
+    known = {'"': '\\"', "\\": "\\\\", "\n": "\\n", "\r": "\\r", "\t": "\\t", "\0": "\\0"}
+    return '"' + "".join(known.get(c, c if c.isprintable() else "\\u{%x}" % ord(c))
+                         for c in name) + '"'
+
+
+def held_rounds(value):
+    """The formats of the file's rounds by their ids: of each id the first."""
+    held = {}
+    for event in items(value, "events"):
+        for item in items(event, "rounds"):
+            held.setdefault(id_of(item), text(item, "format"))
+    return held
+
+
+def persons_by_number(value):
+    """The persons of the file by their numbers, of each number the first: of all, and of those who
+    are accepted."""
+    everyone, accepted = {}, {}
+    for person in items(value, "persons"):
+        number = member(person, "registrantId")
+        if isinstance(number, Spelled):
+            everyone.setdefault(str(number), person)
+            if text(member(person, "registration"), "status") == "accepted":
+                accepted.setdefault(str(number), person)
+    return everyone, accepted
+
+
+def faults(meet, given, rounds, value):
+    """What the file has no place for; given: the pairs of a number and a name that REG and REN
+    gave."""
+    held = held_rounds(value)
+    everyone, accepted = persons_by_number(value)
     for name, table in rounds.items():
-        if name not in ids:
+        if name not in held:
+            if not any(table.entrants.values()):
+                continue
             yield f"{name}: the file has no such round"
         for who in table.standings():
-            if str(who) not in numbers:
-                yield f"{name}: no accepted person has the registrantId {who}"
+            here = f"{name}: number {who} is {quoted(meet.names[who].decode())}, and"
+            person = accepted.get(str(who), everyone.get(str(who)))
+            there = text(person, "name")
+            names = (there.encode(), (there + " " + text(person, "wcaId")).encode())
+            if person is None:
+                yield f"{here} nobody in the file"
+            elif str(who) not in accepted:
+                yield f"{here} in the file {quoted(there)}, not accepted"
+            elif not any((who, called) in given for called in names):
+                yield f"{here} in the file {quoted(there)}"
+
+
+FORMATS = {"ao5": "a", "mo3": "m", "bo1": "1", "bo2": "2", "bo3": "3"}
+
+
+def notes(rounds, value):
+    """What is told of a file with results."""
+    held = held_rounds(value)
+    for name, table in rounds.items():
+        if name not in held:
+            yield f"{name}: left out: it has no result, and the file has no such round"
+            continue
+        if not table.closed:
+            yield f"{name}: the round still runs"
+        if held[name] != FORMATS[table.form]:
+            yield f"{name}: the format is {table.form}, and in the file {quoted(held[name])}"
 
 
 def within(value, name, change):
@@ -142,18 +202,30 @@ def depth(value):
 
 
 def exported(commands, body):
-    """What is printed of a meet and a file: the refused commands, and the file or why there is
-    none."""
+    """Of a meet and a file: the refused commands, all that the file has no place for, what is told
+    of the file with the results, and that file."""
     meet = rules.Meet()
-    out = "".join(f"refused: {c}\n" for c in commands if meet.apply(c.encode()) is not None)
+    refused, given = [], set()
+    for command in commands:
+        if meet.apply(command.encode()) is not None:
+            refused.append(command)
+        elif command.startswith(("REG ", "REN ")):
+            who = int(command.split(" ")[1])
+            given.add((who, meet.names[who]))
     value = parsed(body.removeprefix("\ufeff"))
-    if depth(value) > 64:
-        return out + "too deep\n"
     rounds = ordered(meet)
-    told = list(faults(rounds, value))
-    if told:
-        return out + "".join(f"fault: {fault}\n" for fault in told)
-    return out + printed(filled(rounds, value)) + "\n"
+    told = list(faults(meet, given, rounds, value))
+    return refused, told, list(notes(rounds, value)), printed(filled(rounds, value)) + "\n"
+
+
+def wanted(commands, body, running=True):
+    """What `export` prints and tells of a meet with a round, and its status."""
+    _, missing, told, made = exported(commands, body)
+    lines = "".join(line + "\n" for line in missing or told)
+    if missing:
+        return "", lines, 3
+    runs = any(line.endswith(": the round still runs") for line in told)
+    return "" if runs and not running else made, lines, 1 if told else 0
 
 
 # --- cases ---------------------------------------------------------------------------------------
@@ -164,9 +236,11 @@ CUBE = ["OPEN 333 1 ao5 2:2000 60000 top:2", "ENT 333 3", "ENT 333 1", "ENT 333 
 TRIED = [f"ATT 333 1 {k} {who} {out}" for who, outs in (
     (1, ("T:1500:0", "T:1400:2", "DNF", "T:59990:0", "DNS")), (2, ("T:2100:0", "T:2000:0")))
     for k, out in enumerate(outs, 1)]
+DONE = ["OPEN 222 1 bo1 - 60000 final", "ENT 222 1", "ATT 222 1 1 1 DNF", "CLOSE 222 1"]
 ACCEPTED = '"registration":{"status":"accepted"}'
-PERSONS = '"persons":[' + ",".join('{"registrantId":%d,%s}' % (who, ACCEPTED)
-                                   for who in (1, 2, 3)) + "]"
+PERSONS = '"persons":[' + ",".join(
+    '{"registrantId":%d,%s,"name":"%s"}' % (who, ACCEPTED, name)
+    for who, name in enumerate(("Ann Li", "Bo Ek", "Cy Roe"), 1)) + "]"
 
 
 def one(rounds, front="", back=""):
@@ -210,11 +284,27 @@ CASES = [
      one('{"id":"333-r1"}').replace('"accepted"', "null", 1).replace(
          '2,' + ACCEPTED, '2,"registration":"accepted"').replace(
          "3," + ACCEPTED, '3,"status":"accepted"')),
+    ("a round that the file lacks, without a result", DAY + DONE + CUBE,
+     one('{"id":"222-r1","format":"1"}')),
+    ("a round that the file lacks, with a result", DAY + CUBE + DONE,
+     one('{"id":"333-r1","format":"a"}')),
+    ("a round that is closed", DAY + DONE, one('{"id":"222-r1","format":"1"}')),
+    ("closed, and in another format", DAY + DONE, one('{"id":"222-r1","format":"a"}')),
+    ("a round that runs, in another format", DAY + CUBE,
+     one('{"id":"333-r1","format":"h\\u0007"},{"id":"333-r1","format":"a"}')),
+    ("other names, and a name with a WCA ID", DAY + CUBE,
+     one('{"id":"333-r1"}').replace("Ann Li", "Ann").replace(
+         '"Bo Ek"', '"Bo","wcaId":"Ek"').replace('"Cy Roe"', "null")),
+    ("a name that was changed", DAY + ["EDITION 3"] + CUBE + ["REN 1 Ann Lee", "REN 2 Bo",
+                                                              "REN 3 Ann Lee"],
+     one('{"id":"333-r1"}').replace("Ann Li", "Ann Lee")),
+    ("two persons with a number, of whom one has the name", DAY + CUBE,
+     one('{"id":"333-r1"}').replace("[{", '[{"registrantId":1,"name":"Al",' + ACCEPTED + "},{", 1)),
     ("the number of a pending person and of an accepted one", DAY + CUBE,
      one('{"id":"333-r1"}').replace(
          '"persons":[', '"persons":[{"registrantId":2,"registration":{"status":"pending"}},')),
-    ("no events, no persons", DAY + CUBE, "{}"),
-    ("no object", DAY + CUBE, "[]"),
+    ("no events, no persons", DAY + CUBE + TRIED, "{}"),
+    ("no object", DAY + CUBE + TRIED, "[]"),
     ("two rounds", DAY + ["OPEN 222 1 bo3 - - top:2", "ENT 222 1", "ATT 222 1 1 1 DNS"] + CUBE,
      one('{"id":"222-r1"},{"id":"333-r1"}')),
     ("fewest moves", DAY + ["OPEN 333fm 1 mo3 - - final", "ENT 333fm 1", "ENT 333fm 2"]
@@ -282,12 +372,14 @@ def random_case(seed):
     lines = [f"REG {who} P{who}" for who in people]
     events = chance.sample(rules.EVENTS, chance.randint(1, 3))
     lines += ["EDITION 2"] * ("333mbf" in events)
+    forms = {what: chance.choice(rules.FORMATS[what]) for what in events}
     for what in events:
-        form = chance.choice(rules.FORMATS[what])
+        form = forms[what]
         cut = chance.choice(("-", f"1:{chance.randint(1, 3000)}"))
         lines.append(f"OPEN {what} 1 {form} {cut} {chance.choice(('-', '60000'))} top:9")
         lines += [f"ENT {what} {who}" for who in people if chance.random() < 0.8]
     commands = day(chance, lines)
+    commands += [f"CLOSE {what} 1" for what in events if chance.random() < 0.7]
 
     def something():
         return chance.choice((None, True, Spelled("1.0"), Spelled("-0"), "a\"\\\n\u00e9",
@@ -299,7 +391,8 @@ def random_case(seed):
         return Members(pairs)
 
     def round_of(name):
-        pairs = [("id", name)]
+        pairs = [("id", name), ("format", FORMATS[forms[name[:-3]]])]
+        pairs = pairs[:chance.choice((1, 2, 2, 2, 2))]
         pairs += [("results", something())] * chance.choice((0, 1, 1, 1, 2))
         return mixed(pairs)
 
@@ -310,6 +403,7 @@ def random_case(seed):
     kept = [what for what in events if chance.random() < 0.95]
     held = [who for who in people if chance.random() < 0.97] + [None]
     persons = [mixed([("registrantId", None if who is None else Spelled(who)),
+                      ("name", f"P{who}" if chance.random() < 0.98 else "P"),
                       ("registration", mixed([("status", chance.choice(STATUSES))]))])
                for who in held]
     value = mixed([("persons", persons), ("events", [event_of(what) for what in kept])])
@@ -331,7 +425,13 @@ def stored():
 def case_text(case, which):
     title, commands, body = case
     if which == "stdout":
-        return f"# {title}\n" + exported(commands, body + "\n")
+        refused, missing, told, made = exported(commands, body + "\n")
+        out = f"# {title}\n" + "".join(f"refused: {command}\n" for command in refused)
+        if depth(parsed(body.removeprefix("\ufeff"))) > 64:
+            return out + "too deep\n"
+        if missing:
+            return out + "".join(f"fault: {line}\n" for line in missing)
+        return out + made + "".join(f"note: {line}\n" for line in told)
     given = "".join(f"> {command}\n" for command in commands)
     return f"export {title}\n{given}{body.rstrip()}\nend\n"
 
@@ -339,7 +439,8 @@ def case_text(case, which):
 def main(arguments):
     if arguments[:1] == ["file"] and len(arguments) == 2:
         commands = sys.stdin.read().splitlines()
-        sys.stdout.write(exported(commands, pathlib.Path(arguments[1]).read_text()))
+        case = arguments[1], commands, pathlib.Path(arguments[1]).read_text()
+        sys.stdout.write(case_text(case, "stdout"))
     elif arguments[:1] == ["cases"] and arguments[1:] in (["stdin"], ["stdout"]):
         for case in stored():
             sys.stdout.write(case_text(case, arguments[1]))

@@ -32,11 +32,13 @@ CODES = """Done Unread Repeat UnknownCompetitor NameTaken RoundUnknown RoundOpen
 FormatNotAllowed CutoffNotAllowed LimitNotAllowed NoScramble ScrambleThere WrongOutcome Closed
 Already Full NotEntered OutOfOrder NoMoreAttempts NoSuchAttempt CutoffLost Unfinished
 HasAttempts NotClosed Changed""".split()
-REFUSALS = "Busy LogFull BallotsSpent NoMemory Down NotThere NoSuchRound Foreign NotAllowed".split()
+REFUSALS = """Busy LogFull BallotsSpent NoMemory Down NotThere NoSuchRound Foreign NotAllowed
+HallDiffers""".split()
 ROLES = "idle gathering proposing leading".split()
 SUBMIT, ASK, SHEET, TICK, STOP, STATUS, LOG = 16, 17, 18, 19, 20, 21, 22
 TAKEN, TOLD, SHEET_TEXT, REFUSED, FINE, STANDING, ENTRIES = 32, 33, 34, 35, 36, 37, 38
-FIRST, SECOND, THIRD, FOURTH, CLIENT = 1, 2, 3, 4, 0  # versions of the wire; a client's number
+FIRST, SECOND, THIRD, FOURTH, FIFTH = VERSIONS = 1, 2, 3, 4, 5  # of the wire
+CLIENT = 0  # its number
 LEAST, MOST = 8, 300_000  # the values of a frame's length
 NO_ANSWER = "no answer", 4
 MARK = b"DSK1"  # what a sealed stream begins with, in both directions
@@ -209,10 +211,11 @@ def exchange(given, kind, body, wanted, spoken=FIRST):
             raise Fault(*NO_ANSWER)
         inside = wire.read(length)
     version, of_hall, sender, to, got = struct.unpack(">BIBBB", inside[:8])
-    if version not in (FIRST, SECOND, THIRD, FOURTH):
+    if version not in VERSIONS:
         raise Fault(*NO_ANSWER)
     fields = inside[8:]
-    if (to, got, len(fields)) == (CLIENT, REFUSED, 1) and 1 <= fields[0] <= len(REFUSALS):
+    refusals = REFUSALS if version == FIFTH else REFUSALS[:9]
+    if (to, got, len(fields)) == (CLIENT, REFUSED, 1) and 1 <= fields[0] <= len(refusals):
         raise Fault("refused " + REFUSALS[fields[0] - 1], 3)
     if (of_hall, sender, to, got) != (hall, desk, CLIENT, wanted):
         raise Fault(*NO_ANSWER)
@@ -223,7 +226,13 @@ def enter(given):
     if len(text := given.text.encode("utf-8", "surrogateescape")) > 600:
         raise Fault("text too long", 3)
     entry = struct.pack(">QH", given.id, len(text)) + text
-    if exchange(given, SUBMIT, entry, TAKEN) != entry[:8]:
+    try:
+        taken = exchange(given, SUBMIT, entry, TAKEN, FIFTH)  # which tells each refusal
+    except Fault as fault:
+        if fault.args != NO_ANSWER:
+            raise
+        taken = exchange(given, SUBMIT, entry, TAKEN)  # to a desk of an earlier program
+    if taken != entry[:8]:
         raise Fault(*NO_ANSWER)
     return b"taken %d\n" % given.id
 
@@ -248,14 +257,34 @@ def asked_in(given, version):
     return b"done %d %d %s\n" % (given.id, position, CODES[told[13]].encode())
 
 
-def standing(given):
-    """How a desk stands: its role, the length of its log, its queue, and what it was told."""
-    fields = exchange(given, STATUS, b"", STANDING, THIRD)
+def difference(fields, version):
+    """The desk that the asked one has heard to differ, and how, or none."""
+    if version < FIFTH or fields[:1] == b"\0":
+        if len(fields) != (version == FIFTH):
+            raise Fault(*NO_ANSWER)
+        return None
+    how, desk, value = struct.unpack(">BBI", fields)
+    if how == 1:
+        return desk, f"has another command at {value}"
+    return desk, f"has {value} command{'s' * (value != 1)} and had more"
+
+
+def standing(given, version=THIRD):
+    """How a desk stands: its role, the length of its log, its queue, what it was told, and which
+    other desk differs."""
+    fields = exchange(given, STATUS, b"", STANDING, version)
     try:
         length, waiting, role, _, _, desks = struct.unpack(">IBBIBB", fields[:12])
-        return ROLES[role], length, waiting, struct.unpack(f">{desks}I", fields[12:])
+        rest = 12 + 4 * desks
+        told = struct.unpack(f">{desks}I", fields[12:rest])
+        return ROLES[role], length, waiting, told, difference(fields[rest:], version)
     except (struct.error, IndexError):
         raise Fault(*NO_ANSWER) from None
+
+
+def standing_fully(given):
+    """The same in the version that tells which other desk differs."""
+    return standing(given, FIFTH)
 
 
 def sheet(given):
@@ -317,22 +346,49 @@ def met(given, number, address, question):
         name = "" if desk == number else f"this is desk {desk}  "
         if question is asked_at_first:
             return name + "an earlier program", desk, None
-        role, length, waiting, _ = answer
+        role, length, waiting, _, _ = answer
         noun = "command" if length == 1 else "commands"
         return f"{name}{role}  {length} {noun}  {waiting} waiting", desk, answer
     return said
 
 
+def first_other(given, rows):
+    """Which desk has another command, and where, among the last 400 that all logs have, than the
+    first desk that tells its log; or none, in each desk's place."""
+    end = min((how[1] for _, _, how in rows if how), default=0)
+    start, known, others = max(end - 400, 0), None, []
+    for (_, desk, how), address in zip(rows, given.to):
+        others.append(None)
+        if not how:
+            continue
+        asked = Namespace(hall=given.hall, desk=desk, to=address, patience=given.patience,
+                          key=given.key)
+        try:
+            _, told = part_of_log(asked, start)
+        except Fault:
+            continue
+        known = told if known is None else known
+        for place, (one, other) in enumerate(zip(known, told[:end - start])):
+            if one != other and not others[-1]:
+                others[-1] = desk, f"has another command at {start + place}"
+    return others
+
+
 def status(given):
-    """A line for each desk, and one for what they mean. The status is 0 where a majority answered
-    and none lacks a command, 1 where a majority answered, and else 3."""
+    """A line for each desk, and one for what they mean. The status is 0 where a majority answered,
+    none lacks a command and none differs, 1 where a majority answered and none differs, and else
+    3."""
     rows = []
     for number, address in enumerate(given.to, 1):
-        row = met(given, number, address, standing)
-        if row[0] == "no answer":
-            row = met(given, number, address, asked_at_first)
+        for question in (standing_fully, standing, asked_at_first):
+            row = met(given, number, address, question)
+            if row[0] != "no answer":
+                break
         said = "no answer in time" if row[0].startswith("no answer from") else row[0]
         rows.append((said, *row[1:]))
+    others = first_other(given, rows)
+    differs = next((other or how[4] for (_, _, how), other in zip(rows, others)
+                    if how and (other or how[4])), None)
     answers = {desk: how for _, desk, how in rows if how}
     count = len({desk for _, desk, _ in rows if desk})
     size = max((len(how[3]) for how in answers.values()), default=len(rows))
@@ -344,7 +400,10 @@ def status(given):
     lags = [(desk, most - how[1]) for desk, how in sorted(answers.items()) if how[1] < most]
     late = "; ".join(f"desk {desk} is {lag} command{'s' * (lag != 1)} behind" for desk, lag in lags)
     front = f"{count} of {size} desks answer{'s' * (count == 1)}: "
-    if 2 * count <= size:
+    if differs:
+        lines.append(f"desk {differs[0]} {differs[1]}: enter nothing more; "
+                     "see HALL, 'Two desks differ'")
+    elif 2 * count <= size:
         missing, unasked = size // 2 + 1 - count, size - len(rows)
         more = "another one runs" if missing == 1 else f"{missing} more run"
         what = f"{unasked} {'was' if unasked == 1 else 'were'} not asked"
@@ -353,7 +412,7 @@ def status(given):
         lines.append(front + "the hall goes on" + (late and "; " + late))
     else:
         lines.append(late or f"all {size} desks have all {most} command{'s' * (most != 1)}")
-    given.status = 3 if 2 * count <= size else int(bool(lags))
+    given.status = 3 if differs or 2 * count <= size else int(bool(lags))
     return "".join(line + "\n" for line in lines).encode()
 
 

@@ -3,7 +3,10 @@ Both are asked over HTTP, as WebDriver has it.
 """
 
 import json
+import os
+import signal
 import subprocess
+import threading
 import time
 import urllib.error
 import urllib.request
@@ -27,10 +30,12 @@ class Driver:
         [port] = running.free_ports(1)
         self.address = f"http://127.0.0.1:{port}"
         self.program = subprocess.Popen(["chromedriver", f"--port={port}"], stdout=subprocess.PIPE,
-                                        stderr=subprocess.STDOUT, text=True)
+                                        stderr=subprocess.STDOUT, text=True, start_new_session=True)
         for line in self.program.stdout:
             if "started successfully" in line:
                 break
+        # what it tells later is read too: nothing waits for room in the pipe
+        threading.Thread(target=self.program.stdout.read, daemon=True).start()
         self.browsers = []
 
     def browser(self):
@@ -43,8 +48,9 @@ class Driver:
                 browser.ask("DELETE", "")
             except (Refused, OSError):
                 pass
-        self.program.kill()
-        self.program.communicate()
+        # the browsers with it, where one did not end
+        os.killpg(self.program.pid, signal.SIGKILL)
+        self.program.wait()
 
 
 class Browser:

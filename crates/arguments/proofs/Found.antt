@@ -67,7 +67,7 @@ entered_ids (Some id) text rows h = h.0
 pub found_ids : (found : Option (Text × List Row)) (t : Task) → Finds found t → HasIds t
 found_ids found (task.Replay event round style only_sheet) h = tt
 found_ids found (task.Import file options) h = tt
-found_ids found (task.Export file) h = tt
+found_ids found (task.Export file running) h = tt
 found_ids found task.Results h = tt
 found_ids found (task.Hall desks) h = tt
 found_ids found (task.HallFile hall addresses) h = tt

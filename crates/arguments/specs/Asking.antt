@@ -114,7 +114,9 @@ import_arguments p =
     (optional_value_rule (codes "same-names") p.names)
 
 abbrev pub export_arguments : App
-export_arguments = with_rule (new_app (codes "export")) (option_rule (codes "wcif") any_text)
+export_arguments =
+    with_rule (with_rule (new_app (codes "export")) (option_rule (codes "wcif") any_text))
+    (flag_rule (codes "running"))
 
 abbrev pub results_arguments : App
 results_arguments = with_rule (new_app (codes "results")) (required_flag_rule (codes "json"))
@@ -266,6 +268,7 @@ wire_number version.One = 1
 wire_number version.Two = 2
 wire_number version.Three = 3
 wire_number version.Four = 4
+wire_number version.Five = 5
 
 -- a desk of this hall, its file, for how many seconds a client may be silent, how many connections
 -- it serves, the version in which it pushes, whether it says nothing of other desks, the files of
@@ -345,8 +348,9 @@ IsTask (task.Replay event round style only_sheet) name rows =
     × IsFlag (codes "only-sheet") rows only_sheet
 IsTask (task.Import file options) name rows =
     (name ≡ codes "import") × IsImport file.now options rows
-IsTask (task.Export file) name rows =
+IsTask (task.Export file running) name rows =
     (name ≡ codes "export") × (first_of (codes "wcif") rows ≡ Some file.now)
+    × IsFlag (codes "running") rows running
 IsTask task.Results name rows = (name ≡ codes "results") × IsFlag (codes "json") rows true
 IsTask (task.Hall desks) name rows =
     (name ≡ codes "hall") × IsNumberAt (codes "desks") rows desks
@@ -387,7 +391,7 @@ HasId request.Stop = Unit {0}
 abbrev pub HasIds : Task → Type 0
 HasIds (task.Replay event round style only_sheet) = Unit {0}
 HasIds (task.Import file options) = Unit {0}
-HasIds (task.Export file) = Unit {0}
+HasIds (task.Export file running) = Unit {0}
 HasIds task.Results = Unit {0}
 HasIds (task.Hall desks) = Unit {0}
 HasIds (task.HallFile hall addresses) = Unit {0}

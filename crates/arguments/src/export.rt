@@ -4,11 +4,11 @@ ghost use Rattle.std.specs.Prelude.{◌≡◌, codes, IfOk, IfSome};
 ghost use Rattle.clap.specs.Words.{app_of, found_of, rows_of, with_subcommand};
 ghost use Rattle.arguments.specs.Asking.{export_arguments, IsTask};
 
-use crate::described::{Subcommand, with_described};
+use crate::described::{Argument, FLAG, Subcommand, with_described};
 use crate::import::WCIF;
 use crate::task::Task;
 use clap::{ArgMatches, Command};
-use replay_arguments::text_at;
+use replay_arguments::{flag_at, text_at};
 use std::alloc::{AllocError, Global};
 
 const ABOUT: &str = "Prints a competition's WCIF file with the results of each round.";
@@ -20,11 +20,15 @@ round that was opened. Every other member stays in its place with its value, num
 spelled; white space goes.
 
 Where FILE has no place for something of the log, nothing is printed, and standard error gets a line
-for each such thing, as `333-r2: the file has no such round`.
+for each such thing, as `333-r2: the file has no such round`. A round without any result that FILE
+does not have is left out.
 
-Exit status: 0 the file was printed; 2 invalid arguments, or help; 3 input too long, the log is cut
-off, the log opens no round, or FILE is invalid or does not fit the log; 4 cannot read, cannot read
-FILE, or cannot write; 5 no memory.";
+Standard error gets a line too for each round that still runs, that is left out, or that has another
+format in FILE. Where a round still runs, FILE is printed only with --running.
+
+Exit status: 0 the file was printed; 1 it was, and something was told, or a round still runs; 2
+invalid arguments, or help; 3 input too long, the log is cut off, the log opens no round, or FILE is
+invalid or does not fit the log; 4 cannot read, cannot read FILE, or cannot write; 5 no memory.";
 
 /// The subcommand `export`.
 const EXPORT: Subcommand<'static> = Subcommand {
@@ -32,7 +36,14 @@ const EXPORT: Subcommand<'static> = Subcommand {
     about: ABOUT,
     after: AFTER,
     common: &[],
-    own: &[WCIF],
+    own: &[
+        WCIF,
+        Argument {
+            id: "running",
+            help: "Print the results of rounds that still run, too",
+            ..FLAG
+        },
+    ],
 };
 
 /// The command with the subcommand `export`.
@@ -49,5 +60,6 @@ pub fn export_of<'a>(found: &ArgMatches<'a>) -> Option<Task<'a>>
         (λ task. IsTask task (codes "export") (rows_of (found_of found.now))) }
 {
     let file = text_at(found, "wcif")?;
-    Some(Task::Export { file })
+    let running = flag_at(found, "running");
+    Some(Task::Export { file, running })
 }

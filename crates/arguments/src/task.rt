@@ -106,6 +106,7 @@ pub enum Task<'a> {
     /// The file of a competition, with the results of a log.
     Export {
         file: &'a str,
+        running: bool,
     },
     /// The results of all rounds of a log, as JSON.
     Results,

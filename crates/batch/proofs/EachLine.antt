@@ -9,7 +9,8 @@ use Rattle.wire.specs.declared.frame.What.TheVariants as what
 use Rattle.batch.specs.Asking.{AreKnown, AreOf, Asked, Asks, IsAnswer}
 use Rattle.batch.specs.Asking.{IsAwaited, IsDecided, IsKnown, IsOfAsking, IsOneOf}
 use Rattle.batch.specs.Asking.{IsPutOff, IsTaken, IsTurnedDown}
-use Rattle.batch.specs.Asking.{IsTakenOf, Tries, ask_of, log_of, submit_of}
+use Rattle.batch.specs.Asking.{IsTakenOf, Tries, ask_of, log_of, request_to, submit_of}
+use Rattle.client.specs.Standings.{await_request}
 use Rattle.batch.specs.Confirming.{IsAnother, IsConfirmed, IsUnconfirmed, entry_of}
 use Rattle.batch.specs.Dialing.{Dialed, Grows, LetsGo, Place, Standing, asked_so, closed}
 use Rattle.batch.specs.Entering.{EndsAsking, EnteredBy, Hinders, IsCutOff, IsEntered, IsLost}
@@ -26,7 +27,7 @@ use Rattle.batch.proofs.Going.{adds_by, goes_more, grows_more}
 use Rattle.batch.proofs.Heard.{between, by_none, entries_behind, entries_none, found_same}
 use Rattle.batch.proofs.Heard.{heard_more, log_told, notices_last, notices_then, question_told}
 use Rattle.batch.proofs.Heard.{text_told}
-use Rattle.batch.proofs.Trying.{Ends, all_more, all_weaker, decided_known, for_known}
+use Rattle.batch.proofs.Trying.{Ends, all_more, all_weaker, apart_if, decided_known, for_known}
 use Rattle.batch.proofs.Trying.{put_off_for, put_off_known, turned_down_for}
 
 -- ---- what each request is for, of a line
@@ -78,9 +79,15 @@ awaited_known r id last asked h =
 
 -- the request for the log
 log_apart : (r : Receiver) (id pos : ℕ) → log_of r pos ≡ ask_of r id → ⊥
-log_apart r id pos e =
+log_apart r id pos =
+    apart_if r.awaits (log_of r pos) (await_request r.hall r.desk id 1)
+    (request_to r (what.Ask id))
+    (λ e.
+    let w : what.Log pos ≡ what.Await id 1 = ap (λ (f : Frame). f.what) e in
+    cc)
+    (λ e.
     let w : what.Log pos ≡ what.Ask id = ap (λ (f : Frame). f.what) e in
-    cc
+    cc)
 
 log_known : (r : Receiver) (id pos : ℕ) (answer : Result What BatchFault)
     → AreKnown r id (asked_so (log_of r pos) answer ∷ [])

@@ -1,6 +1,6 @@
 -- What an observer is told of requests.
 use Rattle.std.proofs.Common.{◌≡◌, ◌+◌, ◌≤◌, ◌++◌, ◌∷◌, [], ℕ, List, Option, Result, Ok, Err, inl}
-use Rattle.std.proofs.Common.{inr, min}
+use Rattle.std.proofs.Common.{inr, min, Bool, true, false, if◌then◌else◌}
 use Rattle.std.proofs.Common.{refl, sym, ap, ◌∙◌, append_assoc, append-nil, subst, arith}
 use Rattle.std.specs.Prelude.{IsOkAnd}
 use Rattle.std.proofs.Math.Nat.{min-eq_left, min-eq_right, min-zero}
@@ -13,10 +13,13 @@ use Rattle.wire.specs.declared.frame.What.TheVariants as what
 use Rattle.wire.specs.declared.values.ClientRefusal.TheVariants as refusal
 use Rattle.wire.specs.declared.values.CommandState.TheVariants as state
 use Rattle.batch.specs.Asking.{Asked, Counts, IsAnswer, IsDecided, IsFull, IsPending, IsTicked}
-use Rattle.batch.specs.Asking.{IsUnknown, IsWaiting, ask_of, log_of, submit_of, tick_of}
+use Rattle.batch.specs.Asking.{IsUnknown, IsWaiting, ask_of, log_of, request_to, submit_of}
+use Rattle.batch.specs.Asking.{tick_of}
+use Rattle.client.specs.Standings.{await_request}
 use Rattle.batch.specs.Dialing.{Grows, asked_so}
 use Rattle.batch.specs.Watching.{Notice, Waits, Watched, entries_of, entry_in, found_by, full_in}
-use Rattle.batch.specs.Watching.{full_of, notices_by, notices_of, pending_in, pending_of, waits_of}
+use Rattle.batch.specs.Watching.{full_of, notices_by, notices_of, pending_in, pending_of}
+use Rattle.batch.specs.Watching.{undecided_in, waits_of}
 use Rattle.batch.specs.declared.asking.Receiver.{Receiver}
 use Rattle.batch.specs.declared.fault.BatchFault.{BatchFault}
 use Rattle.batch.specs.declared.fault.BatchFault.TheVariants as fault
@@ -177,43 +180,68 @@ not_full entry (fault.Asking (client.Refused refusal.NotThere)) m all most = lea
 not_full entry (fault.Asking (client.Refused refusal.NoSuchRound)) m all most = least_is m most
 not_full entry (fault.Asking (client.Refused refusal.Foreign)) m all most = least_is m most
 not_full entry (fault.Asking (client.Refused refusal.NotAllowed)) m all most = least_is m most
+not_full entry (fault.Asking (client.Refused refusal.HallDiffers)) m all most = least_is m most
 
-pending_told : (id : ℕ) (told : What) → IsPending told → pending_in (what.Ask id) (Ok told) ≡ 1
-pending_told id (what.Told other (state.Done pos said)) h = absurd (h.0 (other, pos, said, refl))
-pending_told id (what.Told other state.Unknown) h = absurd (h.1 (other, refl))
-pending_told id (what.Told other state.Pending) h = refl
-pending_told id (what.Prepare a b) h = refl
-pending_told id (what.Promise a b c) h = refl
-pending_told id (what.Accept a b c) h = refl
-pending_told id (what.Accepted a b) h = refl
-pending_told id (what.Nack a b c) h = refl
-pending_told id (what.Behind a) h = refl
-pending_told id (what.Decided a b) h = refl
-pending_told id (what.Submit a) h = refl
-pending_told id (what.Ask a) h = refl
-pending_told id (what.Sheet a b c d) h = refl
-pending_told id what.Tick h = refl
-pending_told id what.Stop h = refl
-pending_told id (what.Taken a) h = refl
-pending_told id (what.SheetText a) h = refl
-pending_told id (what.Refused a) h = refl
-pending_told id what.Fine h = refl
-pending_told id what.Status h = refl
-pending_told id (what.Log a) h = refl
-pending_told id (what.Standing a) h = refl
-pending_told id (what.Entries a b c) h = refl
+pending_told : (told : What) → IsPending told → undecided_in (Ok told) ≡ 1
+pending_told (what.Told other (state.Done pos said)) h = absurd (h.0 (other, pos, said, refl))
+pending_told (what.Told other state.Unknown) h = absurd (h.1 (other, refl))
+pending_told (what.Told other state.Pending) h = refl
+pending_told (what.Prepare a b) h = refl
+pending_told (what.Promise a b c) h = refl
+pending_told (what.Accept a b c) h = refl
+pending_told (what.Accepted a b) h = refl
+pending_told (what.Nack a b c) h = refl
+pending_told (what.Behind a) h = refl
+pending_told (what.Decided a b) h = refl
+pending_told (what.Submit a) h = refl
+pending_told (what.Ask a) h = refl
+pending_told (what.Await a b) h = refl
+pending_told (what.Sheet a b c d) h = refl
+pending_told what.Tick h = refl
+pending_told what.Stop h = refl
+pending_told (what.Taken a) h = refl
+pending_told (what.SheetText a) h = refl
+pending_told (what.Refused a) h = refl
+pending_told what.Fine h = refl
+pending_told what.Status h = refl
+pending_told (what.Log a) h = refl
+pending_told (what.Standing a) h = refl
+pending_told (what.Entries a b c) h = refl
 
-pub pending_answer : (ask : Frame) (id : ℕ) (answer : Result What BatchFault)
-    → IsOkAnd answer (λ told. IsAnswer ask told × IsPending told)
-    → pending_in (what.Ask id) answer ≡ 1
-pending_answer ask id (Ok told) h = pending_told id told h.1
-pending_answer ask id (Err f) h = absurd h
+pub pending_answer : (ask : Frame) (answer : Result What BatchFault)
+    → IsOkAnd answer (λ told. IsAnswer ask told × IsPending told) → undecided_in answer ≡ 1
+pending_answer ask (Ok told) h = pending_told told h.1
+pending_answer ask (Err f) h = absurd h
 
-pub decided_told : (id : ℕ) (told : What) → IsDecided told → pending_in (what.Ask id) (Ok told) ≡ 0
-decided_told id told h = ap (λ (t : What). pending_in (what.Ask id) (Ok t)) h.3
+pub decided_told : (told : What) → IsDecided told → undecided_in (Ok told) ≡ 0
+decided_told told h = ap (λ (t : What). undecided_in (Ok t)) h.3
 
-pub unknown_told : (id : ℕ) (told : What) → IsUnknown told → pending_in (what.Ask id) (Ok told) ≡ 0
-unknown_told id told h = ap (λ (t : What). pending_in (what.Ask id) (Ok t)) h.1
+pub unknown_told : (told : What) → IsUnknown told → undecided_in (Ok told) ≡ 0
+unknown_told told h = ap (λ (t : What). undecided_in (Ok t)) h.1
+
+-- a question for an id, whichever it is
+asks_by : {T : Type 0} (awaits : Bool) (first second : Frame) (f : What → T) (t : T) → f first.what ≡ t
+    → f second.what ≡ t → f (if awaits then first else second).what ≡ t
+asks_by true first second f t a b = a
+asks_by false first second f t a b = b
+
+pub pending_ask : (r : Receiver) (id : ℕ) (answer : Result What BatchFault)
+    → pending_in (ask_of r id).what answer ≡ undecided_in answer
+pending_ask r id answer =
+    asks_by r.awaits (await_request r.hall r.desk id 1) (request_to r (what.Ask id))
+    (λ w. pending_in w answer) (undecided_in answer) refl refl
+
+pub full_ask : (r : Receiver) (id : ℕ) (answer : Result What BatchFault)
+    → full_in (ask_of r id).what answer ≡ 0
+full_ask r id answer =
+    asks_by r.awaits (await_request r.hall r.desk id 1) (request_to r (what.Ask id))
+    (λ w. full_in w answer) 0 refl refl
+
+entry_ask : (r : Receiver) (id : ℕ) (answer : Result What BatchFault)
+    → entry_in (ask_of r id).what answer ≡ []
+entry_ask r id answer =
+    asks_by r.awaits (await_request r.hall r.desk id 1) (request_to r (what.Ask id))
+    (λ w. entry_in w answer) [] refl refl
 
 -- of a request that is known
 full_for : (a : Asked) (request : Frame) → a.request ≡ request
@@ -258,9 +286,11 @@ pub pending_counts : (r : Receiver) (id m n : ℕ) (asked : List Asked)
 pending_counts r id m n [] h = (refl, sym h.0)
 pending_counts r id m n (a ∷ asked) (inl h) =
     let rest = pending_counts r id h.1 n asked h.3 in
-    let full : full_in a.request.what a.answer ≡ 0 = full_for a (ask_of r id) h.0.0 in
+    let full : full_in a.request.what a.answer ≡ 0 =
+    full_for a (ask_of r id) h.0.0 ∙ full_ask r id a.answer in
     let one : pending_in a.request.what a.answer ≡ 1 =
-    pending_for a (ask_of r id) h.0.0 ∙ pending_answer (ask_of r id) id a.answer h.0.1 in (
+    pending_for a (ask_of r id) h.0.0
+    ∙ (pending_ask r id a.answer ∙ pending_answer (ask_of r id) a.answer h.0.1) in (
       omega (arith, rest.0, full),
       omega (arith, rest.1, one, h.2),
     )
@@ -297,9 +327,11 @@ pub question_told : (r : Receiver) (id : ℕ) (asked : List Asked) → AreFor r 
 question_told r id [] h = (refl, refl)
 question_told r id (a ∷ asked) (inl is, h) =
     let rest = question_told r id asked h in
-    let none : full_in a.request.what a.answer ≡ 0 = full_for a (ask_of r id) is in (
+    let none : full_in a.request.what a.answer ≡ 0 =
+    full_for a (ask_of r id) is ∙ full_ask r id a.answer in (
       omega (arith, rest.0, none),
-      ap (λ l. l ++ entries_of asked) (entry_for a (ask_of r id) is) ∙ rest.1,
+      ap (λ l. l ++ entries_of asked)
+          (entry_for a (ask_of r id) is ∙ entry_ask r id a.answer) ∙ rest.1,
     )
 question_told r id (a ∷ asked) (inr is, h) =
     let rest = question_told r id asked h in

@@ -7,19 +7,20 @@ use Rattle.wire.specs.declared.frame.Frame.{Frame}
 use Rattle.wire.specs.declared.frame.What.{What}
 use Rattle.wire.specs.declared.frame.What.TheVariants as what
 use Rattle.wire.specs.declared.values.ClientRefusal.TheVariants.{Busy}
-use Rattle.batch.specs.Asking.{Asked, Asks, Counts, Goes, IsAwaited, IsDecided, IsFull, IsTakenOf}
+use Rattle.batch.specs.Asking.{AreAllWaits, Asked, Asks, Counts, Goes, IsAwaited, IsDecided}
+use Rattle.batch.specs.Asking.{IsFull, IsTakenOf}
 use Rattle.batch.specs.Asking.{IsTicked, IsTurnedDown, IsUnknown, IsWaiting, ask_of, tick_of}
 use Rattle.batch.specs.Dialing.{Place, Standing, asked_so}
 use Rattle.batch.specs.Watching.{Telling, Tells, Watched, full_in, full_of, notices_of, pending_in}
-use Rattle.batch.specs.Watching.{pending_of, waits_of}
+use Rattle.batch.specs.Watching.{pending_of, undecided_in, waits_of}
 use Rattle.batch.specs.declared.asking.Receiver.{Receiver}
 use Rattle.batch.specs.declared.fault.BatchFault.{BatchFault}
 use Rattle.batch.specs.declared.fault.BatchFault.TheVariants.{Asking}
 use Rattle.batch.specs.declared.fault.BatchFault.TheVariants as fault
 use Rattle.batch.specs.model.Trying.{EndsWaiting, IsLastTry, IsTurnedOff, TellsTries}
 use Rattle.batch.proofs.Heard.{decided_told, full_counts, full_more, full_notices, least_is}
-use Rattle.batch.proofs.Heard.{not_full, pending_answer, pending_counts, pending_more}
-use Rattle.batch.proofs.Heard.{pending_notices, unknown_told}
+use Rattle.batch.proofs.Heard.{full_ask, not_full, pending_answer, pending_ask, pending_counts}
+use Rattle.batch.proofs.Heard.{pending_more, pending_notices, unknown_told}
 use Rattle.batch.proofs.Trying.{Ends, asks_failed, asks_lost, awaits, one_counted, put_off_for}
 use Rattle.batch.proofs.Trying.{then_last, tick_last, tick_last_asked, tick_last_try, tried}
 use Rattle.batch.proofs.Trying.{tries_of, turned_down_for, turned_off, waits_on}
@@ -148,15 +149,17 @@ tick_off_told r submit m n a b c d w f g few h add busy tick heard =
 -- so many times it was not decided, and one question more that is no reason for a further one
 pending_tries : (r : Receiver) (id m n : ℕ) (front : List Asked) (last : Result What BatchFault)
     → Counts (IsWaiting (ask_of r id)) (IsTicked r) m n front
-    → pending_in (what.Ask id) last ≡ 0
+    → undecided_in last ≡ 0
     → notices_of (front ++ asked_so (ask_of r id) last ∷ []) ≡ waits_of m
 pending_tries r id m n front last h none =
     let one = asked_so (ask_of r id) last ∷ [] in
     let counted = pending_counts r id m n front h in
+    let none_in : pending_in (ask_of r id).what last ≡ 0 = pending_ask r id last ∙ none in
+    let no_full : full_in (ask_of r id).what last ≡ 0 = full_ask r id last in
     let full : full_of (front ++ one) ≡ 0 =
-    omega (arith, full_more front one, counted.0) in
+    omega (arith, full_more front one, counted.0, no_full) in
     let pending : pending_of (front ++ one) ≡ m =
-    omega (arith, pending_more front one, counted.1, none) in
+    omega (arith, pending_more front one, counted.1, none_in) in
     pending_notices (front ++ one) m full pending
 
 pub awaits_told : {here : Place} (r : Receiver) (id m n : ℕ) (a b c : Standing) (w : Watched)
@@ -172,7 +175,7 @@ awaits_told r id m n a b c w told h add done heard =
       (
         t.2,
         subst (Tells w)
-            (sym (pending_tries r id m n h.0 (Ok told) h.2 (decided_told id told done))) heard,
+            (sym (pending_tries r id m n h.0 (Ok told) h.2 (decided_told told done))) heard,
       ),
     )
 
@@ -202,7 +205,7 @@ lost_told r id m n a b c w told unknown h add heard =
       (
         t.2,
         subst (Tells w)
-            (sym (pending_tries r id m n h.0 (Ok told) h.2 (unknown_told id told unknown))) heard,
+            (sym (pending_tries r id m n h.0 (Ok told) h.2 (unknown_told told unknown))) heard,
       ),
     )
 
@@ -215,10 +218,11 @@ ticked_questions r id m n front told f h waits =
     let one = asked_so (ask_of r id) (Ok told) ∷ [] in
     let tick = asked_so (tick_of r) (Err f) ∷ [] in
     let counted = pending_counts r id m n front h in
-    let more : pending_in (what.Ask id) (Ok told) ≡ 1 =
-    pending_answer (ask_of r id) id (Ok told) waits.1 in
+    let more : pending_in (ask_of r id).what (Ok told) ≡ 1 =
+    pending_ask r id (Ok told) ∙ pending_answer (ask_of r id) (Ok told) waits.1 in
+    let no_full : full_in (ask_of r id).what (Ok told) ≡ 0 = full_ask r id (Ok told) in
     let full : full_of ((front ++ one) ++ tick) ≡ 0 =
-    omega (arith, full_more (front ++ one) tick, full_more front one, counted.0) in
+    omega (arith, full_more (front ++ one) tick, full_more front one, counted.0, no_full) in
     let pending : pending_of ((front ++ one) ++ tick) ≡ m + 1 =
     omega (arith, pending_more (front ++ one) tick, pending_more front one, counted.1, more) in
     pending_notices ((front ++ one) ++ tick) (m + 1) full pending
@@ -241,12 +245,14 @@ tick_waits_told r id m n a b c d w told f h add waits tick heard =
     )
 
 pub waits_on_told : {here : Place} (r : Receiver) (id m n : ℕ) (a b : Standing) (w : Watched)
-    → m ≡ 10000 → n ≡ 312 → Asks here a b (Counts (IsWaiting (ask_of r id)) (IsTicked r) m n)
+    → ((asked : List Asked) → Counts (IsWaiting (ask_of r id)) (IsTicked r) m n asked
+    → AreAllWaits (IsWaiting (ask_of r id)) r asked)
+    → Asks here a b (Counts (IsWaiting (ask_of r id)) (IsTicked r) m n)
     → Tells w (waits_of m)
     → Asks here a b (Telling w notices_of (EndsWaiting fault.StillPending r id))
 unfolding waits_on
-waits_on_told r id m n a b w x y h heard =
-    let t = waits_on r id m n a b x y h in
+waits_on_told r id m n a b w enough h heard =
+    let t = waits_on r id m n a b enough h in
     let counted = pending_counts r id m n h.0 h.2 in (
       t.0,
       t.1,

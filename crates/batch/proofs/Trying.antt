@@ -1,5 +1,6 @@
 -- Requests that are made one after the other.
-use Rattle.std.proofs.Common.{◌≡◌, inl, inr, ◌++◌, ◌∷◌, [], ℕ, List}
+use Rattle.std.proofs.Common.{◌≡◌, inl, inr, ◌++◌, ◌∷◌, [], ℕ, List, Bool, true, false}
+use Rattle.std.proofs.Common.{if◌then◌else◌}
 use Rattle.std.proofs.Common.{Result, Ok, Err, IfErr, ◌⊎◌, ◌+◌, ◌/◌, ◌<◌, length}
 use Rattle.std.proofs.Common.{refl, sym, ap, ◌∙◌, subst, arith}
 use Rattle.std.specs.Prelude.{IsOkAnd}
@@ -9,7 +10,9 @@ use Rattle.wire.specs.declared.frame.What.{What}
 use Rattle.client.specs.declared.fault.ClientFault.TheVariants.{Refused}
 use Rattle.wire.specs.declared.values.ClientRefusal.TheVariants.{Busy}
 use Rattle.wire.specs.declared.frame.What.TheVariants as what
-use Rattle.batch.specs.Asking.{AreAllTries, AreKnown, Asked, Asks, Counts, Goes}
+use Rattle.batch.specs.Asking.{AreAllTries, AreAllWaits, AreAllWaitsBy, AreKnown, Asked, Asks}
+use Rattle.batch.specs.Asking.{Counts, Goes, request_to}
+use Rattle.client.specs.Standings.{await_request}
 use Rattle.batch.specs.Asking.{IsAnswer}
 use Rattle.batch.specs.Asking.{IsAwaited, IsDecided, IsForgotten, IsFull, IsKnown}
 use Rattle.batch.specs.Asking.{IsPending, IsPutOff, IsTicked, IsTurnedDown, IsUnknown}
@@ -19,7 +22,7 @@ use Rattle.batch.specs.declared.asking.Receiver.{Receiver}
 use Rattle.batch.specs.declared.fault.BatchFault.{BatchFault}
 use Rattle.batch.specs.declared.fault.BatchFault.TheVariants.{Asking}
 use Rattle.batch.specs.declared.fault.BatchFault.TheVariants as fault
-use Rattle.batch.specs.model.Trying.{AreFor, AreTicks, EndsWaiting, IsFor, IsLastTry}
+use Rattle.batch.specs.model.Trying.{AreFor, AreTicked, AreTicks, EndsWaiting, IsFor, IsLastTry}
 use Rattle.batch.specs.model.Trying.{IsUnanswered, IsUndecided}
 use Rattle.batch.proofs.Going.{goes_more}
 
@@ -77,16 +80,33 @@ put_off_for r request a (inr h) = inr h.0
 
 -- ---- that it is known of
 
+pub apart_if : (awaits : Bool) (one first second : Frame) → (one ≡ first → ⊥) → (one ≡ second → ⊥)
+    → one ≡ (if awaits then first else second) → ⊥
+apart_if true one first second f g e = f e
+apart_if false one first second f g e = g e
+
 submit_apart : (r : Receiver) (id : ℕ) (text : List ℕ) → submit_of r id text ≡ ask_of r id → ⊥
-submit_apart r id text e =
+submit_apart r id text =
+    apart_if r.awaits (submit_of r id text) (await_request r.hall r.desk id 1)
+    (request_to r (what.Ask id))
+    (λ e.
+    let w : what.Submit (record { id = id; text = text }) ≡ what.Await id 1 =
+    ap (λ (f : Frame). f.what) e in
+    cc)
+    (λ e.
     let w : what.Submit (record { id = id; text = text }) ≡ what.Ask id =
     ap (λ (f : Frame). f.what) e in
-    cc
+    cc)
 
 tick_apart : (r : Receiver) (id : ℕ) → tick_of r ≡ ask_of r id → ⊥
-tick_apart r id e =
+tick_apart r id =
+    apart_if r.awaits (tick_of r) (await_request r.hall r.desk id 1) (request_to r (what.Ask id))
+    (λ e.
+    let w : what.Tick ≡ what.Await id 1 = ap (λ (f : Frame). f.what) e in
+    cc)
+    (λ e.
     let w : what.Tick ≡ what.Ask id = ap (λ (f : Frame). f.what) e in
-    cc
+    cc)
 
 -- a tick isn't asked for the id
 ticked_known : (r : Receiver) (id : ℕ) (a : Asked) → a.request ≡ tick_of r → IsKnown (ask_of r id) a
@@ -168,6 +188,23 @@ one_counted P Q m n a b c one h add is =
       h.0 ++ one ∷ [],
       goes_more _ a b c h.0 (one ∷ []) h.1 add,
       counts_more P Q m n 1 0 (m + 1) n h.0 (one ∷ []) refl e h.2 (inl (is, 0, refl, (refl, refl))),
+    )
+
+-- one more try, and then one tick
+pub goes_on_ticked : {here : Place} (P : Asked → Type 0) (r : Receiver) (tries : ℕ)
+    (a b c d : Standing)
+    (one : Asked)
+    → Asks here a b (Counts P (IsTicked r) tries tries) → Goes here b c (one ∷ []) → P one
+    → Asks here c d (AreTicked r)
+    → Asks here a d (Counts P (IsTicked r) (tries + 1) (tries + 1))
+goes_on_ticked P r tries a b c d one h add is t =
+    let e : tries + 1 + 0 ≡ tries + 1 = omega arith in
+    let f : tries + length t.0 ≡ tries + 1 = omega (arith, t.2.1) in
+    let k = one_counted P (IsTicked r) tries tries a b c one h add is in (
+      k.0 ++ t.0,
+      goes_more _ a c d k.0 t.0 k.1 t.1,
+      counts_more P (IsTicked r) (tries + 1) tries 0 (length t.0) (tries + 1) (tries + 1) k.0 t.0
+          e f k.2 (counts_of P (IsTicked r) t.0 t.2.0),
     )
 
 -- one more try, and then its ticks
@@ -296,16 +333,34 @@ pub tick_last_asked : (r : Receiver) (id : ℕ) (f : BatchFault) (front : List A
 tick_last_asked r id f front each =
     last_failed r id f front (tick_of r) (Err f) each refl (inr refl)
 
+counted_as : (Is Else : Asked → Type 0) (m n i j : ℕ) (asked : List Asked) → m ≡ i → n ≡ j
+    → Counts Is Else m n asked → Counts Is Else i j asked
+counted_as Is Else m n i j asked x y h =
+    subst (λ p. Counts Is Else p j asked) x (subst (λ q. Counts Is Else m q asked) y h)
+
+pub all_asked : (Is : Asked → Type 0) (r : Receiver) (m n : ℕ) (asked : List Asked)
+    → r.awaits ≡ false → m ≡ 10000 → n ≡ 312 → Counts Is (IsTicked r) m n asked
+    → AreAllWaits Is r asked
+all_asked Is r m n asked e x y h =
+    subst (λ w. AreAllWaitsBy w Is r asked) (sym e)
+    (counted_as Is (IsTicked r) m n 10000 312 asked x y h)
+
+pub all_awaited : (Is : Asked → Type 0) (r : Receiver) (m n : ℕ) (asked : List Asked)
+    → r.awaits ≡ true → m ≡ 300 → n ≡ 300 → Counts Is (IsTicked r) m n asked
+    → AreAllWaits Is r asked
+all_awaited Is r m n asked e x y h =
+    subst (λ w. AreAllWaitsBy w Is r asked) (sym e)
+    (counted_as Is (IsTicked r) m n 300 300 asked x y h)
+
 -- it was asked as often as that is done
-unfoldable pub waits_on : {here : Place} (r : Receiver) (id m n : ℕ) (a b : Standing) → m ≡ 10000 →
-    n ≡ 312
+unfoldable pub waits_on : {here : Place} (r : Receiver) (id m n : ℕ) (a b : Standing)
+    → ((asked : List Asked) → Counts (IsWaiting (ask_of r id)) (IsTicked r) m n asked
+    → AreAllWaits (IsWaiting (ask_of r id)) r asked)
     → Asks here a b (Counts (IsWaiting (ask_of r id)) (IsTicked r) m n)
     → Asks here a b (EndsWaiting fault.StillPending r id)
-waits_on r id m n a b x y h =
+waits_on r id m n a b enough h =
     let ask = ask_of r id in
-    let all : AreAllTries (IsWaiting ask) r h.0 =
-    subst (λ i. Counts (IsWaiting ask) (IsTicked r) i 312 h.0) x
-    (subst (λ j. Counts (IsWaiting ask) (IsTicked r) m j h.0) y h.2) in
+    let all : AreAllWaits (IsWaiting ask) r h.0 = enough h.0 h.2 in
     let each = all_of (IsWaiting ask) (IsTicked r) m n h.0 h.2 in (
       h.0,
       h.1,

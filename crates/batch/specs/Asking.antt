@@ -1,8 +1,9 @@
 -- Requests to a desk, and what came of each.
 use Rattle.std.specs.Prelude.{◌≡◌, ◌⊎◌, ◌+◌, ◌++◌, ◌∷◌, [], ℕ, List, Ok, Err, IsOk, IsOkAnd}
+use Rattle.std.specs.Prelude.{Bool, true, false, if◌then◌else◌}
 use Rattle.std.specs.List.{AllByRecursion}
 use Rattle.client.specs.Answers.{judged}
-use Rattle.client.specs.Standings.{log_request}
+use Rattle.client.specs.Standings.{await_request, log_request}
 use Rattle.client.specs.declared.fault.ClientFault.TheVariants.{Refused}
 use Rattle.wire.specs.Ranges.{IsFrame}
 use Rattle.wire.specs.declared.frame.Frame.{Frame}
@@ -11,31 +12,34 @@ use Rattle.wire.specs.declared.frame.What.TheVariants as what
 use Rattle.wire.specs.declared.values.ClientRefusal.TheVariants.{Busy}
 use Rattle.wire.specs.declared.values.CommandState.TheVariants.{Done, Unknown}
 use Rattle.wire.specs.declared.values.Version.{Version}
-use Rattle.wire.specs.declared.values.Version.TheVariants.{One, Four}
+use Rattle.wire.specs.declared.values.Version.TheVariants.{One, Four, Five}
 pub use Rattle.batch.specs.Dialing.{Adds, Asked, Asks, Goes, Told, asked_so, told}
 use Rattle.batch.specs.declared.asking.Receiver.{Receiver}
 use Rattle.batch.specs.declared.fault.BatchFault.{BatchFault}
 use Rattle.batch.specs.declared.fault.BatchFault.TheVariants.{Asking, CannotConnect, Late, NoMemory}
 use Rattle.batch.specs.declared.fault.BatchFault.TheVariants.{NoKey, OtherKey, HasKey}
 
--- what became of a command is asked in version 4, which alone tells each code; the others are of
--- version 1
-abbrev pub version_for : What → Version
-version_for (what.Ask id) = Four
-version_for _ = One
+-- what became of a command is asked in version 4, which tells each code; one is entered in version
+-- 5 where the desk knows it, which tells each refusal; the others are of version 1
+abbrev pub version_for : Receiver → What → Version
+version_for r (what.Ask id) = Four
+version_for r (what.Submit entry) = if r.awaits then Five else One
+version_for r _ = One
 
 -- a request goes from a client, which is 0, to the desk
 abbrev pub request_to : Receiver → What → Frame
 request_to r asked =
-    record { version = version_for asked; hall = r.hall; from = 0; to = r.desk; what = asked }
+    record { version = version_for r asked; hall = r.hall; from = 0; to = r.desk; what = asked }
 
 -- the request that enters a text with an id
 abbrev pub submit_of : Receiver → ℕ → List ℕ → Frame
 submit_of r id text = request_to r (what.Submit (record { id = id; text = text }))
 
--- the request that asks what became of an id
+-- the request that asks what became of an id: once that is known, or after a second, where the desk
+-- knows such a request
 abbrev pub ask_of : Receiver → ℕ → Frame
-ask_of r id = request_to r (what.Ask id)
+ask_of r id =
+    if r.awaits then await_request r.hall r.desk id 1 else request_to r (what.Ask id)
 
 -- the request that gives the desk a tick
 abbrev pub tick_of : Receiver → Frame
@@ -109,6 +113,15 @@ Counts Is IsElse m n (a ∷ asked) =
 -- of 10,000 requests this is said, and the others are ticks, one for each 32 of them
 abbrev pub AreAllTries : (Asked → Type 0) → Receiver → List Asked → Type 0
 AreAllTries Is r = Counts Is (IsTicked r) 10000 312
+
+abbrev pub AreAllWaitsBy : Bool → (Asked → Type 0) → Receiver → List Asked → Type 0
+AreAllWaitsBy true Is r asked = Counts Is (IsTicked r) 300 300 asked
+AreAllWaitsBy false Is r asked = AreAllTries Is r asked
+
+-- it was asked as often as it is at most: where the desk waits with its answers, 300 times, a
+-- second each, and after each one the desk was ticked
+abbrev pub AreAllWaits : (Asked → Type 0) → Receiver → List Asked → Type 0
+AreAllWaits Is r asked = AreAllWaitsBy r.awaits Is r asked
 
 -- one of these two was asked, or for a tick, or for the log from some position on
 abbrev pub IsOneOf : Receiver → Frame → Frame → Asked → Type 0

@@ -13,7 +13,7 @@ use Rattle.wire.specs.declared.frame.What.{What}
 use Rattle.wire.specs.declared.frame.What.TheVariants as what
 use Rattle.wire.specs.declared.values.ClientRefusal.TheVariants.{Busy}
 use Rattle.wire.specs.declared.values.CommandState.TheVariants.{Done}
-use Rattle.batch.specs.Asking.{Adds, AreAllTries, AreKnown, AreOf, Asked, IsAnswer}
+use Rattle.batch.specs.Asking.{Adds, AreAllTries, AreAllWaits, AreKnown, AreOf, Asked, IsAnswer}
 use Rattle.batch.specs.Asking.{IsAwaited, IsDecided, IsForgotten, IsFull, IsOfAsking, IsPending}
 use Rattle.batch.specs.Asking.{IsTaken}
 use Rattle.batch.specs.Asking.{IsUnknown, IsWaiting, Told, ask_of, submit_of, tick_of}
@@ -178,11 +178,12 @@ IsCutOff f r id text asked =
     × (((last.request ≡ ask_of r id) ⊎ (last.request ≡ tick_of r))
     ⊎ ((f ≡ fault.Asking (Refused Busy)) → AreAllTries (IsFull (submit_of r id text)) r front))
 
--- the text was entered, and after that the desk answered 10,000 times that it isn't decided
+-- the text was entered, and after that the desk answered, as often as it is asked at most, that it
+-- isn't decided
 abbrev pub IsGivenUp : Receiver → ℕ → List ℕ → List Asked → Type 0
 IsGivenUp r id text asked =
     (taken : What) × (first rest : List Asked) × IsTaken r id text taken first
-    × AreAllTries (IsWaiting (ask_of r id)) r rest × (asked ≡ first ++ rest)
+    × AreAllWaits (IsWaiting (ask_of r id)) r rest × (asked ≡ first ++ rest)
 
 -- the text was entered, and after that the desk was asked for the id until it answered that it
 -- knows nothing of it

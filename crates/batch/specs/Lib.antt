@@ -4,5 +4,6 @@ pub mod Dialing
 pub mod Entering
 pub mod Logs
 pub mod Newest
+pub mod Probing
 pub mod Watching
 pub mod model

@@ -1,6 +1,6 @@
 -- What an observer is told while commands are entered, where that is known.
 use Rattle.std.specs.Prelude.{◌+◌, ◌++◌, ◌∷◌, [], ℕ, List, Option, None, Result, Ok}
-use Rattle.std.specs.Prelude.{Err, map, min}
+use Rattle.std.specs.Prelude.{Bool, true, false, Err, map, min, if◌then◌else◌}
 use Rattle.std.specs.List.{range_with_len}
 use Rattle.acceptor.specs.declared.entry.Entry.{Entry}
 use Rattle.client.specs.declared.fault.ClientFault.TheVariants.{Refused}
@@ -42,13 +42,22 @@ abbrev pub full_in : What → Result What BatchFault → ℕ
 full_in (what.Submit entry) (Err (fault.Asking (Refused Busy))) = 1
 full_in _ _ = 0
 
+-- it is a question for an id
+abbrev pub asks_for : What → Bool
+asks_for (what.Ask id) = true
+asks_for (what.Await id seconds) = true
+asks_for _ = false
+
+abbrev pub undecided_in : Result What BatchFault → ℕ
+undecided_in (Ok (what.Told other (Done pos said))) = 0
+undecided_in (Ok (what.Told other Unknown)) = 0
+undecided_in (Ok _) = 1
+undecided_in (Err f) = 0
+
 -- how many questions for an id it was to which the desk answered neither that the command is
 -- decided nor that it knows nothing of it: one or none
 abbrev pub pending_in : What → Result What BatchFault → ℕ
-pending_in (what.Ask id) (Ok (what.Told other (Done pos said))) = 0
-pending_in (what.Ask id) (Ok (what.Told other Unknown)) = 0
-pending_in (what.Ask id) (Ok _) = 1
-pending_in _ _ = 0
+pending_in w answer = if asks_for w then undecided_in answer else 0
 
 -- the entry that stands first in the answer to a request for the log
 abbrev pub entry_in : What → Result What BatchFault → List Notice

@@ -1,8 +1,10 @@
 //! Requests to a desk.
 
 ghost use Rattle.std.specs.Prelude.{◌≡◌};
-ghost use Rattle.batch.specs.Asking.{request_to, version_for};
+ghost use Rattle.batch.specs.Asking.{ask_of, request_to, version_for};
+ghost use Rattle.wire.specs.Ranges.{IsDesk, IsFrame, IsId};
 
+use client::await_request;
 use wire::{Frame, Version, What};
 
 /// A desk that commands are entered at.
@@ -12,15 +14,25 @@ pub struct Receiver {
     pub hall: u32,
     /// Its number, 1 to 5.
     pub desk: u8,
+    /// Whether its program knows version 5 of the wire: it answers an Await once that is known.
+    pub awaits: bool,
 }
 
 /// The version of the wire in which a request is made: 4 for what became of a command, since it
-/// alone tells each code, and else 1.
-fn version_for(what: &What) -> Version
-    ensures { result ≡ version_for what.now }
+/// tells each code; 5 for entering one, where the desk knows it, since it tells each refusal; and
+/// else 1.
+fn version_for(receiver: Receiver, what: &What) -> Version
+    ensures { result ≡ version_for receiver what.now }
 {
     match what {
         What::Ask { .. } => Version::Four,
+        What::Submit { .. } => {
+            if receiver.awaits {
+                Version::Five
+            } else {
+                Version::One
+            }
+        }
         _ => Version::One,
     }
 }
@@ -30,10 +42,26 @@ pub(crate) fn request_to(receiver: Receiver, what: What) -> Frame
     ensures { result ≡ request_to receiver what }
 {
     Frame {
-        version: version_for(&what),
+        version: version_for(receiver, &what),
         hall: receiver.hall,
         from: 0,
         to: receiver.desk,
         what,
+    }
+}
+
+/// How many seconds a desk waits with its answer to what became of a command.
+const SECONDS: u8 = 1;
+
+/// The request for what became of the command with an id: an Await where the desk knows it, and
+/// else an Ask.
+pub(crate) fn question_of(receiver: Receiver, id: u64) -> Frame
+    ensures question { result ≡ ask_of receiver id }
+    ensures spelled { IsDesk receiver.desk → IsId id → IsFrame result }
+{
+    if receiver.awaits {
+        await_request(receiver.hall, receiver.desk, id, SECONDS)
+    } else {
+        request_to(receiver, What::Ask { id })
     }
 }

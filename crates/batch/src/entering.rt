@@ -1,6 +1,6 @@
 //! One command entered at the desk, and waited for.
 
-ghost use Rattle.std.specs.Prelude.{◌≡◌, ◌≢◌, ◌⊎◌, ◌∷◌, [], Bool, Err, false, IfErr, IfOk};
+ghost use Rattle.std.specs.Prelude.{◌≡◌, ◌≢◌, ◌⊎◌, ◌∷◌, [], Bool, Err, false, true, IfErr, IfOk};
 ghost use Rattle.std.specs.Prelude.{OnOk, IsTrue};
 ghost use Rattle.wire.specs.Ranges.{IsDesk, IsEntry, IsFrame, IsId};
 ghost use Rattle.batch.specs.Asking.{IsAnswer, IsAwaited, IsDecided, IsOfAsking};
@@ -10,12 +10,12 @@ ghost use Rattle.batch.specs.Dialing.{AsksBy, GoesBy};
 ghost use Rattle.batch.specs.model.Keeping.{way_of};
 ghost use Rattle.batch.specs.Entering.{EnteredBy, Hinders, IsEntered, IsOther, StopsAsking};
 ghost use Rattle.batch.specs.declared.asking.Receiver.{Receiver as Desk};
-ghost use Rattle.batch.specs.model.Trying.{AreTicks, EndsWaiting, IsTurnedOff, IsUndecided};
-ghost use Rattle.batch.specs.model.Trying.{StopsTaking, TellsTries};
+ghost use Rattle.batch.specs.model.Trying.{AreTicked, AreTicks, EndsWaiting, IsTurnedOff};
+ghost use Rattle.batch.specs.model.Trying.{IsUndecided, StopsTaking, TellsTries};
 ghost use Rattle.batch.specs.Watching.{Telling, Tells, Waits, notices_by, notices_of, watched};
 ghost use Rattle.batch.specs.declared.entering.Fate.TheVariants as fate;
 
-use crate::asking::{Receiver, request_to};
+use crate::asking::{Receiver, question_of, request_to};
 use crate::confirming::confirm;
 use crate::dialing::{Contact, Dial};
 use crate::fault::BatchFault;
@@ -28,6 +28,9 @@ use wire::{ClientRefusal, CommandState, Frame, What};
 
 /// How many times a desk is asked again whose queue is full, or that has not decided a command.
 const MOST_TRIES: u32 = 10_000;
+
+/// How many times a desk is asked that waits a second with its answer, and is ticked then.
+const MOST_WAITS: u32 = 300;
 
 /// Behind so many of them the desk is ticked.
 const TRIES_TO_TICK: u32 = 32;
@@ -64,6 +67,33 @@ fn rest_behind<D: Dial, V: Watch>(
     }
     let tick = request_to(receiver, What::Tick);
     ask(alloc, dial, held, contact, &tick)?;
+    Ok(())
+}
+
+/// Gives the desk a tick after a question, counted from 0, with whose answer it waited a second.
+fn tick_behind<D: Dial, V: Watch>(
+    alloc: Global,
+    dial: &mut D,
+    held: &mut Option<Held<D::Reader, D::Writer>>,
+    contact: Contact<'_>,
+    receiver: Receiver,
+    watch: &mut V,
+    waits: u32,
+) -> Result<(), BatchFault>
+    requires { IsDesk receiver.desk }
+    ensures ok { OnOk result
+        (AsksBy (way_of D.dialed D.Reader.remaining D.Writer.contents
+        contact.entry dial.old dial.new held.old held.new)
+        (AreTicked receiver)) }
+    ensures err { IfErr result (λ f. GoesBy (way_of D.dialed D.Reader.remaining D.Writer.contents
+        contact.entry dial.old dial.new held.old held.new)
+        (asked_so (tick_of receiver) (Err f) ∷ [])) }
+    ensures fails { IfErr result IsOfAsking }
+    ensures heard { Tells (watched V.heard watch.old watch.new) (Waits waits ∷ []) }
+{
+    watch.waits(waits);
+    let only = request_to(receiver, What::Tick);
+    ask(alloc, dial, held, contact, &only)?;
     Ok(())
 }
 
@@ -197,6 +227,82 @@ fn fate_of(told: &What) -> Fate
     }
 }
 
+/// Asks again and again until the command with an id is decided, and gives the answer. The first
+/// answer that the desk knows nothing of it ends that with `Lost`.
+fn asked<D: Dial, V: Watch>(
+    alloc: Global,
+    dial: &mut D,
+    held: &mut Option<Held<D::Reader, D::Writer>>,
+    contact: Contact<'_>,
+    receiver: Receiver,
+    watch: &mut V,
+    id: u64,
+) -> Result<What, BatchFault>
+    requires desk { IsDesk receiver.desk }
+    requires id { IsId id }
+    requires plain { receiver.awaits ≡ false }
+    ensures answer { IfOk result (λ told. IsAnswer (ask_of receiver id) told × IsDecided told) }
+    ensures ok { IfOk result (λ told. AsksBy (way_of D.dialed D.Reader.remaining D.Writer.contents
+        contact.entry dial.old dial.new held.old held.new)
+        (Telling (watched V.heard watch.old watch.new) notices_of
+        (IsAwaited receiver id told))) }
+    ensures err { IfErr result (λ f. AsksBy (way_of D.dialed D.Reader.remaining D.Writer.contents
+        contact.entry dial.old dial.new held.old held.new)
+        (Telling (watched V.heard watch.old watch.new) notices_of
+        (EndsWaiting f receiver id))) }
+    ensures cause { IfErr result (λ f. IsOfAsking f ⊎ IsUndecided f receiver id) }
+{
+    let question = question_of(receiver, id);
+    for tries in 0..MOST_TRIES {
+        let told = ask(alloc, dial, held, contact, &question)?;
+        match fate_of(&told) {
+            Fate::Decided => return Ok(told),
+            Fate::Unknown => return Err(BatchFault::Lost),
+            Fate::Waits => {}
+        }
+        rest_behind(alloc, dial, held, contact, receiver, watch, tries)?;
+    }
+    Err(BatchFault::StillPending)
+}
+
+/// The same, where the desk waits with its answer until the command is decided, for a second at
+/// most: it is ticked then, and asked once more.
+fn awaited<D: Dial, V: Watch>(
+    alloc: Global,
+    dial: &mut D,
+    held: &mut Option<Held<D::Reader, D::Writer>>,
+    contact: Contact<'_>,
+    receiver: Receiver,
+    watch: &mut V,
+    id: u64,
+) -> Result<What, BatchFault>
+    requires desk { IsDesk receiver.desk }
+    requires id { IsId id }
+    requires waits { receiver.awaits ≡ true }
+    ensures answer { IfOk result (λ told. IsAnswer (ask_of receiver id) told × IsDecided told) }
+    ensures ok { IfOk result (λ told. AsksBy (way_of D.dialed D.Reader.remaining D.Writer.contents
+        contact.entry dial.old dial.new held.old held.new)
+        (Telling (watched V.heard watch.old watch.new) notices_of
+        (IsAwaited receiver id told))) }
+    ensures err { IfErr result (λ f. AsksBy (way_of D.dialed D.Reader.remaining D.Writer.contents
+        contact.entry dial.old dial.new held.old held.new)
+        (Telling (watched V.heard watch.old watch.new) notices_of
+        (EndsWaiting f receiver id))) }
+    ensures cause { IfErr result (λ f. IsOfAsking f ⊎ IsUndecided f receiver id) }
+{
+    let question = question_of(receiver, id);
+    for tries in 0..MOST_WAITS {
+        let answer = ask(alloc, dial, held, contact, &question)?;
+        match fate_of(&answer) {
+            Fate::Decided => return Ok(answer),
+            Fate::Unknown => return Err(BatchFault::Lost),
+            Fate::Waits => {}
+        }
+        tick_behind(alloc, dial, held, contact, receiver, watch, tries)?;
+    }
+    Err(BatchFault::StillPending)
+}
+
 /// Asks until the command with an id is decided, and gives the answer. The first answer that the
 /// desk knows nothing of it ends that with `Lost`.
 fn decided<D: Dial, V: Watch>(
@@ -221,17 +327,11 @@ fn decided<D: Dial, V: Watch>(
         (EndsWaiting f receiver id))) }
     ensures cause { IfErr result (λ f. IsOfAsking f ⊎ IsUndecided f receiver id) }
 {
-    let question = request_to(receiver, What::Ask { id });
-    for tries in 0..MOST_TRIES {
-        let told = ask(alloc, dial, held, contact, &question)?;
-        match fate_of(&told) {
-            Fate::Decided => return Ok(told),
-            Fate::Unknown => return Err(BatchFault::Lost),
-            Fate::Waits => {}
-        }
-        rest_behind(alloc, dial, held, contact, receiver, watch, tries)?;
+    if receiver.awaits {
+        awaited(alloc, dial, held, contact, receiver, watch, id)
+    } else {
+        asked(alloc, dial, held, contact, receiver, watch, id)
     }
-    Err(BatchFault::StillPending)
 }
 
 /// Enters a command, and where that is asked for waits until it is decided and sees that the entry

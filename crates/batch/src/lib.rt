@@ -13,6 +13,7 @@ mod keeping;
 mod lines_entered;
 mod log_asked;
 mod newest_asked;
+mod probing;
 mod watching;
 
 pub use asking::Receiver;
@@ -23,4 +24,5 @@ pub use keeping::ask_over;
 pub use lines_entered::{Batch, enter_lines, told_answer};
 pub use log_asked::ask_log;
 pub use newest_asked::{RoundSheet, ask_newest};
+pub use probing::knows_await;
 pub use watching::Watch;

@@ -5,7 +5,7 @@ ghost use Rattle.board_views.specs.Views.{IsPageAt};
 ghost use Rattle.http_server.specs.Response.{IsBlank};
 ghost use Rattle.board_service.specs.Services.{ShowsPage, ShowsStatus, asks_status, service};
 ghost use Rattle.board_service.specs.Services.{service_wait};
-ghost use Rattle.hall_standings.specs.Halls.{IsKept};
+ghost use Rattle.hall_standings.specs.Halls.{Differs, IsKept};
 
 use crate::shelf::Shelf;
 use crate::status::send_status;
@@ -21,6 +21,7 @@ use std::alloc::{AllocError, Global};
 use std::marker::Model;
 use std::net::Net;
 use std::random::RandomSource;
+use wire::Difference;
 
 /// Whether a request asks how the desks stand.
 fn asks_status(request: &Request<Bytes>) -> bool
@@ -145,6 +146,13 @@ impl BoardService {
         if let Some(page) = made {
             self.shelf.put(path, page);
         }
+    }
+
+    /// How a desk differs from others, if one has said so when it was asked last.
+    pub(crate) fn differs(&self) -> Result<Option<Difference>, AllocError>
+        ensures { IfOk result (λ differs. Differs self.now.desks differs) }
+    {
+        self.desks.differs(self.alloc)
     }
 
     /// How the desks stand.

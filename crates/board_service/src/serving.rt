@@ -2,7 +2,7 @@
 
 use crate::service::BoardService;
 use desk_sockets::{DeskStream, Kept};
-use hall_standings::{AskedDesks, AskedStream, Hall, count_desks, stream_to};
+use hall_standings::{AskedDesks, AskedStream, Hall, count_desks, stream_to, tell_difference};
 use mirroring::Mirroring;
 use page_sockets::{BrowserSockets, address_of, registry_of, round, say_where};
 use pages::Browsers;
@@ -28,6 +28,17 @@ pub enum End {
     Broken,
 }
 
+/// Says that a desk differs, where one does, and whether one did.
+fn tell_if_differs<F: Write>(service: &BoardService, faults: &mut F) -> bool {
+    match service.differs() {
+        Ok(Some(difference)) => {
+            tell_difference(faults, PROGRAM, difference);
+            true
+        }
+        _ => false,
+    }
+}
+
 /// Serves until it can't go on, over the connection to the desk that is asked for its log, and
 /// those to the desks that are asked how they stand. Says what is wrong with their keys.
 fn serve_on<R: Net + RandomSource + Clock + Drop, F: Write>(
@@ -38,6 +49,7 @@ fn serve_on<R: Net + RandomSource + Clock + Drop, F: Write>(
     faults: &mut F,
 ) -> End {
     let mut now = 0;
+    let mut said = false;
     for _round in 0..u64::MAX {
         let wait = service.wait(now).min(LONGEST_WAIT);
         let Some(after) = round(browsers, service, wait) else {
@@ -50,6 +62,7 @@ fn serve_on<R: Net + RandomSource + Clock + Drop, F: Write>(
                 one.tell(faults, PROGRAM);
             }
         }
+        said = said || tell_if_differs(service, faults);
         if service.keep(followed, now) == Kept::Broken {
             return End::Broken;
         }

@@ -8,18 +8,18 @@ use Rattle.texts.specs.declared.command.Command.{Command}
 use Rattle.texts.specs.declared.command.Command.TheVariants.{Card}
 use Rattle.texts.specs.declared.command.Remarked.{Remarked}
 use Rattle.texts.specs.declared.reading.CommandFault.{CommandFault}
-use Rattle.texts.specs.Fields.{cut_remark}
-use Rattle.texts.specs.Parts.{card_values}
+use Rattle.texts.specs.Parts.{card_values, parts}
 use Rattle.texts.specs.Reading.{command_of}
 use Rattle.texts.specs.Spelling.{AreInRange, IsFit, IsFitTold, spelling, values_text}
 use Rattle.texts.specs.Spelling.{with_remark_text}
 use Rattle.texts.specs.declared.table.Tag.TheVariants as tag
-use Rattle.texts.specs.Table.{fields_in, row_of, rows}
+use Rattle.texts.specs.Table.{fields_in, row_of, rows, takes_remark_in}
 use Rattle.texts.proofs.Bytes.{is_plain, passes_lack}
 use Rattle.texts.proofs.Cuts.{lacks}
-use Rattle.texts.proofs.Remarks.{cut_remark_found}
 use Rattle.texts.proofs.Rows.{text_is, values_plain}
 use Rattle.texts.proofs.Words.{spelled_once, spelled_only, spelling_short}
+use Rattle.card_forms.specs.Remarks.{before_remark}
+use Rattle.card_forms.proofs.Notes.{before_is}
 use Rattle.card_forms.specs.Entries.{SameWhereTheCardIs, card_in, card_of, card_told}
 
 pub card_is_of : (command : Command) (card : CardEntry) → card_of command ≡ Some card
@@ -35,10 +35,15 @@ no_mark card fits =
     ∙ passes_lack is_plain 35 refl (values_text (card_values card))
     (values_plain 0 (fields_in (row_of tag.Card)) (card_values card) fits refl)
 
+-- a card may have a remark
+takes : (card : CardEntry) → takes_remark_in (row_of (parts (Card card)).0) ≡ true
+unfolding rows
+takes card = refl
+
 -- what a text that spells a card is
 record IsCardText (text : List ℕ) (card : CardEntry) : Type 0 where
   fit : IsFit (Card card)
-  front : (cut_remark text).0 ≡ spelling (Card card)
+  front : before_remark text ≡ spelling (Card card)
 
 text_of_card : (text : List ℕ) (card : CardEntry) → card_in text ≡ Some card → IsCardText text card
 text_of_card text card is = step (command_of text) refl is
@@ -52,12 +57,10 @@ text_of_card text card is = step (command_of text) refl is
         let fit : IsFit (Card card) = subst IsFit command spells.0.0 in
         record {
           fit = fit;
-          front = ap (λ (bytes : List ℕ). (cut_remark bytes).0) spells.1
-              ∙ ap
-              (λ (c : Command). (cut_remark (with_remark_text (spelling c) told.remark)).0)
+          front = ap before_remark spells.1
+              ∙ ap (λ (c : Command). before_remark (with_remark_text (spelling c) told.remark))
               command
-              ∙ ap (λ (p : List ℕ × Option (List ℕ)). p.0)
-              (cut_remark_found (spelling (Card card)) told.remark (no_mark card fit.0));
+              ∙ before_is (Card card) told.remark (takes card) (no_mark card fit.0);
         }
 
 -- a card without a remark
@@ -77,7 +80,7 @@ pub same_where : SameWhereTheCardIs
 same_where one other c d reads reads' =
     let first = text_of_card one c reads in
     let second = text_of_card other d reads' in
-    let decides = bytes_eq-Decides (cut_remark one).0 (cut_remark other).0 in (
+    let decides = bytes_eq-Decides (before_remark one) (before_remark other) in (
       λ same.
           same_card c d first.fit second.fit
           (sym first.front ∙ decides.0 same ∙ second.front),

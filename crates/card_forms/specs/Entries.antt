@@ -1,5 +1,5 @@
 -- The entries of what a form asks for.
-use Rattle.std.specs.Prelude.{◌≡◌, ◌↔◌, ℕ, ◌+◌, Bool, true, if◌then◌else◌, bytes_eq, nat_le, length}
+use Rattle.std.specs.Prelude.{◌≡◌, ◌↔◌, ℕ, ◌+◌, true, if◌then◌else◌, nat_le, length}
 use Rattle.std.specs.Prelude.{List, [], ◌∷◌, Option, None, Some, Result, Ok, Err}
 use Rattle.acceptor.specs.declared.entry.Entry.{Entry}
 use Rattle.texts.specs.declared.command.CardEntry.{CardEntry}
@@ -7,10 +7,10 @@ use Rattle.texts.specs.declared.command.Command.{Command}
 use Rattle.texts.specs.declared.command.Command.TheVariants.{Card}
 use Rattle.texts.specs.declared.command.Remarked.{Remarked}
 use Rattle.texts.specs.declared.reading.CommandFault.{CommandFault}
-use Rattle.texts.specs.Fields.{cut_remark}
 use Rattle.texts.specs.Names.{is_remark}
 use Rattle.texts.specs.Reading.{command_of}
 use Rattle.texts.specs.Spelling.{spelling, told_spelling}
+use Rattle.card_forms.specs.Remarks.{is_same_but_remark}
 
 abbrev pub entry_with : ℕ → List ℕ → Entry
 entry_with id text = record { id = id; text = text }
@@ -53,12 +53,7 @@ card_told (Ok told) = card_of told.command
 abbrev pub card_in : List ℕ → Option CardEntry
 card_in text = card_told (command_of text)
 
--- ---- the same but for a remark
-
-abbrev pub is_same_but_remark : List ℕ → List ℕ → Bool
-is_same_but_remark one other = bytes_eq (cut_remark one).0 (cut_remark other).0
-
--- two texts that spell cards are so exactly where they spell the same card
+-- two texts that spell cards are the same but for a remark exactly where they spell the same card
 abbrev pub SameWhereTheCardIs : Type 0
 SameWhereTheCardIs =
     (one other : List ℕ) (c d : CardEntry) → card_in one ≡ Some c → card_in other ≡ Some d

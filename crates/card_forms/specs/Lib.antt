@@ -3,5 +3,6 @@ pub mod Pairs
 pub mod Cards
 pub mod Readings
 pub mod Asking
+pub mod Remarks
 pub mod Entries
 pub mod Faults

@@ -1,9 +1,11 @@
 //! The texts of commands that are sent together.
 
-ghost use Rattle.std.specs.Prelude.{◌≡◌, ◌≤◌, ◌∷◌, [], IfOk, length};
+ghost use Rattle.std.specs.Prelude.{◌≡◌, ◌≤◌, ◌∷◌, [], IfOk, length, map};
 ghost use Rattle.std.specs.Option.{SomeIff};
+ghost use Rattle.card_forms.specs.Remarks.{noted as noted_with};
 
 use crate::command_text::CommandText;
+use crate::remarks::noted;
 use std::alloc::{AllocError, Global};
 use std::marker::Model;
 
@@ -44,6 +46,20 @@ impl CommandTexts {
     {
         let texts = vec![in alloc; text]?;
         Ok(CommandTexts { texts })
+    }
+
+    /// These texts, each with this remark where `noted` adds it.
+    pub fn noted(&self, alloc: Global, remark: &[u8]) -> Result<CommandTexts, AllocError>
+        ensures { IfOk result (λ texts. texts ≡ map (noted_with remark.now) self.now) }
+    {
+        let mut texts = Vec::new(alloc);
+        for text in self.as_slice() {
+            texts.push(noted(alloc, remark, text)?)?;
+        }
+        match CommandTexts::new(texts) {
+            Some(texts) => Ok(texts),
+            None => unreachable!(),
+        }
     }
 
     /// The texts.

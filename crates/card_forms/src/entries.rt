@@ -4,7 +4,7 @@ ghost use Rattle.std.specs.Prelude.{◌≡◌, ◌+◌, ◌≤◌, ◌^◌, ◌+
 ghost use Rattle.acceptor.specs.Entries.{IsId};
 ghost use Rattle.card_forms.specs.Entries.{SameWhereTheCardIs, card_entry, card_in, card_of};
 ghost use Rattle.card_forms.specs.Entries.{card_text, command_entries, entry_of, entry_with};
-ghost use Rattle.card_forms.specs.Entries.{is_same_but_remark, remark_of};
+ghost use Rattle.card_forms.specs.Entries.{remark_of};
 
 use crate::command_text::CommandText;
 use crate::command_texts::CommandTexts;
@@ -12,8 +12,7 @@ use crate::form_id::FormId;
 use acceptor::entry::{Entry, EntryFault};
 use std::alloc::{AllocError, Global};
 use texts::{
-    CardEntry, Command, CommandFault, Name, Remarked, cut_remark, is_clear_name, print,
-    print_remarked, read,
+    CardEntry, Command, CommandFault, Name, Remarked, is_clear_name, print, print_remarked, read,
 };
 
 /// The most bytes of a command's text.
@@ -74,13 +73,6 @@ pub fn card_entry(
 {
     let text = card_text(alloc, card, remark)?;
     entry_of(alloc, id.number(), &text)
-}
-
-/// Whether two texts are the same but for a remark.
-pub fn is_same_but_remark(one: &[u8], other: &[u8]) -> bool
-    ensures { result ≡ is_same_but_remark one.now other.now }
-{
-    cut_remark(one).0 == cut_remark(other).0
 }
 
 /// A law: two texts that spell cards are the same but for a remark exactly where they spell the

@@ -31,12 +31,13 @@ abbrev pub is_entries : ℕ → What → Bool
 is_entries position (what.Entries from len entries) = from == position
 is_entries position _ = false
 
--- a Submit is answered by Taken of its id, an Ask by Told of its id, a Sheet by the text of a
--- sheet, a Tick and a Stop by Fine, a Status by Standing, a Log by Entries from its position on; no
--- other kind has an answer
+-- a Submit is answered by Taken of its id, an Ask and an Await by Told of its id, a Sheet by the
+-- text of a sheet, a Tick and a Stop by Fine, a Status by Standing, a Log by Entries from its
+-- position on; no other kind has an answer
 abbrev pub fits : What → What → Bool
 fits (what.Submit entry) given = is_taken entry.id given
 fits (what.Ask id) given = is_told id given
+fits (what.Await id seconds) given = is_told id given
 fits (what.Sheet event round position style) given = is_sheet_text given
 fits what.Tick given = is_fine given
 fits what.Stop given = is_fine given

@@ -42,6 +42,7 @@ refusal_name refusal.NotThere = codes "NotThere"
 refusal_name refusal.NoSuchRound = codes "NoSuchRound"
 refusal_name refusal.Foreign = codes "Foreign"
 refusal_name refusal.NotAllowed = codes "NotAllowed"
+refusal_name refusal.HallDiffers = codes "HallDiffers"
 
 -- the line of a fault, without its line feed
 abbrev pub fault_text : ClientFault → List ℕ

@@ -1,11 +1,11 @@
--- How a client asks a desk where it stands and for its log: both in version 3 of the wire.
+-- How a client asks a desk where it stands, for its log, and what becomes of a command.
 use Rattle.std.specs.Prelude.{◌≡◌, ℕ, true}
 use Rattle.wire.specs.Numbers.{IsFromThree}
 use Rattle.wire.specs.Ranges.{IsFrame}
 use Rattle.wire.specs.declared.frame.Frame.{Frame}
 use Rattle.wire.specs.declared.frame.What.{What}
 use Rattle.wire.specs.declared.frame.What.TheVariants as what
-use Rattle.wire.specs.declared.values.Version.TheVariants.{Three}
+use Rattle.wire.specs.declared.values.Version.TheVariants.{Three, Five}
 use Rattle.client.specs.Answers.{answers}
 
 -- a request of a client, which is 0, to a desk of a hall, in version 3
@@ -16,6 +16,19 @@ request_in_three hall desk asked =
 -- where does the desk stand?
 abbrev pub status_request : (hall desk : ℕ) → Frame
 status_request hall desk = request_in_three hall desk what.Status
+
+-- a request of version 5
+abbrev pub request_in_five : (hall desk : ℕ) → What → Frame
+request_in_five hall desk asked =
+    record { version = Five; hall = hall; from = 0; to = desk; what = asked }
+
+-- where does the desk stand, and does another one differ?
+abbrev pub status_request_in_five : (hall desk : ℕ) → Frame
+status_request_in_five hall desk = request_in_five hall desk what.Status
+
+-- what becomes of this id, once that is known, or after so many seconds?
+abbrev pub await_request : (hall desk id seconds : ℕ) → Frame
+await_request hall desk id seconds = request_in_five hall desk (what.Await id seconds)
 
 -- what stands in its log from this position on?
 abbrev pub log_request : (hall desk position : ℕ) → Frame

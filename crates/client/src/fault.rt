@@ -33,6 +33,7 @@ pub fn refusal_name(refusal: ClientRefusal) -> &'static str
         ClientRefusal::NoSuchRound => "NoSuchRound",
         ClientRefusal::Foreign => "Foreign",
         ClientRefusal::NotAllowed => "NotAllowed",
+        ClientRefusal::HallDiffers => "HallDiffers",
     }
 }
 

@@ -67,7 +67,7 @@ fn fits(asked: &What, given: &What) -> bool
 {
     match asked {
         What::Submit { entry } => is_taken(entry.id(), given),
-        What::Ask { id } => is_told(*id, given),
+        What::Ask { id } | What::Await { id, .. } => is_told(*id, given),
         What::Sheet { .. } => is_sheet_text(given),
         What::Tick | What::Stop => is_fine(given),
         What::Status => is_standing(given),
@@ -77,9 +77,9 @@ fn fits(asked: &What, given: &What) -> bool
 }
 
 /// Whether a frame is the answer to what was asked: it is of the hall that was meant, from the desk
-/// that was asked, and Taken of the id of a Submit, Told of the id of an Ask, the text of a sheet
-/// to a Sheet, Fine to a Tick or a Stop, Standing to a Status, or Entries from the position of a
-/// Log on.
+/// that was asked, and Taken of the id of a Submit, Told of the id of an Ask or an Await, the text
+/// of a sheet to a Sheet, Fine to a Tick or a Stop, Standing to a Status, or Entries from the
+/// position of a Log on.
 pub fn answers(asked: &Frame, given: &Frame) -> bool
     ensures { result ≡ answers asked.now given.now }
 {

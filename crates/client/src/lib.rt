@@ -18,5 +18,7 @@ pub use exchanging::exchange;
 pub use fault::{ClientFault, refusal_name};
 pub use judging::{answers, judged};
 pub use printing::reply_text;
-pub use standings::{answers_from_three, log_request, status_request};
+pub use standings::{
+    answers_from_three, await_request, log_request, status_request, status_request_in_five,
+};
 pub use versions::sheet_version;

@@ -1,8 +1,9 @@
-//! The requests for where a desk stands and for its log, in version 3 of the wire.
+//! The requests for where a desk stands, for its log, and for what becomes of a command.
 
 ghost use Rattle.std.specs.Prelude.{◌≡◌, ◌≤◌};
-ghost use Rattle.wire.specs.Ranges.{IsDesk, IsFrame};
-ghost use Rattle.client.specs.Standings.{AnswersFromThree, log_request, status_request};
+ghost use Rattle.wire.specs.Ranges.{IsDesk, IsFrame, IsId};
+ghost use Rattle.client.specs.Standings.{AnswersFromThree, await_request, log_request};
+ghost use Rattle.client.specs.Standings.{status_request, status_request_in_five};
 
 use wire::{Frame, Version, What};
 
@@ -18,6 +19,37 @@ pub fn status_request(hall: u32, desk: u8) -> Frame
         from: 0,
         to: desk,
         what: What::Status,
+    }
+}
+
+/// The same in version 5 of the wire, in which a desk tells besides how another one differs. A desk
+/// of an earlier program ends the connection at it.
+pub fn status_request_in_five(hall: u32, desk: u8) -> Frame
+    ensures request { result ≡ status_request_in_five hall desk }
+    ensures spelled { IsDesk desk → IsFrame result }
+{
+    Frame {
+        version: Version::Five,
+        hall,
+        from: 0,
+        to: desk,
+        what: What::Status,
+    }
+}
+
+/// The request of a client, which is 0, for what becomes of the command with an id: a desk, 1 to 5,
+/// answers it once the command stands in its log, or after so many seconds. It is of version 5 of
+/// the wire; a desk of an earlier program ends the connection at it.
+pub fn await_request(hall: u32, desk: u8, id: u64, seconds: u8) -> Frame
+    ensures request { result ≡ await_request hall desk id seconds }
+    ensures spelled { IsDesk desk → IsId id → IsFrame result }
+{
+    Frame {
+        version: Version::Five,
+        hall,
+        from: 0,
+        to: desk,
+        what: What::Await { id, seconds },
     }
 }
 

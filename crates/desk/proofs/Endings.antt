@@ -114,6 +114,7 @@ export_not_zero (exports.File (export.NotJson line column)) status is zero =
 export_not_zero (exports.File export.TooDeep) status is zero = omega (arith, is, zero)
 export_not_zero (exports.File (export.Refused found)) status is zero = omega (arith, is, zero)
 export_not_zero (exports.File export.NoMemory) status is zero = omega (arith, is, zero)
+export_not_zero (exports.Running notes) status is zero = omega (arith, is, zero)
 export_not_zero exports.Write status is zero = omega (arith, is, zero)
 export_not_zero exports.NoMemory status is zero = omega (arith, is, zero)
 

@@ -11,7 +11,7 @@ use Rattle.desk.specs.Statuses.{HasFew}
 pub found_few : (found : Option (Text × List Row)) (t : Task) → Finds found t → HasFew t
 found_few found (task.Replay event round style only_sheet) h = tt
 found_few found (task.Import file options) h = tt
-found_few found (task.Export file) h = tt
+found_few found (task.Export file running) h = tt
 found_few found task.Results h = tt
 found_few found (task.Hall desks) h = tt
 found_few found (task.HallFile hall addresses) h = tt

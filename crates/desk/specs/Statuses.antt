@@ -20,10 +20,11 @@ use Rattle.exports.specs.imports.Printing.{status_of as status_of_import}
 use Rattle.exports.specs.declared.imports.fault.ImportsFault.{ImportsFault}
 use Rattle.exports.specs.Files.{FailsExport, PrintsExport}
 use Rattle.exports.specs.Results.{FailsResults, PrintsResults}
-use Rattle.exports.specs.Statuses.{export_status, results_status}
+use Rattle.exports.specs.Statuses.{export_status, notes_status, results_status}
 use Rattle.exports.specs.declared.fault.ExportsFault.{ExportsFault}
 use Rattle.exports.specs.declared.fault.ResultsFault.{ResultsFault}
 use Rattle.wcif.specs.declared.options.Options.{Options}
+use Rattle.wcif_results.specs.declared.note.Note.{Note}
 use Rattle.replay.specs.Apart.{Told}
 use Rattle.standings.specs.declared.forms.Form.{Form}
 use Rattle.standings.specs.declared.forms.Form.TheVariants as form
@@ -45,6 +46,7 @@ use Rattle.arguments.specs.declared.task.HallService.{HallService}
 use Rattle.arguments.specs.declared.task.Task.{Task}
 use Rattle.arguments.specs.declared.task.Task.TheVariants as task
 use Rattle.desk.specs.Keys.{EndsKey}
+use Rattle.tasks.specs.Begun.{AsksFirst}
 use Rattle.tasks.specs.Asking.{EndsCarry, EndsCopyLog, EndsNewest}
 use Rattle.tasks.specs.Entering.{EndsEnter, EndsLines}
 use Rattle.tasks.specs.Places.{NamesDesk, Reach}
@@ -97,10 +99,11 @@ EndsImport status options old new =
     ⊎ ((f : ImportsFault) × (status ≡ status_of_import f) × FailsImport f options None old new)
 
 -- a competition's file was printed with the results of a log, or not
-abbrev pub EndsExport : ℕ → (had old new : Option (List ℕ)) → Type 0
-EndsExport status had old new =
-    ((status ≡ 0) × PrintsExport None had old new)
-    ⊎ ((f : ExportsFault) × (status ≡ export_status f) × FailsExport f None had old new)
+abbrev pub EndsExport : ℕ → (running : Bool) → (had old new : Option (List ℕ)) → Type 0
+EndsExport status running had old new =
+    ((notes : List Note) × (status ≡ notes_status notes)
+    × PrintsExport running notes None had old new)
+    ⊎ ((f : ExportsFault) × (status ≡ export_status f) × FailsExport f running None had old new)
 
 -- the results of a log were printed as JSON, or not
 abbrev pub EndsResults : ℕ → (had old new : Option (List ℕ)) → Type 0
@@ -139,19 +142,22 @@ EndsServe status s old new =
     ⊎ ((e : ServeFault) × (status ≡ status_of (fault_of_serve e)) × PrintsAt e s (output old new))
 
 -- the file gives no hall, or memory ran out, and nothing was printed
-abbrev pub EndsUnserved : ℕ → Option (List ℕ) → Option (List ℕ) → Type 0
-EndsUnserved status old new =
-    (f : DeskFault) × (status ≡ status_of f) × IsOfFile f × Keeps old new
+abbrev pub EndsUnserved : ℕ → Calls → Option (List ℕ) → Option (List ℕ) → Type 0
+EndsUnserved status c old new =
+    (f : DeskFault) × (status ≡ status_of f) × IsOfFile f × (c.old ≡ c.new) × Keeps old new
 
--- or the desk of its hall served, or ended by a fault
-abbrev pub EndsServeHall : ℕ → Bor (List ℕ) → HallService → Option (List ℕ) → Option (List ℕ)
-    → Type 0
-EndsServeHall status file wanted old new =
-    EndsUnserved status old new
+-- Or the desk of its hall served, or ended by a fault. Where its store was to be made, the hall's
+-- desks may have been asked first, and one of them had a command where it did not serve.
+abbrev pub EndsServeHall : ℕ → Bor (List ℕ) → HallService → Calls → Option (List ℕ)
+    → Option (List ℕ) → Type 0
+EndsServeHall status file wanted c old new =
+    EndsUnserved status c old new
     ⊎ ((hall : HallFile) × (bytes : List ℕ) × Says bytes hall
-    × (s : Service)
+    × (((status ≡ 3) × AsksFirst file wanted hall (texts_of hall) false c.old c.new × Keeps old new)
+    ⊎ ((s : Service)
     × IsServiceOf s hall.hall wanted (key_file_of (naming file wanted.key) hall) (texts_of hall)
-    × EndsServe status s old new)
+    × AsksFirst file wanted hall (texts_of hall) true c.old c.new
+    × EndsServe status s old new)))
 
 -- where all was done, nothing is told on the fault stream
 abbrev pub IsQuiet : ℕ → Told → Type 0
@@ -171,7 +177,7 @@ abbrev pub HasFew : Task → Type 0
 HasFew (task.Status desks patience json watches) = AreFew desks
 HasFew (task.Replay event round style only_sheet) = Unit {0}
 HasFew (task.Import file options) = Unit {0}
-HasFew (task.Export file) = Unit {0}
+HasFew (task.Export file running) = Unit {0}
 HasFew task.Results = Unit {0}
 HasFew (task.Hall desks) = Unit {0}
 HasFew (task.HallFile hall addresses) = Unit {0}
@@ -193,7 +199,8 @@ Ends (task.Replay event round style only_sheet) status s c t =
     status s t
 Ends (task.Import file options) status s c t =
     Keeps s.had s.left × EndsImport status options s.old s.new × IsQuiet status t
-Ends (task.Export file) status s c t = EndsExport status s.had s.old s.new × IsQuiet status t
+Ends (task.Export file running) status s c t =
+    EndsExport status running s.had s.old s.new × IsQuiet status t
 Ends task.Results status s c t = EndsResults status s.had s.old s.new × IsQuiet status t
 Ends (task.Hall desks) status s c t =
     (input : List ℕ) × HasLeft s.had input
@@ -230,7 +237,8 @@ Ends (task.Status desks patience json watches) status s c t =
 Ends (task.Serve service) status s c t =
     Keeps s.had s.left × EndsServe status service s.old s.new × IsQuiet status t
 Ends (task.ServeHall file wanted) status s c t =
-    Keeps s.had s.left × EndsServeHall status file wanted s.old s.new × IsQuiet status t
+    Keeps s.had s.left × EndsServeHall status file wanted c s.old s.new
+    × (wanted.makes ≡ false → IsQuiet status t)
 
 -- what a status says of the arguments, and of what was read, written and told
 abbrev pub Ran : List Text → ℕ → Sides → Calls → Told → Type 0

@@ -84,7 +84,7 @@ fn run_task<D: Dial, R: Read, W: Write, F: Write>(
             Ok(()) => 0,
             Err(fault) => tell_import(faults, file, &fault),
         },
-        Task::Export { file } => run_export(rt, file, reader, writer, faults),
+        Task::Export { file, running } => run_export(rt, file, running, reader, writer, faults),
         Task::Results => run_results(rt, reader, writer, faults),
         Task::Hall { desks } => {
             let ran = hall(rt.alloc(), reader, writer, desks);
@@ -153,7 +153,7 @@ fn run_task<D: Dial, R: Read, W: Write, F: Write>(
         }
         Task::Serve { service } => run_service(rt, service, explains, writer, faults),
         Task::ServeHall { file, wanted } => {
-            run_hall_service(rt, file, wanted, explains, writer, faults)
+            run_hall_service(rt, dial, file, wanted, explains, writer, faults)
         }
     }
 }
@@ -161,15 +161,16 @@ fn run_task<D: Dial, R: Read, W: Write, F: Write>(
 /// Parses the arguments of the program, the program's own name first, does what they ask for, and
 /// returns the exit status.
 ///
-/// The status is 0 where it was done; 1 where a part of a hall's desks lags or does not answer; 2
-/// where the parser refused the arguments, with its text on `faults`, or where they ask for help or
-/// the version, with its text on `writer`; 3 for a named refusal, and where no majority of a hall's
-/// desks answers; 4 for a device that failed, 5 for `no memory`. The texts of the last three are
-/// one line on `faults`, but for those of a competition's file, of which there is one for each; on
-/// a terminal and with `--explain` a second line says why: [`DeskFault`], [`tell_import`] and
-/// [`tell_export`](exports::tell_export) have them. What each subcommand reads, writes and refuses
-/// is said at [`run_replay`], [`print_file`], [`run_export`], [`run_results`],
-/// [`hall`](hall::hall), and in the crate `tasks`. Desks are asked by `dial`.
+/// The status is 0 where it was done; 1 where a part of a hall's desks lags or does not answer, or
+/// something is told of a file that is exported; 2 where the parser refused the arguments, with its
+/// text on `faults`, or where they ask for help or the version, with its text on `writer`; 3 for a
+/// named refusal, and where no majority of a hall's desks answers; 4 for a device that failed, 5
+/// for `no memory`. The texts of the last three are one line on `faults`, but for those of a
+/// competition's file, of which there is one for each; on a terminal and with `--explain` a second
+/// line says why: [`DeskFault`], [`tell_import`] and [`tell_export`](exports::tell_export) have
+/// them. What each subcommand reads, writes and refuses is said at [`run_replay`], [`print_file`],
+/// [`run_export`], [`run_results`], [`hall`](hall::hall), and in the crate `tasks`. Desks are asked
+/// by `dial`.
 pub fn run_arguments<'a, D: Dial, R: Read, W: Write, F: Write>(
     rt: &HostRuntime,
     dial: &mut D,

@@ -1,18 +1,21 @@
 //! A desk that serves, and how it ends.
 
-ghost use Rattle.std.specs.Prelude.{◌≡◌, option_map, string_bytes};
+ghost use Rattle.std.specs.Prelude.{◌≡◌, ◌≤◌, false, length, map, option_map, string_bytes};
 ghost use Rattle.std.specs.Io.KnownBytes.{Keeps};
-ghost use Rattle.desk.specs.Statuses.{EndsServe, EndsServeHall, fault_of_serve};
+ghost use Rattle.desk.specs.Statuses.{EndsServe, EndsServeHall, calls, fault_of_serve};
+ghost use Rattle.tasks.specs.Begun.{AsksFirst};
 
-use addressing::{hall_key_file, hall_of_file};
+use addressing::{hall_key_file, hall_of_file, key_of_hall};
 use arguments::HallService;
-use errands::{DeskFault, tell};
+use batch::Dial;
+use errands::{DeskFault, Inquiry, tell};
+use hall_file::HallFile;
 use hall_file::service::Service;
 use lines::RunFault;
-use serve::{ServeFault, serve};
+use serve::{ServeFault, has_bytes, serve};
 use sqlite::Unknown;
 use std::io::Write;
-use tasks::{addresses_of, service_of, tell_missing, tell_service};
+use tasks::{addresses_of, may_make, service_of, tell_missing, tell_service};
 
 /// The fault of a desk that serves.
 fn fault_of_serve(fault: ServeFault) -> DeskFault
@@ -65,19 +68,55 @@ fn path_of(file: &Option<String>) -> Option<&str>
     }
 }
 
-/// Runs a desk of the hall that a file describes, and returns the exit status. Its key's file is
-/// the one that is wanted, or else the one that the hall's file names.
-pub fn run_hall_service<W: Write, F: Write>(
+/// Whether the desk that is wanted may serve: where its store is to be made, and no file is there,
+/// the desks of the hall are asked first, and it may not where one has a command, or was told of
+/// one by this desk. Where the hall's key can't be read none is asked: the desk will not serve.
+fn may_serve<D: Dial, F: Write>(
     rt: &HostRuntime,
+    dial: &mut D,
+    file: &str,
+    wanted: HallService<'_>,
+    hall: &HallFile,
+    addresses: &[&str],
+    faults: &mut F,
+) -> bool
+    requires { length addresses.now ≤ 5 }
+    ensures asked { AsksFirst file.entry wanted.entry hall.now (map (λ a. a.now) addresses.now)
+        result (D.dialed dial.old) (D.dialed dial.new) }
+    ensures quiet { wanted.entry.makes ≡ false
+        → Keeps (F.contents faults.old) (F.contents faults.new) }
+{
+    if !wanted.makes || !matches!(has_bytes(rt, wanted.store), Ok(false)) {
+        return true;
+    }
+    let Ok(key) = key_of_hall(rt, file, wanted.key, hall) else {
+        return true;
+    };
+    let inquiry = Inquiry {
+        hall: hall.hall,
+        addresses,
+        patience: 2,
+        key,
+    };
+    may_make(rt.alloc(), dial, inquiry, wanted.desk, faults)
+}
+
+/// Runs a desk of the hall that a file describes, and returns the exit status. Its key's file is
+/// the one that is wanted, or else the one that the hall's file names. The status is 3 where its
+/// store is to be made, and may not be: `may_serve`.
+pub fn run_hall_service<D: Dial, W: Write, F: Write>(
+    rt: &HostRuntime,
+    dial: &mut D,
     file: &str,
     wanted: HallService<'_>,
     explains: bool,
     writer: &mut W,
     faults: &mut F,
 ) -> u8
-    ensures ends { EndsServeHall result file.entry wanted.entry (W.contents writer.old)
-        (W.contents writer.new) }
-    ensures quiet { result ≡ 0 → Keeps (F.contents faults.old) (F.contents faults.new) }
+    ensures ends { EndsServeHall result file.entry wanted.entry
+        (calls D.dialed dial.old dial.new) (W.contents writer.old) (W.contents writer.new) }
+    ensures quiet { wanted.entry.makes ≡ false → result ≡ 0
+        → Keeps (F.contents faults.old) (F.contents faults.new) }
 {
     let hall = match hall_of_file(rt, file, faults) {
         Ok(hall) => hall,
@@ -90,6 +129,9 @@ pub fn run_hall_service<W: Write, F: Write>(
     let Ok(addresses) = addresses_of(rt.alloc(), &hall) else {
         return tell(faults, DeskFault::Run(RunFault::NoMemory));
     };
+    if !may_serve(rt, dial, file, wanted, &hall, &addresses, faults) {
+        return 3;
+    }
     let service = service_of(hall.hall, wanted, path_of(&key), &addresses);
     run_service(rt, service, explains, writer, faults)
 }

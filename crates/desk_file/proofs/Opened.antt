@@ -26,7 +26,7 @@ bare_before c fresh live bare =
     subst (λ schema. IsDatabase (record { schema = schema; trees = c.committed.trees }))
     (ap (λ (d : Database). d.schema) (sym fresh.clean) ∙ bare) (live fresh.is_open).1
 
-held_before : (c : State) (home : Home) (s : Stored) (log : List Entry) → Keeps home s log c
+pub held_before : (c : State) (home : Home) (s : Stored) (log : List Entry) → Keeps home s log c
     → Holds home c.committed.trees s log
 held_before c home s log k =
     subst (λ (d : Database). Holds home d.trees s log) k.settled k.holds

@@ -1,8 +1,11 @@
 -- The mark of a desk's file that is in use, and the log that belongs to it.
 use Rattle.std.specs.Prelude.{◌≡◌, ◌≢◌, ◌⊎◌, ℕ, ◌+◌, ◌%◌, ◌^◌, ◌<◌, ◌≤◌, IsTrue, List}
 use Rattle.std.specs.Prelude.{length, slice_index}
+use Rattle.sqlite_disk.specs.Disk.{Only, Torn}
 use Rattle.sqlite_disk.specs.declared.Disk.{Ghosts}
+use Rattle.sqlite_disk.specs.declared.Files.{Files}
 use Rattle.sqlite_wal.specs.Format.{IsSigned, be32}
+use Rattle.sqlite_wal.specs.Reads.{IsClean}
 use Rattle.sqlite_wal.specs.Recovery.{IsIgnored, header}
 use Rattle.desk_file.specs.declared.mark.Standing.{Standing}
 use Rattle.desk_file.specs.declared.mark.Standing.TheVariants as standing
@@ -19,6 +22,11 @@ number_of db = be32 db 60
 -- when the first one is taken away.
 abbrev pub uses_of : List ℕ → ℕ
 uses_of db = number_of db % 0x100_0000
+
+-- What is counted are bytes.
+abbrev pub CountsInBytes : List ℕ → Type 0
+CountsInBytes db =
+    (slice_index db 61 < 256) × (slice_index db 62 < 256) × (slice_index db 63 < 256)
 
 -- The log was begun for the use of this number. A log counts how often it was emptied, and each
 -- time the first half of its salt goes up by one: what lies between the two never changes.
@@ -42,17 +50,47 @@ IsEmptied n log =
     IsOfUse n log
     × ((slice_index log 0 ≡ 0) ⊎ ((length log < 56) × IsSigned (header log) × IsShut log))
 
+-- SQLite takes it for a log, and takes up its first frame, which is there to its end.
+abbrev pub HasFrame : List ℕ → Type 0
+HasFrame log =
+    (¬ IsIgnored log) × (slice_index log 40 ≡ slice_index log 16)
+    × (be32 log 8 + 56 ≤ length log)
+
+-- The file was in use and is not, so that it has everything, and a log with a frame is beside it:
+-- that of another file, or this file is older.
+abbrev pub IsStrange : (log db : List ℕ) → Type 0
+IsStrange log db =
+    (64 ≤ length db) × (slice_index db 60 ≡ 0) × (number_of db ≢ 0) × HasFrame log
+
 -- how the log beside a file stands that is in use under this number
 abbrev pub StandsBeside : Standing → ℕ → List ℕ → Type 0
 StandsBeside standing.Free n log = ⊥
+StandsBeside standing.StrangeLog n log = ⊥
 StandsBeside standing.InUse n log = IsLog n log
 StandsBeside standing.Emptied n log = IsEmptied n log
 StandsBeside standing.LogLost n log = (¬ IsLog n log) × (¬ IsEmptied n log)
 
 -- How a desk's two files stand: each two files in one of these ways, and in no other.
 abbrev pub Stands : Standing → (log db : List ℕ) → Type 0
-Stands standing.Free log db = ¬ IsMarked db
+Stands standing.Free log db = (¬ IsMarked db) × (¬ IsStrange log db)
+Stands standing.StrangeLog log db = IsStrange log db
 Stands it log db = IsMarked db × StandsBeside it (number_of db) log
+
+-- the two have everything that was kept
+abbrev pub AreWhole : (log db : List ℕ) → Type 0
+AreWhole log db =
+    Stands standing.Free log db ⊎ Stands standing.InUse log db ⊎ Stands standing.Emptied log db
+
+-- one of the two is not the other's
+abbrev pub AreApart : (log db : List ℕ) → Type 0
+AreApart log db = Stands standing.LogLost log db ⊎ Stands standing.StrangeLog log db
+
+-- so the two files were that were looked at, where they gave back what they hold
+abbrev pub Tells : {D : Type 0} → Ghosts D → (List ℕ → List ℕ → Type 0) → (log db : List ℕ)
+    → Type 0
+Tells {D} g Are log db =
+    (dropped : Files D)
+    × (IsClean g dropped.log → IsClean g dropped.db → Are log db)
 
 -- What a kill leaves of the two while a use begins: no mark, or the mark of this use and its log.
 abbrev pub IsBegun : ℕ → (log db : List ℕ) → Type 0
@@ -62,3 +100,26 @@ IsBegun n log db = (¬ IsMarked db) ⊎ (IsMarked db × (number_of db ≡ n) × 
 -- program supposes of its disk.
 abbrev pub Mixes : {D : Type 0} → Ghosts D → Type 0
 Mixes {D} g = (disk : D) → IsTrue (g.is_mixing disk)
+
+-- a file and its log that are put into their next use, so many of which were begun with this one
+pub record IsNextUse {D : Type 0} (g : Ghosts D) (old new : Files D) (uses : ℕ) : Type 0 where
+  pub begun : Stands standing.InUse (g.seen new.log) (g.seen new.db)
+  pub log_synced : Only (g.seen new.log) (g.may_leave new.log)
+  pub db_synced : Only (g.seen new.db) (g.may_leave new.db)
+  pub others : Torn 60 4 (g.seen old.db) (g.seen new.db)
+  pub number : uses_of (g.seen new.db) ≡ uses
+  pub counted : IsClean g new.db → 64 ≤ length (g.seen old.db)
+      → uses ≡ uses_of (g.seen old.db) + 1
+
+-- What a kill leaves of the two while the next use begins: the last use's mark and its log, or no
+-- mark, or the mark of the next use and its log.
+abbrev pub IsBetween : {D : Type 0} (g : Ghosts D) → Files D → (log db : List ℕ) → Type 0
+IsBetween g old log db =
+    ((d : List ℕ) × g.may_leave old.db d × (slice_index db 60 ≡ slice_index d 60)
+    × g.may_leave old.log log)
+    ⊎ ((¬ IsMarked db) ⊎ (IsMarked db × IsLog (number_of db) log))
+
+-- whatever a crash leaves of the file has its field, and counts at least so many uses
+abbrev pub HasCounted : {D : Type 0} → Ghosts D → ℕ → D → Type 0
+HasCounted g uses db =
+    (c : List ℕ) → g.may_leave db c → (64 ≤ length c) × (uses ≤ uses_of c)

@@ -1,14 +1,21 @@
 //! A desk's file, made under another name and renamed once it is whole.
 
+ghost use Rattle.std.specs.Prelude.{OnOk};
+ghost use Rattle.sqlite.specs.WalFiles.{image_at};
 ghost use Rattle.store.specs.Ranges.{IsHome};
+ghost use Rattle.desk_file.specs.Uses.{IsMade};
 
 use crate::opening::make_keeper;
-use sqlite_std_file::Unknown;
+use crate::uses::close_whole;
+use sqlite::{FileFrom, FileStore, Start};
+use sqlite_disk::Disk;
 use std::io::ErrorKind;
 use std::path::PathBuf;
 use std::{fs, io};
 use store::fault::OpenFault;
 use store::home::Home;
+use store::keeper::Keeper;
+use store::sql::SqlKeeper;
 
 /// The path of what stands beside a file under its name with an ending.
 fn beside(rt: &HostRuntime, path: &str, ending: &str) -> Result<String, OpenFault> {
@@ -55,29 +62,46 @@ fn rename_synced(rt: &HostRuntime, from: &str, to: &str) -> io::Result<()> {
 }
 
 /// Makes the store of this desk in a new file and closes it, so that the file alone has it all.
-fn fill(rt: &HostRuntime, home: Home, path: &str) -> Result<(), OpenFault>
+fn fill<S: Start>(rt: &HostRuntime, home: Home, path: &str, start: S) -> Result<(), OpenFault>
     requires { IsHome home }
+    ensures { OnOk result (IsMade ⟦<FileFrom<S> as Disk>⟧
+        ⟦<SqlKeeper<FileStore<FileFrom<S>>> as Keeper>⟧ (image_at S.Start) home) }
 {
-    match make_keeper(rt, home, path, Unknown) {
-        Ok(Some(keeper)) => match keeper.into_connection().close() {
-            Ok(()) => Ok(()),
-            Err(_) => Err(OpenFault::Device),
-        },
-        Ok(None) => Err(OpenFault::Device),
+    let made = match make_keeper(rt, home, path, start) {
+        Ok(made) => made,
+        Err(fault) => return Err(fault),
+    };
+    let keeper = match made {
+        Some(keeper) => keeper,
+        None => return Err(OpenFault::Device),
+    };
+    match close_whole(keeper.into_connection()) {
+        Ok(files) => {
+            drop(files);
+            Ok(())
+        }
         Err(fault) => Err(fault),
     }
 }
 
 /// Makes the file of this desk, with a desk's first state and an empty log, at a path where no file
 /// is, or one that has nothing in it. It is made as FILE-new, and gets its name once it is whole
-/// and synced: a stop on the way leaves no FILE, and what it leaves is in the way of nobody.
+/// and synced: a stop on the way leaves no FILE, and what it leaves is in the way of nobody. `S`
+/// stands for what FILE-new and its log hold once they are opened.
 ///
 /// # Errors
 ///
 /// - `Damaged` where FILE-wal has something in it: it belongs to a FILE that is lost.
 /// - `Device` and `NoMemory` where they happen, and `Device` where FILE has something by then.
-pub fn make_file(rt: &HostRuntime, home: Home, path: &str) -> Result<(), OpenFault>
+pub fn make_file<S: Start>(
+    rt: &HostRuntime,
+    home: Home,
+    path: &str,
+    start: S,
+) -> Result<(), OpenFault>
     requires { IsHome home }
+    ensures { OnOk result (IsMade ⟦<FileFrom<S> as Disk>⟧
+        ⟦<SqlKeeper<FileStore<FileFrom<S>>> as Keeper>⟧ (image_at S.Start) home) }
 {
     let Ok(place) = place_of(rt, path) else {
         return Err(OpenFault::Device);
@@ -89,7 +113,7 @@ pub fn make_file(rt: &HostRuntime, home: Home, path: &str) -> Result<(), OpenFau
     }
     take_away(rt, &made)?;
     take_away(rt, &log)?;
-    fill(rt, home, &made)?;
+    fill(rt, home, &made, start)?;
     take_away(rt, &log)?;
     if has_bytes(rt, path)? {
         return Err(OpenFault::Device);

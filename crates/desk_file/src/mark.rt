@@ -3,12 +3,13 @@
 //! While a desk serves, its log holds what the file does not have yet, so that the file without the
 //! log is an older desk's. The mark says in the file itself that it is in use, and of which log.
 
-ghost use Rattle.std.specs.Prelude.{◌≡◌, ◌⊎◌, ◌≤◌, ◌<◌, ℕ, List, length, IfOk, IsTrue};
-ghost use Rattle.std.specs.Prelude.{OnOk, slice_index};
-ghost use Rattle.sqlite_disk.specs.Disk.{Holds, Only, Torn};
+ghost use Rattle.std.specs.Prelude.{◌≡◌, ◌⊎◌, ◌↔◌, ◌≤◌, ◌<◌, ◌%◌, ◌^◌, ◌∷◌, [], ℕ, List, length};
+ghost use Rattle.std.specs.Prelude.{IfOk, IsErr, IsTrue, OnOk, slice_index};
+ghost use Rattle.sqlite_disk.specs.Disk.{Follows, Holds, Mixed, Only, Torn};
+ghost use Rattle.sqlite_wal.specs.Format.{be32};
 ghost use Rattle.sqlite_wal.specs.Reads.{IsClean, OnlyReads};
-ghost use Rattle.desk_file.specs.Marks.{IsBegun, IsLog, IsMarked, Stands, StandsBeside};
-ghost use Rattle.desk_file.specs.Marks.{Mixes, number_of, uses_of};
+ghost use Rattle.desk_file.specs.Marks.{CountsInBytes, HasCounted, HasFrame, IsBegun, IsLog};
+ghost use Rattle.desk_file.specs.Marks.{IsMarked, Mixes, Stands, StandsBeside, number_of, uses_of};
 
 use crate::log_front::{FRONT_LEN, LOG_LEN, empty_log, get_be32, header_of, is_signed, put_be32};
 use sqlite::Files;
@@ -25,7 +26,7 @@ const USE_END: usize = 64;
 /// How a desk's two files stand.
 #[derive(Clone, Copy, Debug, PartialEq, Eq)]
 pub enum Standing {
-    /// The file is not in use, or is no database.
+    /// The file is not in use and has everything, or it never was in use, or is no database.
     Free,
     /// It is in use, and the log of this use is beside it.
     InUse,
@@ -33,14 +34,55 @@ pub enum Standing {
     Emptied,
     /// It is in use, and the log of this use is not beside it.
     LogLost,
+    /// It was in use and is not, and a log that has a frame is beside it: that of another file, or
+    /// this file is older, since a file is taken out of use once it has everything.
+    StrangeLog,
 }
 
-/// How the log stands that begins with these bytes and is so long.
+/// The bytes at the front of a log that is so long, where it has so many.
+fn front_of<D: Disk>(log: &mut D, len: usize) -> io::Result<[u8; 41]>
+    requires { IsTrue (D.Disk.is_usable log.old) }
+    ensures bytes { IfOk result (λ it. IsClean D.Disk log.new
+        → 41 ≤ len → Holds (D.Disk.seen log.old) 0 it) }
+    ensures same { OnlyReads D.Disk log.old log.new }
+{
+    let mut front = [0; FRONT_LEN];
+    if len < FRONT_LEN {
+        return Ok(front);
+    }
+    log.read_at(0, &mut front)?;
+    Ok(front)
+}
+
+/// Whether the log that begins with these bytes and is so long has a frame that counts.
+fn has_frame(front: &[u8; 41], len: usize) -> bool
+    ensures { (log : List ℕ) → length log ≡ len → (41 ≤ len → Holds log 0 front.now)
+        → IsTrue result ↔ HasFrame log }
+{
+    if len < LOG_LEN {
+        return false;
+    }
+    let room = len - LOG_LEN;
+    let size = get_be32(front, 8) as usize;
+    if room < size {
+        return false;
+    }
+    let gate = front[40];
+    let salt = front[16];
+    if gate != salt {
+        return false;
+    }
+    is_signed(&header_of(front))
+}
+
+/// How the log that begins with these bytes and is so long stands beside a file in use.
 fn standing_of(front: &[u8; 41], len: usize, number: u32) -> Standing
-    requires { 41 ≤ len }
-    ensures { (log : List ℕ) → length log ≡ len → Holds log 0 front.now
+    ensures { (log : List ℕ) → length log ≡ len → (41 ≤ len → Holds log 0 front.now)
         → StandsBeside result number log }
 {
+    if len < FRONT_LEN {
+        return Standing::LogLost;
+    }
     let round = get_be32(front, 12);
     if round.wrapping_add(number) != get_be32(front, 16) {
         return Standing::LogLost;
@@ -53,38 +95,18 @@ fn standing_of(front: &[u8; 41], len: usize, number: u32) -> Standing
     }
     let gate = front[40];
     let salt = front[16];
-    if len < LOG_LEN {
-        return if gate == salt {
-            Standing::LogLost
+    if gate == salt {
+        return if has_frame(front, len) {
+            Standing::InUse
         } else {
-            Standing::Emptied
+            Standing::LogLost
         };
     }
-    if gate != salt {
-        return Standing::InUse;
+    if len < LOG_LEN {
+        Standing::Emptied
+    } else {
+        Standing::InUse
     }
-    let room = len - LOG_LEN;
-    let size = get_be32(front, 8) as usize;
-    if room < size {
-        return Standing::LogLost;
-    }
-    Standing::InUse
-}
-
-/// How the log stands beside a file that is in use under this number.
-fn look_beside<D: Disk>(log: &mut D, number: u32) -> io::Result<Standing>
-    requires { IsTrue (D.Disk.is_usable log.old) }
-    ensures ok { IfOk result (λ it. IsClean D.Disk log.new
-        → StandsBeside it number (D.Disk.seen log.old)) }
-    ensures same { OnlyReads D.Disk log.old log.new }
-{
-    let len = log.len()?;
-    if len < FRONT_LEN {
-        return Ok(Standing::LogLost);
-    }
-    let mut front = [0; FRONT_LEN];
-    log.read_at(0, &mut front)?;
-    Ok(standing_of(&front, len, number))
 }
 
 /// How a desk's two files stand, as far as the disk gave back what they hold. Nothing is written.
@@ -105,10 +127,27 @@ pub fn look<D: Disk>(files: &mut Files<D>) -> io::Result<Standing>
     }
     let mut field = [0; 4];
     files.db.read_at(USE, &mut field)?;
-    if field[0] == 0 {
+    let number = get_be32(&field, 0);
+    let size = files.log.len()?;
+    let front = front_of(&mut files.log, size)?;
+    if field[0] != 0 {
+        return Ok(standing_of(&front, size, number));
+    }
+    if number == 0 {
         return Ok(Standing::Free);
     }
-    look_beside(&mut files.log, get_be32(&field, 0))
+    if has_frame(&front, size) {
+        return Ok(Standing::StrangeLog);
+    }
+    Ok(Standing::Free)
+}
+
+/// How many uses a number of four bytes counts.
+fn count_in(field: &[u8; 4]) -> u32
+    ensures count { result ≡ be32 field.now 0 % 2 ^ 24 }
+    ensures bytes { (i : ℕ) → slice_index field.now i < 256 }
+{
+    get_be32(field, 0) % 0x100_0000
 }
 
 /// How many uses of the file were begun, as its number has it.
@@ -121,36 +160,13 @@ pub fn uses_of<D: Disk>(db: &mut D) -> io::Result<u32>
     ensures ok { IfOk result (λ it. IsClean D.Disk db.new → 64 ≤ length (D.Disk.seen db.old)
         → it ≡ uses_of (D.Disk.seen db.old)) }
     ensures few { IfOk result (λ it. it < 0x100_0000) }
+    ensures bytes { IfOk result (λ it. IsClean D.Disk db.new → 64 ≤ length (D.Disk.seen db.old)
+        → CountsInBytes (D.Disk.seen db.old)) }
     ensures same { OnlyReads D.Disk db.old db.new }
 {
     let mut field = [0; 4];
     db.read_at(USE, &mut field)?;
-    Ok(get_be32(&field, 0) % 0x100_0000)
-}
-
-/// Whether the log beside a file that was in use, and is not, has a frame that counts. A file is
-/// taken out of use once it has everything, so such a log is another file's, or this file is older.
-///
-/// # Errors
-///
-/// Where a read fails.
-pub fn has_strange_log<D: Disk>(files: &mut Files<D>) -> io::Result<bool>
-    requires log { IsTrue (D.Disk.is_usable files.old.log) }
-    requires db { IsTrue (D.Disk.is_usable files.old.db) }
-    ensures log { OnlyReads D.Disk files.old.log files.new.log }
-    ensures db { OnlyReads D.Disk files.old.db files.new.db }
-{
-    if files.db.len()? < USE_END || uses_of(&mut files.db)? == 0 {
-        return Ok(false);
-    }
-    let len = files.log.len()?;
-    if len < LOG_LEN {
-        return Ok(false);
-    }
-    let mut front = [0; FRONT_LEN];
-    files.log.read_at(0, &mut front)?;
-    let has_frame = len - LOG_LEN >= get_be32(&front, 8) as usize && front[40] == front[16];
-    Ok(has_frame && is_signed(&header_of(&front)))
+    Ok(count_in(&field))
 }
 
 /// The size of the file's pages, as its header has it.
@@ -174,6 +190,8 @@ fn begin_log<D: Disk>(log: &mut D, page_size: u32, number: u32) -> io::Result<()
     requires number { 0x100_0000 ≤ number }
     ensures begun { OnOk result (IsLog number (D.Disk.seen log.new)) }
     ensures synced { OnOk result (Only (D.Disk.seen log.new) (D.Disk.may_leave log.new)) }
+    ensures left { IsClean D.Disk log.new → 56 ≤ length (D.Disk.seen log.old)
+        → IsErr result × (D.Disk.seen log.new ≡ D.Disk.seen log.old) }
 {
     if log.len()? >= LOG_LEN {
         return Err(io::ErrorKind::AlreadyExists.into());
@@ -186,29 +204,47 @@ fn begin_log<D: Disk>(log: &mut D, page_size: u32, number: u32) -> io::Result<()
     log.sync()
 }
 
-/// Writes the number of a use into the file, its first byte last.
+/// Writes one byte into the file, and syncs it.
+fn put_byte<D: Disk>(db: &mut D, at: usize, byte: u8) -> io::Result<()>
+    requires usable { IsTrue (D.Disk.is_usable db.old) }
+    requires low { at < 64 }
+    ensures usable { OnOk result (IsTrue (D.Disk.is_usable db.new)) }
+    ensures put { OnOk result (Holds (D.Disk.seen db.new) at (byte ∷ [])) }
+    ensures synced { OnOk result (Only (D.Disk.seen db.new) (D.Disk.may_leave db.new)) }
+    ensures others { Torn at 1 (D.Disk.seen db.old) (D.Disk.seen db.new) }
+    ensures clean { IsClean D.Disk db.new → IsClean D.Disk db.old }
+    ensures crash { Mixes D.Disk
+        → Follows (Mixed at (byte ∷ [])) (D.Disk.may_leave db.old) (D.Disk.may_leave db.new) }
+{
+    db.write_at(at, &[byte])?;
+    db.sync()
+}
+
+/// Writes the number of a use into the file, its first byte last, and each of the others alone, the
+/// highest first: so no cut of the power leaves a smaller count than before.
 fn write_mark<D: Disk>(db: &mut D, number: u32) -> io::Result<()>
     requires usable { IsTrue (D.Disk.is_usable db.old) }
     requires number { 0x100_0000 ≤ number }
     ensures marked { OnOk result (IsMarked (D.Disk.seen db.new)) }
     ensures number { OnOk result (number_of (D.Disk.seen db.new) ≡ number) }
     ensures synced { OnOk result (Only (D.Disk.seen db.new) (D.Disk.may_leave db.new)) }
+    ensures others { Torn 60 4 (D.Disk.seen db.old) (D.Disk.seen db.new) }
+    ensures clean { IsClean D.Disk db.new → IsClean D.Disk db.old }
     ensures crash { Mixes D.Disk → 64 ≤ length (D.Disk.seen db.old)
         → ¬ IsMarked (D.Disk.seen db.old)
         → (c : List ℕ) → D.Disk.may_leave db.new c
         → D.Disk.may_leave db.old c ⊎ ((¬ IsMarked c) ⊎ (IsMarked c × (number_of c ≡ number))) }
+    ensures grows { Mixes D.Disk → 64 ≤ length (D.Disk.seen db.old)
+        → CountsInBytes (D.Disk.seen db.old)
+        → uses_of (D.Disk.seen db.old) ≤ number % 2 ^ 24
+        → HasCounted D.Disk (uses_of (D.Disk.seen db.old)) db.old
+        → HasCounted D.Disk (uses_of (D.Disk.seen db.old)) db.new }
 {
-    let first = [(number / 0x100_0000) as u8];
-    let rest = [
-        (number / 0x1_0000 % 0x100) as u8,
-        (number / 0x100 % 0x100) as u8,
-        (number % 0x100) as u8,
-    ];
     db.sync()?;
-    db.write_at(USE + 1, &rest)?;
-    db.sync()?;
-    db.write_at(USE, &first)?;
-    db.sync()
+    put_byte(db, USE + 1, (number / 0x1_0000 % 0x100) as u8)?;
+    put_byte(db, USE + 2, (number / 0x100 % 0x100) as u8)?;
+    put_byte(db, USE + 3, (number % 0x100) as u8)?;
+    put_byte(db, USE, (number / 0x100_0000) as u8)
 }
 
 /// Begins a use of a file that is not in use and has everything: its log is begun, and then the
@@ -227,10 +263,17 @@ pub fn begin_use<D: Disk>(files: &mut Files<D>, number: u32) -> io::Result<()>
     ensures number { OnOk result (number_of (D.Disk.seen files.new.db) ≡ number) }
     ensures synced { OnOk result (Only (D.Disk.seen files.new.log) (D.Disk.may_leave files.new.log)
         × Only (D.Disk.seen files.new.db) (D.Disk.may_leave files.new.db)) }
+    ensures others { Torn 60 4 (D.Disk.seen files.old.db) (D.Disk.seen files.new.db) }
+    ensures clean { IsClean D.Disk files.new.db → IsClean D.Disk files.old.db }
     ensures crash { Mixes D.Disk → 64 ≤ length (D.Disk.seen files.old.db)
         → ¬ IsMarked (D.Disk.seen files.old.db)
         → (log db : List ℕ) → D.Disk.may_leave files.new.log log → D.Disk.may_leave files.new.db db
         → D.Disk.may_leave files.old.db db ⊎ IsBegun number log db }
+    ensures grows { Mixes D.Disk → 64 ≤ length (D.Disk.seen files.old.db)
+        → CountsInBytes (D.Disk.seen files.old.db)
+        → uses_of (D.Disk.seen files.old.db) ≤ number % 2 ^ 24
+        → HasCounted D.Disk (uses_of (D.Disk.seen files.old.db)) files.old.db
+        → HasCounted D.Disk (uses_of (D.Disk.seen files.old.db)) files.new.db }
 {
     let page_size = page_size_of(&mut files.db)?;
     begin_log(&mut files.log, page_size, number)?;
@@ -248,11 +291,9 @@ pub fn end_use<D: Disk>(db: &mut D) -> io::Result<()>
     ensures free { OnOk result (¬ IsMarked (D.Disk.seen db.new)) }
     ensures synced { OnOk result (Only (D.Disk.seen db.new) (D.Disk.may_leave db.new)) }
     ensures others { Torn 60 1 (D.Disk.seen db.old) (D.Disk.seen db.new) }
-    ensures crash { Mixes D.Disk → ((d : List ℕ) → D.Disk.may_leave db.old d → 64 ≤ length d)
-        → (c : List ℕ) → D.Disk.may_leave db.new c
-        → (d : List ℕ) × D.Disk.may_leave db.old d
-        × ((slice_index c 60 ≡ slice_index d 60) ⊎ (¬ IsMarked c)) }
+    ensures clean { IsClean D.Disk db.new → IsClean D.Disk db.old }
+    ensures crash { Mixes D.Disk
+        → Follows (Mixed 60 (0 ∷ [])) (D.Disk.may_leave db.old) (D.Disk.may_leave db.new) }
 {
-    db.write_at(USE, &[0])?;
-    db.sync()
+    put_byte(db, USE, 0)
 }

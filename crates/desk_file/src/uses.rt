@@ -1,18 +1,48 @@
 //! A desk's file, put into use and taken out of it.
 
-ghost use Rattle.std.specs.Prelude.{◌≡◌, ◌+◌, ◌%◌, ◌^◌, ◌<◌, ◌≤◌, IsTrue};
+ghost use Rattle.std.specs.Prelude.{◌≡◌, ◌+◌, ◌%◌, ◌^◌, ◌<◌, ◌≤◌, ℕ, Err, IfOk, IsTrue, List};
+ghost use Rattle.std.specs.Prelude.{OnOk, length};
+ghost use Rattle.sqlite.specs.Closing.{IsCopied};
+ghost use Rattle.sqlite_wal.specs.Reads.{AreClean, IsClean};
+ghost use Rattle.desk_file.specs.Marks.{AreApart, AreWhole, HasCounted, IsBetween, IsNextUse};
+ghost use Rattle.desk_file.specs.Marks.{Mixes, Tells, uses_of};
+ghost use Rattle.desk_file.specs.Uses.{IsPutAway, IsPutInUse};
 
-use crate::mark::{Standing, begin_use, end_use, has_strange_log, look, uses_of};
-use sqlite::{FileFrom, FileStore, Files, Start};
+use crate::mark::{Standing, begin_use, end_use, look, uses_of};
+use sqlite::{Connection, FileFrom, FileStore, Files, Start};
 use sqlite_disk::Disk;
-use sqlite_std_file::{OpenError, Unknown, open};
+use sqlite_std_file::{OpenError, open};
 use std::hash::{BuildHasher, RandomState};
 use std::io;
 use store::fault::OpenFault;
+use store::keeper::Keeper;
 use store::sql::SqlKeeper;
 
+/// Looks whether two files may be opened.
+fn judge<D: Disk>(files: &mut Files<D>) -> Result<(), OpenFault>
+    requires log { IsTrue (D.Disk.is_usable files.old.log) }
+    requires db { IsTrue (D.Disk.is_usable files.old.db) }
+    ensures ok { OnOk result (IsClean D.Disk files.new.log → IsClean D.Disk files.new.db
+        → AreWhole (D.Disk.seen files.old.log) (D.Disk.seen files.old.db)) }
+    ensures damaged { result ≡ Err OpenFault.Damaged → IsClean D.Disk files.new.log
+        → IsClean D.Disk files.new.db
+        → AreApart (D.Disk.seen files.old.log) (D.Disk.seen files.old.db) }
+{
+    let standing = match look(files) {
+        Ok(standing) => standing,
+        Err(_) => return Err(OpenFault::Device),
+    };
+    match standing {
+        Standing::Free => Ok(()),
+        Standing::InUse => Ok(()),
+        Standing::Emptied => Ok(()),
+        Standing::LogLost => Err(OpenFault::Damaged),
+        Standing::StrangeLog => Err(OpenFault::Damaged),
+    }
+}
+
 /// Looks whether a file may be opened: it is not in use and has everything, or the log of its use
-/// is beside it, as [`look`] and [`has_strange_log`] find it.
+/// is beside it, as [`look`] finds it. `S` stands for what the file and its log held.
 ///
 /// # Errors
 ///
@@ -21,20 +51,14 @@ use store::sql::SqlKeeper;
 ///   as it was; an empty log is made where there is none.
 /// - `Device` where the files can't be opened or read, or another program has them open.
 /// - `NoMemory` where memory runs out.
-pub fn check_use(rt: &HostRuntime, path: &str) -> Result<(), OpenFault> {
-    let mut files = match open(rt, path, Unknown) {
-        Ok(files) => files,
-        Err(OpenError::OutOfMemory) => return Err(OpenFault::NoMemory),
-        Err(_) => return Err(OpenFault::Device),
-    };
-    match look(&mut files) {
-        Ok(Standing::LogLost) => Err(OpenFault::Damaged),
-        Ok(Standing::InUse | Standing::Emptied) => Ok(()),
-        Ok(Standing::Free) => match has_strange_log(&mut files) {
-            Ok(false) => Ok(()),
-            Ok(true) => Err(OpenFault::Damaged),
-            Err(_) => Err(OpenFault::Device),
-        },
+pub fn check_use<S: Start>(rt: &HostRuntime, path: &str, start: S) -> Result<(), OpenFault>
+    ensures ok { OnOk result (Tells ⟦<FileFrom<S> as Disk>⟧ AreWhole S.Start.log S.Start.db) }
+    ensures damaged { result ≡ Err OpenFault.Damaged
+        → Tells ⟦<FileFrom<S> as Disk>⟧ AreApart S.Start.log S.Start.db }
+{
+    match open(rt, path, start) {
+        Ok(mut files) => judge(&mut files),
+        Err(OpenError::OutOfMemory) => Err(OpenFault::NoMemory),
         Err(_) => Err(OpenFault::Device),
     }
 }
@@ -54,6 +78,16 @@ fn number_after(uses: u32, drawn: u64) -> u32
 fn begin_next<D: Disk>(files: &mut Files<D>, drawn: u64) -> io::Result<u32>
     requires log { IsTrue (D.Disk.is_usable files.old.log) }
     requires db { IsTrue (D.Disk.is_usable files.old.db) }
+    ensures next { IfOk result (IsNextUse D.Disk files.old files.new) }
+    ensures clean { IsClean D.Disk files.new.db → IsClean D.Disk files.old.db }
+    ensures crash { Mixes D.Disk → 64 ≤ length (D.Disk.seen files.old.db)
+        → ((d : List ℕ) → D.Disk.may_leave files.old.db d → 64 ≤ length d)
+        → (log db : List ℕ) → D.Disk.may_leave files.new.log log
+        → D.Disk.may_leave files.new.db db → IsBetween D.Disk files.old log db }
+    ensures grows { Mixes D.Disk → IsClean D.Disk files.new.db
+        → 64 ≤ length (D.Disk.seen files.old.db)
+        → HasCounted D.Disk (uses_of (D.Disk.seen files.old.db)) files.old.db
+        → HasCounted D.Disk (uses_of (D.Disk.seen files.old.db)) files.new.db }
 {
     let uses = uses_of(&mut files.db)?;
     if uses >= 0xff_ffff {
@@ -62,6 +96,22 @@ fn begin_next<D: Disk>(files: &mut Files<D>, drawn: u64) -> io::Result<u32>
     end_use(&mut files.db)?;
     begin_use(files, number_after(uses, drawn))?;
     Ok(uses + 1)
+}
+
+/// Closes a connection, so that its file has all.
+pub fn close_whole<D: Disk + Drop>(conn: Connection<FileStore<D>>) -> Result<Files<D>, OpenFault>
+    ensures log { IfOk result (λ files. IsTrue (D.Disk.is_usable files.log)) }
+    ensures db { IfOk result (λ files. IsTrue (D.Disk.is_usable files.db)) }
+    ensures copied { IfOk result (λ files. AreClean D.Disk files.log files.db
+        → IsCopied conn files) }
+{
+    match conn.close_files() {
+        Ok(files) => Ok(files),
+        Err((_, store)) => {
+            drop(store.close());
+            Err(OpenFault::Device)
+        }
+    }
 }
 
 /// Closes the store of a desk, so that its file has all, and puts the file into its next use. It
@@ -74,31 +124,41 @@ fn begin_next<D: Disk>(files: &mut Files<D>, drawn: u64) -> io::Result<u32>
 pub fn put_in_use<S: Start>(
     rt: &HostRuntime,
     keeper: SqlKeeper<FileStore<FileFrom<S>>>,
-) -> Result<u32, OpenFault> {
+) -> Result<u32, OpenFault>
+    ensures { IfOk result (IsPutInUse ⟦<FileFrom<S> as Disk>⟧
+        ⟦<SqlKeeper<FileStore<FileFrom<S>>> as Keeper>⟧ keeper) }
+{
     let drawn = match RandomState::new(rt) {
         Ok(state) => state.hash_one(&0u8),
         Err(_) => return Err(OpenFault::Device),
     };
-    match keeper.into_connection().close_files() {
-        Ok(mut files) => match begin_next(&mut files, drawn) {
-            Ok(start) => Ok(start),
-            Err(_) => Err(OpenFault::Device),
-        },
-        Err((_, store)) => {
-            drop(store.close());
-            Err(OpenFault::Device)
-        }
+    let mut files = match close_whole(keeper.into_connection()) {
+        Ok(files) => files,
+        Err(fault) => return Err(fault),
+    };
+    match begin_next(&mut files, drawn) {
+        Ok(uses) => Ok(uses),
+        Err(_) => Err(OpenFault::Device),
     }
 }
 
 /// Closes the store of a desk that has served: what stands in the file's log is copied into the
-/// file itself, and then the file is taken out of use. Where the device refuses the first, the file
-/// stays in use, and its log has everything.
-pub fn put_away<S: Start>(keeper: SqlKeeper<FileStore<FileFrom<S>>>) {
-    match keeper.into_connection().close_files() {
-        Ok(mut files) => {
-            let _ = end_use(&mut files.db);
-        }
-        Err((_, store)) => drop(store.close()),
+/// file itself, and then the file is taken out of use.
+///
+/// # Errors
+///
+/// `Device` where the device refuses that: the file is in use, and its log has everything, or it
+/// has everything itself.
+pub fn put_away<S: Start>(keeper: SqlKeeper<FileStore<FileFrom<S>>>) -> Result<(), OpenFault>
+    ensures { OnOk result (IsPutAway ⟦<FileFrom<S> as Disk>⟧
+        ⟦<SqlKeeper<FileStore<FileFrom<S>>> as Keeper>⟧ keeper) }
+{
+    let mut files = match close_whole(keeper.into_connection()) {
+        Ok(files) => files,
+        Err(fault) => return Err(fault),
+    };
+    match end_use(&mut files.db) {
+        Ok(()) => Ok(()),
+        Err(_) => Err(OpenFault::Device),
     }
 }

@@ -1,5 +1,5 @@
 -- The page of a card.
-use Rattle.std.specs.Prelude.{◌≡◌, ℕ, List, ◌++◌, codes, flat_map, length, drop, get_or}
+use Rattle.std.specs.Prelude.{◌≡◌, ℕ, List, ◌++◌, codes, flat_map, drop, get_or}
 use Rattle.std.specs.Prelude.{Bool, true, false, Option, None, Some}
 use Rattle.rounds.specs.Tables.{Table}
 use Rattle.round_words.specs.Words.{round_name, round_words}
@@ -55,7 +55,7 @@ card_section around id round draft past =
 -- what stands before the round
 unfoldable pub front : Around → RoundId → Settings × Table → Draft → Past → List ℕ
 front around id round draft past =
-    top (codes "entry") (round_words id round.0.advance) around.desks.now (length around.mirror.now)
+    top (codes "entry") (round_words id round.0.advance) around
     ++ card_section around id round draft past
     ++ recent_section around
 

@@ -141,7 +141,7 @@ fn push_field_words(out: &mut Vec<u8>, fault: scorecard::CardFault) -> Result<()
         CardFault::NotATime => out.extend_from_slice(b"a time is like 1043, 10.43 or 1:02.33"),
         CardFault::BadSeconds => out.extend_from_slice(b"seconds are below 60"),
         CardFault::OutOfRange => out.extend_from_slice(b"a time is 0.01 to 166:39.99"),
-        CardFault::BadPenalty => out.extend_from_slice(b"a penalty is +2 or +4"),
+        CardFault::BadPenalty => out.extend_from_slice(b"penalties are +2, +4 to +18"),
         CardFault::NotAResult => out.extend_from_slice(b"a result is like 11/13 58:20"),
         CardFault::BadAttempted => out.extend_from_slice(b"2 to 99 cubes are attempted"),
         CardFault::MoreSolved { attempted } => push_pieces(

@@ -157,7 +157,7 @@ fn push_front(
         (round.entry.settings, round.entry.table.now) draft.entry past.entry) }
 {
     let title = title_of(*out.allocator(), id, round.settings.advance)?;
-    push_top(out, around.desks, around.mirror.len(), b"entry", &title)?;
+    push_top(out, around, b"entry", &title)?;
     push_card(out, around, id, round, draft, past)?;
     push_recent(out, around)?;
     Ok(())

@@ -1,5 +1,7 @@
 -- Desks that are asked one after the other.
 use Rattle.std.proofs.Common.{◌≡◌, ◌≢◌, ◌≤◌, ◌++◌, ◌∷◌, [], ℕ, List, Option, Some, Result}
+use Rattle.acceptor.specs.declared.entry.Entry.{Entry}
+use Rattle.std.proofs.Common.{None, suc}
 use Rattle.std.proofs.Common.{ap, ap₂, append_assoc, arith, get_or, inr, length, refl, subst, sym}
 use Rattle.std.proofs.Common.{◌∙◌}
 use Rattle.std.proofs.Common.{Ok, Err, inl}
@@ -11,7 +13,7 @@ use Rattle.standings.specs.declared.polled.Reply.TheVariants as reply
 use Rattle.wire.specs.declared.frame.Frame.{Frame}
 use Rattle.wire.specs.declared.frame.What.{What}
 use Rattle.std.specs.Prelude.{◌+◌, ◌-◌, OnOk, drop, take}
-use Rattle.std.proofs.lemmas.List.{take_all}
+use Rattle.std.proofs.lemmas.List.{length-map, take_all}
 use Rattle.std.specs.Borrow.{Bor}
 use Rattle.standings.specs.declared.polled.Polled.{Polled}
 use Rattle.std.specs.Io.KnownBytes.{Appends}
@@ -19,7 +21,10 @@ use Rattle.lines.specs.Bytes.{AppendsPart}
 use Rattle.lines.specs.declared.fault.RunFault.TheVariants as run
 use Rattle.standings.specs.Reports.{report}
 use Rattle.standings.specs.Standings.{status_of}
-use Rattle.errands.specs.Polling.{AsksFor, FailsReport, IsPolled, Outside, PollsAll, PollsMore}
+use Rattle.errands.specs.Comparing.{AsksLog, Compares, ComparesAll, ComparesMore, first_told}
+use Rattle.errands.specs.Comparing.{common_length, other_in, standing_desk, with_other}
+use Rattle.errands.specs.Polling.{AsksFor, FailsReport, IsPolled, IsPolledBy, Outside, PollsAll}
+use Rattle.errands.specs.Polling.{PollsMore}
 use Rattle.errands.specs.Polling.{Reports, Tries, foreign, others, place_at, reply_to, request_of}
 use Rattle.errands.specs.Watching.{FailsWatch, HasWatched, Watches}
 use Rattle.errands.specs.declared.fault.DeskFault.{DeskFault}
@@ -45,25 +50,26 @@ first_replies p question hall (desk ∷ desks) old new request answer said some 
 )
 
 -- they were asked once more, or not
-pub asked_again : (p : Place) (hall desk : ℕ) (desks : List ℕ) (a b c : Option (List Dialed))
-    (first said : Option Reply) → desks ≡ desk ∷ others desk
-    → Tries p asking.Standing hall desks a b first → first ≡ Some reply.NoAnswer
-    → Tries p asking.Id hall desks b c said → IsPolled p hall desk a c said
-asked_again p hall desk desks a b c first said is one none other = (
+pub asked_again : (p : Place) (question next : Question) (later : List Question) (hall desk : ℕ)
+    (desks : List ℕ) (a b c : Option (List Dialed)) (first said : Option Reply)
+    → desks ≡ desk ∷ others desk → Tries p question hall desks a b first
+    → first ≡ Some reply.NoAnswer → IsPolledBy p next later hall desk b c said
+    → IsPolledBy p question (next ∷ later) hall desk a c said
+asked_again p question next later hall desk desks a b c first said is one none other = (
   first,
   b,
-  subst (λ l. Tries p asking.Standing hall l a b first) is one,
-  inl (none, subst (λ l. Tries p asking.Id hall l b c said) is other),
+  subst (λ l. Tries p question hall l a b first) is one,
+  inl (none, other),
 )
 
-pub asked_once : (p : Place) (hall desk : ℕ) (desks : List ℕ) (a b : Option (List Dialed))
-    (first : Option Reply) → desks ≡ desk ∷ others desk
-    → Tries p asking.Standing hall desks a b first → first ≢ Some reply.NoAnswer
-    → IsPolled p hall desk a b first
-asked_once p hall desk desks a b first is one some = (
+pub asked_once : (p : Place) (question next : Question) (later : List Question) (hall desk : ℕ)
+    (desks : List ℕ) (a b : Option (List Dialed)) (first : Option Reply)
+    → desks ≡ desk ∷ others desk → Tries p question hall desks a b first
+    → first ≢ Some reply.NoAnswer → IsPolledBy p question (next ∷ later) hall desk a b first
+asked_once p question next later hall desk desks a b first is one some = (
   first,
   b,
-  subst (λ l. Tries p asking.Standing hall l a b first) is one,
+  subst (λ l. Tries p question hall l a b first) is one,
   inr (some, refl, refl),
 )
 
@@ -106,13 +112,93 @@ polls_more (Ok x) q desk other (first ∷ rest) before mid after one a b c some 
 polls_more (Err e) q desk other (first ∷ rest) before mid after one a b c some asks is
     more = tt
 
--- all were asked at
-pub polls_all : (q : Inquiry) (before polled : List Polled) (old new : Option (List Dialed))
-    → before ≡ [] → PollsMore q 1 q.addresses.now before polled old new
-    → PollsAll q polled old new
-polls_all q before polled old new none h =
-    let is : polled ≡ h.0 = h.1 ∙ ap (λ l. l ++ h.0) none in
-    subst (λ l. PollsAll q l old new) (sym is) (record { at = h.2; asked = h.3 })
+compares_next : (q : Inquiry) (position end : ℕ) (known told next : Option (List Entry))
+    (other : Option ℕ) (one : Polled) (rest before mid after : List Polled)
+    (a b c : Option (List Dialed)) → AsksLog q position one.address.now (standing_desk one.reply) a b told
+    → other ≡ other_in position end known told → mid ≡ before ++ with_other one other ∷ []
+    → next ≡ first_told known told → ComparesMore q position end next rest mid after b c
+    → ComparesMore q position end known (one ∷ rest) before after a c
+compares_next q position end known told next other one rest before mid after a b c asks is added
+    first more = (
+      with_other one other ∷ more.0,
+      (
+        told,
+        b,
+        more.0,
+        asks,
+        subst (λ k. Compares q position end k rest more.0 b c) first more.1,
+        ap (λ o. with_other one o ∷ more.0) is,
+      ),
+      more.2 ∙ ap (λ l. l ++ more.0) added
+          ∙ append_assoc before (with_other one other ∷ []) more.0,
+    )
+
+-- one more was compared
+pub compares_more : {A E : Type 0} (r : Result A E) (q : Inquiry) (position end : ℕ)
+    (known told next : Option (List Entry)) (other : Option ℕ) (default : Polled)
+    (polled before mid after : List Polled) (a b c : Option (List Dialed)) → 1 ≤ length polled
+    → AsksLog q position (get_or polled 0 default).address.now
+    (standing_desk (get_or polled 0 default).reply) a b told
+    → other ≡ other_in position end known told
+    → mid ≡ before ++ with_other (get_or polled 0 default) other ∷ []
+    → next ≡ first_told known told
+    → OnOk r (ComparesMore q position end next (take (length polled - 1) (drop 1 polled)) mid after
+    b c)
+    → OnOk r (ComparesMore q position end known polled before after a c)
+compares_more r q position end known told next other default [] before mid after a b c some asks is
+    added first more =
+    absurd (omega (arith, some))
+compares_more (Ok x) q position end known told next other default (one ∷ rest) before mid after a b
+    c some asks is added first more =
+    compares_next q position end known told next other one rest before mid after a b c asks is added
+    first
+    (subst (λ l. ComparesMore q position end next l mid after b c)
+    (take_all (length (one ∷ rest) - 1) rest (omega arith)) more)
+compares_more (Err e) q position end known told next other default (one ∷ rest) before mid after a b
+    c some asks is added first more = tt
+
+-- the last entries that all logs have were compared
+pub compares_all : (q : Inquiry) (polled before after : List Polled) (end from : ℕ)
+    (old new : Option (List Dialed)) → end ≡ common_length polled → from ≡ end - 400
+    → before ≡ [] → ComparesMore q from end None polled before after old new
+    → ComparesAll q polled after old new
+compares_all q polled before after end from old new shortest last none more =
+    let all : after ≡ more.0 = more.2 ∙ ap (λ l. l ++ more.0) none in
+    subst (λ l. ComparesAll q polled l old new) (sym all)
+    (subst (λ e. Compares q (e - 400) e None polled more.0 old new) shortest
+    (subst (λ f. Compares q f end None polled more.0 old new) last more.1))
+
+-- all were asked at, and their logs were compared
+pub polls_all : (q : Inquiry) (before told shown compared : List Polled)
+    (old mid new : Option (List Dialed)) → before ≡ []
+    → PollsMore q 1 q.addresses.now before told old mid → shown ≡ told
+    → ComparesAll q shown compared mid new → PollsAll q compared old new
+polls_all q before told shown compared old mid new none h is alike =
+    let here : told ≡ h.0 = h.1 ∙ ap (λ l. l ++ h.0) none in
+    record {
+      told = h.0;
+      mid = mid;
+      at = h.2;
+      asked = h.3;
+      compared = subst (λ l. ComparesAll q l compared mid new) (is ∙ here) alike;
+    }
+
+compares_length : (q : Inquiry) (position end : ℕ) (known : Option (List Entry))
+    (polled compared : List Polled) (old new : Option (List Dialed))
+    → Compares q position end known polled compared old new → length compared ≡ length polled
+compares_length q position end known [] compared old new h = ap length h.0
+compares_length q position end known (p ∷ polled) compared old new h =
+    ap length h.5
+    ∙ ap suc
+    (compares_length q position end (first_told known h.0) polled h.2 h.1 new h.4)
+
+-- they are as many as the addresses
+pub polls_few : (q : Inquiry) (compared : List Polled) (old new : Option (List Dialed))
+    → PollsAll q compared old new → length compared ≡ length q.addresses.now
+polls_few q compared old new h =
+    compares_length q _ _ None h.told compared h.mid new h.compared
+    ∙ sym (length-map h.told (λ (p : Polled). p.address.now)) ∙ ap length h.at
+    ∙ length-map q.addresses.now (λ (a : Bor (List ℕ)). a.now)
 
 -- the report was written
 pub reports : (form : Form) (q : Inquiry) (polled shown counted : List Polled)

@@ -7,7 +7,7 @@ use Rattle.std.specs.Io.KnownBytes.{Keeps, Appends}
 use Rattle.batch.specs.Dialing.{Adds, Dialed, Place, asked_so}
 use Rattle.batch.specs.declared.fault.BatchFault.{BatchFault}
 use Rattle.batch.specs.declared.fault.BatchFault.TheVariants as batch
-use Rattle.client.specs.Standings.{status_request}
+use Rattle.client.specs.Standings.{status_request, status_request_in_five}
 use Rattle.client.specs.declared.fault.ClientFault.TheVariants as client
 use Rattle.lines.specs.Bytes.{AppendsPart}
 use Rattle.standings.specs.Reports.{report}
@@ -22,6 +22,8 @@ use Rattle.wire.specs.declared.frame.What.TheVariants as what
 use Rattle.wire.specs.declared.values.ClientRefusal.TheVariants.{Foreign}
 use Rattle.wire.specs.declared.values.Version.TheVariants.{One}
 use Rattle.lines.specs.declared.fault.RunFault.TheVariants as run
+pub use Rattle.errands.specs.Comparing.{place_at}
+use Rattle.errands.specs.Comparing.{ComparesAll}
 use Rattle.errands.specs.declared.fault.DeskFault.{DeskFault}
 use Rattle.errands.specs.declared.fault.DeskFault.TheVariants as fault
 use Rattle.errands.specs.declared.polling.Inquiry.{Inquiry}
@@ -35,12 +37,14 @@ id_asked hall desk =
 
 -- the request that asks a desk
 abbrev pub request_of : Question → (hall desk : ℕ) → Frame
+request_of asking.Fully hall desk = status_request_in_five hall desk
 request_of asking.Standing hall desk = status_request hall desk
 request_of asking.Id hall desk = id_asked hall desk
 
 -- the desk of this number answered, and did not say how it stands: it is of an earlier program
 -- where it was not asked that
 abbrev pub other_reply : Question → ℕ → Reply
+other_reply asking.Fully desk = reply.NoAnswer
 other_reply asking.Standing desk = reply.NoAnswer
 other_reply asking.Id desk = reply.Earlier desk
 
@@ -76,20 +80,24 @@ Tries p question hall (desk ∷ desks) old new said =
     × (((answer ≡ foreign) × Tries p question hall desks mid new said)
     ⊎ ((answer ≢ foreign) × (mid ≡ new) × (said ≡ reply_to question desk answer)))
 
--- The desk of this number was asked how it stands, and then the others. Where there was no answer,
--- they were asked once more, as desks of earlier programs are.
+-- The desk of this number was asked so, and then the others. Where there was no answer, they were
+-- asked once more, in the next way.
+abbrev pub IsPolledBy : Place → Question → List Question → (hall desk : ℕ)
+    → (old new : Option (List Dialed)) → Option Reply → Type 0
+IsPolledBy p question [] hall desk old new said =
+    Tries p question hall (desk ∷ others desk) old new said
+IsPolledBy p question (next ∷ later) hall desk old new said =
+    (first : Option Reply) × (mid : Option (List Dialed))
+    × Tries p question hall (desk ∷ others desk) old mid first
+    × (((first ≡ Some reply.NoAnswer) × IsPolledBy p next later hall desk mid new said)
+    ⊎ ((first ≢ Some reply.NoAnswer) × (mid ≡ new) × (said ≡ first)))
+
+-- how it stands, and how another one differs; then as desks of earlier programs are asked: how it
+-- stands, and what became of an id
 abbrev pub IsPolled : Place → (hall desk : ℕ) → (old new : Option (List Dialed)) → Option Reply
     → Type 0
 IsPolled p hall desk old new said =
-    (first : Option Reply) × (mid : Option (List Dialed))
-    × Tries p asking.Standing hall (desk ∷ others desk) old mid first
-    × (((first ≡ Some reply.NoAnswer)
-    × Tries p asking.Id hall (desk ∷ others desk) mid new said)
-    ⊎ ((first ≢ Some reply.NoAnswer) × (mid ≡ new) × (said ≡ first)))
-
--- where a desk of an inquiry is asked, for how many seconds it is waited for, and under which key
-abbrev pub place_at : Inquiry → List ℕ → Place
-place_at q address = record { to = address; patience = q.patience; key = q.key }
+    IsPolledBy p asking.Fully (asking.Standing ∷ asking.Id ∷ []) hall desk old new said
 
 -- the desks were asked, one after the other, of which the first was asked for as the desk of this
 -- number, and each further one as the next
@@ -115,11 +123,14 @@ PollsMore q desk addresses before after old new =
     × (map (λ p. p.address.now) more ≡ map (λ a. a.now) addresses)
     × Polls q desk more old new
 
--- those of an inquiry were asked, the first as desk 1
+-- those of an inquiry were asked, the first as desk 1, and then their logs were compared
 pub record PollsAll (q : Inquiry) (polled : List Polled) (old new : Option (List Dialed)) : Type 0
   where
-    pub at : map (λ p. p.address.now) polled ≡ map (λ a. a.now) q.addresses.now
-    pub asked : Polls q 1 polled old new
+    pub told : List Polled
+    pub mid : Option (List Dialed)
+    pub at : map (λ p. p.address.now) told ≡ map (λ a. a.now) q.addresses.now
+    pub asked : Polls q 1 told old mid
+    pub compared : ComparesAll q told polled mid new
 
 -- what became of connections, and what was written, before a call and afterwards
 pub record Outside : Type 0 where

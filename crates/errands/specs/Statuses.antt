@@ -56,7 +56,7 @@ store_front _ = codes "no store "
 
 abbrev pub store_back : DeskFault → List ℕ
 store_back fault.StoreThere = codes " is there already: start without --new"
-store_back _ = codes ": --new makes one, once, before the day"
+store_back _ = codes ": lost? see HALL, 'A disk died'; --new makes one, once, before the day"
 
 -- what is told of a store that has to be there and is not, or has to be made and is there
 abbrev pub store_text : DeskFault → List ℕ → List ℕ

@@ -269,7 +269,7 @@ fn back_of(fault: DeskFault) -> &'static str
 {
     match fault {
         DeskFault::StoreThere => " is there already: start without --new",
-        _ => ": --new makes one, once, before the day",
+        _ => ": lost? see HALL, 'A disk died'; --new makes one, once, before the day",
     }
 }
 

@@ -3,6 +3,7 @@
 //! program, each with its line and its exit status.
 #![tactic(auto)]
 
+mod comparing;
 mod drawing;
 mod endings;
 mod entering;

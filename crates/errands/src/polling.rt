@@ -1,19 +1,22 @@
 //! How the desks of a hall stand, asked one after the other and printed.
 
-ghost use Rattle.std.specs.Prelude.{◌≡◌, ◌≢◌, ◌≤◌, ◌+◌, ◌∷◌, None, Some, false, length};
+ghost use Rattle.std.specs.Prelude.{◌≡◌, ◌≢◌, ◌≤◌, ◌+◌, ◌∷◌, [], None, Some, false, length};
 ghost use Rattle.std.specs.Prelude.{IfErr, IfOk, IsTrue, OnOk};
 ghost use Rattle.std.specs.List.{AllByRecursion};
 ghost use Rattle.batch.specs.Dialing.{place_of};
 ghost use Rattle.wire.specs.Ranges.{IsDesk, IsFrame};
-ghost use Rattle.errands.specs.Polling.{AsksFor, FailsReport, IsPolled, PollsAll, PollsMore};
+ghost use Rattle.errands.specs.Polling.{AsksFor, FailsReport, IsPolled, IsPolledBy, PollsAll};
+ghost use Rattle.errands.specs.Polling.{PollsMore};
 ghost use Rattle.errands.specs.Polling.{Reports, Tries, foreign, id_asked, other_reply};
 ghost use Rattle.errands.specs.Polling.{others, outside, reply_to, request_of};
 ghost use Rattle.errands.specs.Watching.{FailsWatch, HasWatched};
+ghost use Rattle.errands.specs.declared.polling.Question.TheVariants as asking;
 ghost use Rattle.standings.specs.declared.polled.Reply.TheVariants as reply;
 
+use crate::comparing::compare;
 use crate::fault::DeskFault;
 use batch::{BatchFault, Contact, Dial, ask_over};
-use client::{ClientFault, status_request};
+use client::{ClientFault, status_request, status_request_in_five};
 use lines::{RunFault, write_text};
 use standings::{Form, Polled, Reply, report, status_of};
 use std::alloc::{AllocError, Global};
@@ -38,7 +41,9 @@ pub struct Inquiry<'a> {
 /// What a desk is asked.
 #[derive(Clone, Copy, Debug, PartialEq, Eq)]
 enum Question {
-    /// How it stands, which desks of earlier programs are not asked.
+    /// How it stands, and how another one differs, in version 5 of the wire.
+    Fully,
+    /// How it stands, which desks of programs before version 3 are not asked.
     Standing,
     /// What became of an id, which each desk is asked.
     Id,
@@ -64,6 +69,7 @@ fn request_of(question: Question, hall: u32, desk: u8) -> Frame
     ensures spelled { IsDesk desk → IsFrame result }
 {
     match question {
+        Question::Fully => status_request_in_five(hall, desk),
         Question::Standing => status_request(hall, desk),
         Question::Id => id_request(hall, desk),
     }
@@ -102,7 +108,7 @@ fn other_reply(question: Question, desk: u8) -> Reply
     ensures { result ≡ other_reply question desk }
 {
     match question {
-        Question::Standing => Reply::NoAnswer,
+        Question::Fully | Question::Standing => Reply::NoAnswer,
         Question::Id => Reply::Earlier { desk },
     }
 }
@@ -161,9 +167,29 @@ fn is_unanswered(first: &Option<Reply>) -> bool
     matches!(first, Some(Reply::NoAnswer))
 }
 
-/// Asks at a place how the desk of a number stands, and, where it is another one, for the others.
-/// Where there is no answer, each desk is asked once more, as an earlier program can be. None:
-/// memory ran out.
+/// Asks at a place how the desk of a number stands, and, where it is another one, for the others, in
+/// version 3 of the wire. Where there is no answer, each desk is asked once more, as one of a program
+/// before that. None: memory ran out.
+fn ask_earlier<D: Dial>(
+    alloc: Global,
+    dial: &mut D,
+    hall: u32,
+    contact: Contact<'_>,
+    desk: u8,
+) -> Option<Reply>
+    requires { IsDesk desk }
+    ensures { IsPolledBy (place_of contact.entry) asking.Standing (asking.Id ∷ []) hall desk
+        (D.dialed dial.old) (D.dialed dial.new) result }
+{
+    let desks = tried(desk);
+    let first = ask_each(alloc, dial, Question::Standing, hall, contact, &desks);
+    if is_unanswered(&first) {
+        return ask_each(alloc, dial, Question::Id, hall, contact, &desks);
+    }
+    first
+}
+
+/// The same, in version 5 first.
 fn ask_at<D: Dial>(
     alloc: Global,
     dial: &mut D,
@@ -176,9 +202,9 @@ fn ask_at<D: Dial>(
         (D.dialed dial.old) (D.dialed dial.new) result }
 {
     let desks = tried(desk);
-    let first = ask_each(alloc, dial, Question::Standing, hall, contact, &desks);
+    let first = ask_each(alloc, dial, Question::Fully, hall, contact, &desks);
     if is_unanswered(&first) {
-        return ask_each(alloc, dial, Question::Id, hall, contact, &desks);
+        return ask_earlier(alloc, dial, hall, contact, desk);
     }
     first
 }
@@ -205,6 +231,7 @@ fn ask_for<'a, D: Dial>(
             asked: desk,
             address,
             reply,
+            other: None,
         }),
         None => Err(AllocError),
     }
@@ -233,27 +260,31 @@ fn ask_all<'a, D: Dial>(
     ask_all(alloc, dial, inquiry, desk + 1, rest, polled)
 }
 
-/// Asks all desks of an inquiry, the first address for desk 1.
+/// Asks all desks of an inquiry, the first address for desk 1, and compares their logs.
 fn polled_of<'a, D: Dial>(
     alloc: Global,
     dial: &mut D,
     inquiry: Inquiry<'a>,
 ) -> Result<Vec<Polled<'a>>, AllocError>
     requires { length inquiry.addresses.now ≤ 5 }
-    ensures { IfOk result (λ polled. PollsAll inquiry.entry polled.items
+    ensures all { IfOk result (λ polled. PollsAll inquiry.entry polled.items
         (D.dialed dial.old) (D.dialed dial.new)) }
+    ensures few { IfOk result (λ polled. length polled.items ≤ 5) }
 {
     let mut polled = Vec::new(alloc);
     ask_all(alloc, dial, inquiry, 1, inquiry.addresses, &mut polled)?;
-    Ok(polled)
+    let compared = compare(alloc, dial, inquiry, &polled)?;
+    Ok(compared)
 }
 
 /// Asks the desks of a hall how they stand, one after the other, and prints what each answered and
 /// what that means, in this form: [`report`]. Returns the exit status that [`status_of`] says.
 ///
 /// A desk that refuses as foreign is asked for under the other numbers, too: it may be another one
-/// of the hall. One that ends the connection without an answer is asked what became of id 1, which
-/// the programs before version 3 of the wire answer: so one of these is told apart.
+/// of the hall. One that ends the connection without an answer is asked in version 3 of the wire,
+/// and then what became of id 1, which the programs before that answer: so one of these is told
+/// apart. At last the desks that said how they stand are asked for the last entries that all have,
+/// at most 400, and each is told of that has another one.
 ///
 /// # Errors
 ///

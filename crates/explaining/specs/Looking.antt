@@ -136,6 +136,8 @@ IsOfAsking (fault.Refused refusal.Foreign) hall desk contact found =
     IsHeard desk (λ given. other_desk given hall desk) found
 IsOfAsking (fault.Refused refusal.NotThere) hall desk contact found =
     IsHeard desk length_in found
+IsOfAsking (fault.Refused refusal.HallDiffers) hall desk contact found =
+    found ≡ Some finding.Differs
 IsOfAsking _ hall desk contact found = found ≡ None
 
 abbrev pub IsLookedAt : About → DeskFault → Option Finding → Type 0

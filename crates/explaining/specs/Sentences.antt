@@ -69,6 +69,10 @@ this_is = codes "this is "
 unfoldable pub you_asked : List ℕ
 you_asked = codes ", you asked "
 
+unfoldable pub who_differs : List ℕ
+who_differs =
+    codes "enter nothing more; desk status says which one, and HALL, 'Two desks differ', what to do"
+
 -- this is desk 3 of hall 7, you asked desk 2 of hall 7, say
 abbrev pub other_text : OtherDesk → List ℕ
 other_text other = this_is ++ name_text other.met ++ you_asked ++ name_text other.asked
@@ -82,3 +86,4 @@ finding_text (finding.Address place what) = place.now ++ codes ": " ++ address_t
 finding_text (finding.Key what) = key_text what
 finding_text (finding.Other desk) = other_text desk
 finding_text (finding.Length count) = count_text count
+finding_text finding.Differs = who_differs

@@ -1,6 +1,6 @@
 //! What was met when it was looked again after a fault.
 
-use crate::sentences::{of_address, of_file, of_key, this_is, you_asked};
+use crate::sentences::{of_address, of_file, of_key, this_is, who_differs, you_asked};
 use std::fmt;
 
 /// What was met of a desk's file.
@@ -182,6 +182,8 @@ pub enum Finding<'a> {
     Length {
         count: CommandCount,
     },
+    /// A desk of the hall has another command than this one, or fewer than it had.
+    Differs,
 }
 
 impl fmt::Display for Finding<'_> {
@@ -205,6 +207,7 @@ impl fmt::Display for Finding<'_> {
             Finding::Key { what } => f.write_str(of_key(*what)),
             Finding::Other { desk } => desk.fmt(f),
             Finding::Length { count } => count.fmt(f),
+            Finding::Differs => f.write_str(who_differs()),
         }
     }
 }

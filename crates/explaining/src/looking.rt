@@ -104,6 +104,9 @@ fn of_asking<'a>(
         DeskFault::Refused {
             refusal: ClientRefusal::NotThere,
         } => of_desk(rt, hall, desk, contact, true),
+        DeskFault::Refused {
+            refusal: ClientRefusal::HallDiffers,
+        } => Some(Finding::Differs),
         _ => None,
     }
 }

@@ -1,7 +1,8 @@
 //! The sentence for each thing that may be met.
 
 ghost use Rattle.std.specs.Prelude.{◌≡◌};
-ghost use Rattle.explaining.specs.Sentences.{address_text, file_text, key_text, this_is, you_asked};
+ghost use Rattle.explaining.specs.Sentences.{address_text, file_text, key_text, this_is};
+ghost use Rattle.explaining.specs.Sentences.{who_differs, you_asked};
 
 use crate::findings::{AddressFinding, FileFinding, KeyFinding};
 
@@ -81,4 +82,12 @@ pub(crate) fn you_asked() -> &'static str
     ensures { result.now ≡ you_asked }
 {
     ", you asked "
+}
+
+/// What is said where a desk takes no command, since desks differ.
+#[tactic(auto, unfolding(crate::specs::Sentences::who_differs))]
+pub(crate) fn who_differs() -> &'static str
+    ensures { result.now ≡ who_differs }
+{
+    "enter nothing more; desk status says which one, and HALL, 'Two desks differ', what to do"
 }

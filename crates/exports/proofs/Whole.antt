@@ -15,7 +15,9 @@ use Rattle.wcif.specs.Files.{most_bytes}
 use Rattle.wcif_results.specs.Files.{ExportFails}
 use Rattle.wcif_results.specs.declared.exporting.ExportFault.{ExportFault}
 use Rattle.wcif_results.specs.declared.exporting.ExportFault.TheVariants as file
-use Rattle.exports.specs.Files.{FailsExport, IsFilledLine, IsUnfilled, MakesLine, TakesNone}
+use Rattle.exports.specs.Files.{FailsExport, IsFilledLine, IsUnfilled, MakesLine, StillRuns}
+use Rattle.exports.specs.Files.{TakesNone}
+use Rattle.wcif_results.specs.declared.note.Note.{Note}
 use Rattle.exports.specs.Logs.{IsMeetOf, IsNoMeet, LogFails, ReadsMeet, fault_of_read, is_whole}
 use Rattle.exports.specs.Logs.{opens_any}
 use Rattle.exports.specs.declared.fault.ExportsFault.{ExportsFault}
@@ -74,11 +76,12 @@ same_fault bytes given fault is h = subst (λ z. IsNoMeet z fault) (sym is) h
 
 -- the file
 
-pub makes : (had_file had : Option (List ℕ)) (bytes was line : List ℕ) (meet : History)
+pub makes : (running : Bool) (notes : List Note) (had_file had : Option (List ℕ))
+    (bytes was line : List ℕ) (meet : History)
     → IsFront had_file bytes → was ≡ bytes → ReadsMeet had meet
-    → IsFilledLine meet.accepted was line → MakesLine had_file had line
-makes had_file had bytes was line meet front same read made =
-    let here = subst (λ z. IsFilledLine meet.accepted z line) same made in
+    → IsFilledLine running meet.accepted was line notes → MakesLine running had_file had line notes
+makes running notes had_file had bytes was line meet front same read made =
+    let here = subst (λ z. IsFilledLine running meet.accepted z line notes) same made in
     (bytes, meet, all_of had_file bytes front here.2.1.short, read, here)
 
 takes_none : (f : ExportFault) (had_file log : Option (List ℕ)) (bytes : List ℕ) (meet : History)
@@ -102,15 +105,19 @@ takes_none file.NoMemory (Some all) log bytes meet front had opens h =
     (all, meet, refl, had, opens, tt)
 
 -- there is no line of the bytes that were read
-pub fails : (f : ExportsFault) (had_file had old : Option (List ℕ)) (bytes was : List ℕ)
+pub fails : (f : ExportsFault) (running : Bool) (had_file had old : Option (List ℕ))
+    (bytes was : List ℕ)
     (meet : History) → IsFront had_file bytes → was ≡ bytes → ReadsMeet had meet
-    → IsUnfilled meet.accepted was f → FailsExport f had_file had old old
-fails exports.ReadFile had_file had old bytes was meet front same read h = absurd h
-fails (exports.Log f) had_file had old bytes was meet front same read h = absurd h
-fails exports.NoRound had_file had old bytes was meet front same read h =
+    → IsUnfilled running meet.accepted was f → FailsExport f running had_file had old old
+fails exports.ReadFile running had_file had old bytes was meet front same read h = absurd h
+fails (exports.Log f) running had_file had old bytes was meet front same read h = absurd h
+fails exports.NoRound running had_file had old bytes was meet front same read h =
     ((meet, read, h), Keeps-refl old)
-fails (exports.File f) had_file had old bytes was meet front same read h =
+fails (exports.File f) running had_file had old bytes was meet front same read h =
     let fail = subst (λ z. ExportFails meet.accepted z f) same h.1 in
     (takes_none f had_file had bytes meet front read h.0 fail, Keeps-refl old)
-fails exports.Write had_file had old bytes was meet front same read h = absurd h
-fails exports.NoMemory had_file had old bytes was meet front same read h = Keeps-refl old
+fails (exports.Running notes) running had_file had old bytes was meet front same read h =
+    let here = subst (λ z. StillRuns running meet.accepted z notes.items) same h in
+    ((bytes, meet, all_of had_file bytes front here.1.1.short, read, here), Keeps-refl old)
+fails exports.Write running had_file had old bytes was meet front same read h = absurd h
+fails exports.NoMemory running had_file had old bytes was meet front same read h = Keeps-refl old

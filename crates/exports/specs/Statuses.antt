@@ -1,6 +1,7 @@
--- The status of each fault: 3 where the log or the file is invalid, or the one does not fit the
--- other, 4 where a device failed, 5 where memory ran out.
-use Rattle.std.specs.Prelude.{ℕ}
+-- The status of each fault: 1 where rounds still run, 3 where the log or the file is invalid, or
+-- the one does not fit the other, 4 where a device failed, 5 where memory ran out.
+use Rattle.std.specs.Prelude.{ℕ, ◌==◌, if◌then◌else◌, List, length}
+use Rattle.wcif_results.specs.declared.note.Note.{Note}
 use Rattle.wcif_results.specs.declared.exporting.ExportFault.TheVariants as file
 use Rattle.exports.specs.declared.fault.ExportsFault.{ExportsFault}
 use Rattle.exports.specs.declared.fault.ExportsFault.TheVariants as exports
@@ -15,6 +16,10 @@ log_status log.CutOff = 3
 log_status log.Read = 4
 log_status log.NoMemory = 5
 
+-- 1 where something is told of what was printed
+abbrev pub notes_status : List Note → ℕ
+notes_status ns = if length ns == 0 then 0 else 1
+
 abbrev pub export_status : ExportsFault → ℕ
 export_status exports.ReadFile = 4
 export_status (exports.Log f) = log_status f
@@ -24,6 +29,7 @@ export_status (exports.File (file.NotJson line column)) = 3
 export_status (exports.File file.TooDeep) = 3
 export_status (exports.File (file.Refused found)) = 3
 export_status (exports.File file.NoMemory) = 5
+export_status (exports.Running notes) = 1
 export_status exports.Write = 4
 export_status exports.NoMemory = 5
 

@@ -1,12 +1,14 @@
 //! Why nothing is printed of a log, and what is told of it.
 
 ghost use Rattle.std.specs.Prelude.{◌≡◌};
-ghost use Rattle.exports.specs.Statuses.{export_status, log_status, results_status};
+ghost use Rattle.std.specs.Io.KnownBytes.{Keeps};
+ghost use Rattle.exports.specs.Statuses.{export_status, log_status, notes_status};
+ghost use Rattle.exports.specs.Statuses.{results_status};
 
 use crate::logs::LogFault;
 use std::alloc::AllocError;
 use std::io::Write;
-use wcif_results::ExportFault;
+use wcif_results::{ExportFault, Note};
 
 /// Why a competition's file is not printed with the results of a log.
 #[derive(Drop)]
@@ -19,6 +21,8 @@ pub enum ExportsFault {
     NoRound,
     /// The file does not take the results.
     File(ExportFault),
+    /// Rounds still run: what is told of the file.
+    Running(Vec<Note>),
     /// A write failed.
     Write,
     /// Memory ran out.
@@ -84,6 +88,7 @@ fn export_status(fault: &ExportsFault) -> u8
     match fault {
         ExportsFault::Log(fault) => log_status(*fault),
         ExportsFault::File(ExportFault::NoMemory) | ExportsFault::NoMemory => 5,
+        ExportsFault::Running(_) => 1,
         ExportsFault::NoRound | ExportsFault::File(_) => 3,
         ExportsFault::ReadFile | ExportsFault::Write => 4,
     }
@@ -110,10 +115,26 @@ fn tell_file<F: Write>(faults: &mut F, fault: &ExportFault) {
     };
 }
 
+/// Writes what is told of a file that was printed with the results of a log, a line for each thing,
+/// and returns the status: 1 where something is told, else 0. Where a line cannot be written, the
+/// status alone says it.
+pub fn tell_notes<F: Write>(faults: &mut F, notes: &[Note]) -> u8
+    ensures status { result ≡ notes_status notes.now }
+    ensures quiet { result ≡ 0 → Keeps (F.contents faults.old) (F.contents faults.new) }
+{
+    if notes.is_empty() {
+        return 0;
+    }
+    for note in notes {
+        let _ = writeln!(faults, "{note}");
+    }
+    1
+}
+
 /// Writes why the file at this path is not printed with the results of a log, and returns the
-/// status: 3 where the log or the file is invalid or the one does not fit the other, 4 where a
-/// device failed, 5 where memory ran out. Where a line cannot be written, the status alone says
-/// what happened.
+/// status: 1 where rounds still run, 3 where the log or the file is invalid or the one does not fit
+/// the other, 4 where a device failed, 5 where memory ran out. Where a line cannot be written, the
+/// status alone says what happened.
 pub fn tell_export<F: Write>(faults: &mut F, path: &str, fault: &ExportsFault) -> u8
     ensures { result ≡ export_status fault.now }
 {
@@ -126,6 +147,9 @@ pub fn tell_export<F: Write>(faults: &mut F, path: &str, fault: &ExportsFault) -
             let _ = writeln!(faults, "the log opens no round");
         }
         ExportsFault::File(fault) => tell_file(faults, fault),
+        ExportsFault::Running(notes) => {
+            let _ = tell_notes(faults, notes);
+        }
         ExportsFault::Write => {
             let _ = writeln!(faults, "cannot write");
         }

@@ -1,39 +1,49 @@
 //! A competition's file printed with the results of a log.
 
-ghost use Rattle.std.specs.Prelude.{IfErr, IfOk, None, OnOk};
+ghost use Rattle.std.specs.Prelude.{IfErr, IfOk, None};
 ghost use Rattle.exports.specs.Files.{FailsExport, IsFilledLine, IsUnfilled, PrintsExport};
 
 use crate::fault::ExportsFault;
 use crate::imports::{ReadFault, read_bytes};
 use crate::logs::{opens_any, read_log};
-use commands::Meet;
 use lines::write_text;
 use std::alloc::Global;
 use std::fs::File;
 use std::io::{ErrorKind, Read, Write};
-use wcif_results::{ExportFault, export};
+use wcif_results::{ExportFault, Exported, NamedMeet, Note, any_runs, export};
 
-/// The file with the results of a meet, and a line feed.
-fn filled_line(alloc: Global, bytes: &[u8], meet: &Meet) -> Result<Vec<u8>, ExportsFault>
-    ensures ok { IfOk result (λ text. IsFilledLine meet.now.accepted bytes.now text.items) }
-    ensures err { IfErr result (IsUnfilled meet.now.accepted bytes.now) }
+/// The file with the results of a meet, and a line feed. Rounds that still run are in it only where
+/// `running` says so.
+fn filled_line(
+    alloc: Global,
+    bytes: &[u8],
+    meet: &NamedMeet,
+    running: bool,
+) -> Result<Exported, ExportsFault>
+    ensures ok { IfOk result (λ made. IsFilledLine running meet.now.accepted bytes.now
+        made.text.items made.notes.items) }
+    ensures err { IfErr result (IsUnfilled running meet.now.accepted bytes.now) }
 {
-    if !opens_any(meet) {
+    if !opens_any(meet.meet()) {
         return Err(ExportsFault::NoRound);
     }
-    match export(alloc, bytes, meet) {
-        Ok(mut text) => {
-            text.extend_from_slice(b"\n")?;
-            Ok(text)
-        }
-        Err(ExportFault::NoMemory) => Err(ExportsFault::NoMemory),
-        Err(fault) => Err(ExportsFault::File(fault)),
+    let Exported { text, notes } = match export(alloc, bytes, meet) {
+        Ok(made) => made,
+        Err(ExportFault::NoMemory) => return Err(ExportsFault::NoMemory),
+        Err(fault) => return Err(ExportsFault::File(fault)),
+    };
+    let runs = any_runs(&notes);
+    if runs && !running {
+        return Err(ExportsFault::Running(notes));
     }
+    let mut line = text;
+    line.extend_from_slice(b"\n")?;
+    Ok(Exported { text: line, notes })
 }
 
 /// Reads a competition's file in the WCA Competition Interchange Format and a desk's log, and
 /// prints the file with the results of each round that the log opens, and a line feed: all else of
-/// it stays as [`export`] says.
+/// it stays as [`export`] says. Returns what is to be told of it.
 ///
 /// # Errors
 ///
@@ -41,6 +51,7 @@ fn filled_line(alloc: Global, bytes: &[u8], meet: &Meet) -> Result<Vec<u8>, Expo
 /// - `Log` where the log is not read as a meet: [`read_log`] says when.
 /// - `NoRound` where the log opens no round.
 /// - `File` where the file does not take the meet's results: [`export`] says when.
+/// - `Running` where a round still runs, unless `running` says that this is right.
 /// - `Write` where a write fails: a front part of the text is written.
 /// - `NoMemory` where memory runs out.
 ///
@@ -48,13 +59,14 @@ fn filled_line(alloc: Global, bytes: &[u8], meet: &Meet) -> Result<Vec<u8>, Expo
 pub fn print_export<R: Read + Drop, L: Read, W: Write>(
     alloc: Global,
     file: R,
+    running: bool,
     log: &mut L,
     writer: &mut W,
-) -> Result<(), ExportsFault>
-    ensures ok { OnOk result (PrintsExport (R.remaining file) (L.remaining log.old)
-        (W.contents writer.old) (W.contents writer.new)) }
-    ensures err { IfErr result (λ f. FailsExport f (R.remaining file) (L.remaining log.old)
-        (W.contents writer.old) (W.contents writer.new)) }
+) -> Result<Vec<Note>, ExportsFault>
+    ensures ok { IfOk result (λ notes. PrintsExport running notes.items (R.remaining file)
+        (L.remaining log.old) (W.contents writer.old) (W.contents writer.new)) }
+    ensures err { IfErr result (λ f. FailsExport f running (R.remaining file)
+        (L.remaining log.old) (W.contents writer.old) (W.contents writer.new)) }
 {
     let bytes = match read_bytes(alloc, file) {
         Ok(bytes) => bytes,
@@ -65,9 +77,10 @@ pub fn print_export<R: Read + Drop, L: Read, W: Write>(
         Ok(meet) => meet,
         Err(fault) => return Err(ExportsFault::Log(fault)),
     };
-    let text = filled_line(alloc, &bytes, &meet)?;
+    let made = filled_line(alloc, &bytes, &meet, running)?;
+    let Exported { text, notes } = made;
     match write_text(writer, &text) {
-        Ok(()) => Ok(()),
+        Ok(()) => Ok(notes),
         Err(_) => Err(ExportsFault::Write),
     }
 }
@@ -81,16 +94,17 @@ pub fn print_export<R: Read + Drop, L: Read, W: Write>(
 pub fn print_filled<L: Read, W: Write>(
     rt: &HostRuntime,
     path: &str,
+    running: bool,
     log: &mut L,
     writer: &mut W,
-) -> Result<(), ExportsFault>
-    ensures ok { OnOk result (PrintsExport None (L.remaining log.old)
-        (W.contents writer.old) (W.contents writer.new)) }
-    ensures err { IfErr result (λ f. FailsExport f None (L.remaining log.old)
+) -> Result<Vec<Note>, ExportsFault>
+    ensures ok { IfOk result (λ notes. PrintsExport running notes.items None
+        (L.remaining log.old) (W.contents writer.old) (W.contents writer.new)) }
+    ensures err { IfErr result (λ f. FailsExport f running None (L.remaining log.old)
         (W.contents writer.old) (W.contents writer.new)) }
 {
     match File::open(rt, path) {
-        Ok(file) => print_export(rt.alloc(), file, log, writer),
+        Ok(file) => print_export(rt.alloc(), file, running, log, writer),
         Err(error) if error.kind() == ErrorKind::OutOfMemory => Err(ExportsFault::NoMemory),
         Err(_) => Err(ExportsFault::ReadFile),
     }

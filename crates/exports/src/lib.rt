@@ -8,7 +8,7 @@ pub mod imports;
 mod logs;
 mod results;
 
-pub use fault::{ExportsFault, ResultsFault, tell_export, tell_results};
+pub use fault::{ExportsFault, ResultsFault, tell_export, tell_notes, tell_results};
 pub use files::{print_export, print_filled};
 pub use logs::{LogFault, read_log};
 pub use results::print_results;

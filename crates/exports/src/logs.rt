@@ -13,6 +13,7 @@ use formats::Event;
 use lines::{LineReader, RunFault};
 use std::alloc::{AllocError, Global};
 use std::io::Read;
+use wcif_results::NamedMeet;
 
 /// Why a log is not read as a meet.
 #[derive(Clone, Copy, Debug, PartialEq, Eq)]
@@ -75,7 +76,7 @@ fn is_whole(bytes: &[u8]) -> bool
 }
 
 /// Applies the command of a line, whose number is its id.
-fn apply_line(meet: &mut Meet, number: u32, line: &[u8]) -> Result<(), LogFault>
+fn apply_line(meet: &mut NamedMeet, number: u32, line: &[u8]) -> Result<(), LogFault>
     ensures after { OnOk result (meet.new ≡ after meet.old number line.now) }
     ensures err { IfErr result (λ fault. fault ≡ log_fault.NoMemory) }
 {
@@ -84,7 +85,7 @@ fn apply_line(meet: &mut Meet, number: u32, line: &[u8]) -> Result<(), LogFault>
 }
 
 /// Applies the commands of all lines.
-fn apply_lines<R: Read>(alloc: Global, meet: &mut Meet, reader: &mut R) -> Result<(), LogFault>
+fn apply_lines<R: Read>(alloc: Global, meet: &mut NamedMeet, reader: &mut R) -> Result<(), LogFault>
     requires { meet.old ≡ nothing }
     ensures ok { OnOk result (AppliesAll meet.new (R.remaining reader.old)) }
     ensures err { IfErr result (AppliesNotAll (R.remaining reader.old)) }
@@ -101,11 +102,11 @@ fn apply_lines<R: Read>(alloc: Global, meet: &mut Meet, reader: &mut R) -> Resul
 }
 
 /// The meet of the lines of a log, each a command whose id is the line's number, from 1.
-fn lines_meet(alloc: Global, bytes: &[u8]) -> Result<Meet, LogFault>
+fn lines_meet(alloc: Global, bytes: &[u8]) -> Result<NamedMeet, LogFault>
     ensures ok { IfOk result (λ meet. IsMeetOf bytes.now meet) }
     ensures err { IfErr result (IsNoMeet bytes.now) }
 {
-    let mut meet = Meet::new(alloc)?;
+    let mut meet = NamedMeet::new(alloc)?;
     let mut rest = bytes;
     apply_lines(alloc, &mut meet, &mut rest)?;
     Ok(meet)
@@ -120,7 +121,7 @@ fn lines_meet(alloc: Global, bytes: &[u8]) -> Result<Meet, LogFault>
 /// - `CutOff` where its last line has no line feed, which `desk log` ends each line with.
 /// - `Read` where a read fails.
 /// - `NoMemory` where memory runs out.
-pub fn read_log<R: Read + Drop>(alloc: Global, reader: R) -> Result<Meet, LogFault>
+pub fn read_log<R: Read + Drop>(alloc: Global, reader: R) -> Result<NamedMeet, LogFault>
     ensures ok { IfOk result (ReadsMeet (R.remaining reader)) }
     ensures err { IfErr result (LogFails (R.remaining reader)) }
 {

@@ -6,18 +6,18 @@ ghost use Rattle.exports.specs.declared.fault.ResultsFault.TheVariants as fault;
 
 use crate::fault::ResultsFault;
 use crate::logs::read_log;
-use commands::Meet;
 use lines::write_text;
 use std::alloc::Global;
 use std::io::{Read, Write};
+use wcif_results::NamedMeet;
 use wcif_results::results_json::results_text;
 
 /// The JSON of the results of a meet, and a line feed.
-fn results_line(alloc: Global, meet: &Meet) -> Result<Vec<u8>, ResultsFault>
+fn results_line(alloc: Global, meet: &NamedMeet) -> Result<Vec<u8>, ResultsFault>
     ensures ok { IfOk result (λ line. IsJsonLine meet.now.accepted line.items) }
     ensures err { IfErr result (λ f. f ≡ fault.NoMemory) }
 {
-    let mut text = results_text(alloc, meet)?;
+    let mut text = results_text(alloc, meet.meet())?;
     text.extend_from_slice(b"\n")?;
     Ok(text)
 }

@@ -1,6 +1,6 @@
 -- What is delivered stands in records that fit under the hall's key.
 use Rattle.std.proofs.Common.{◌≡◌, refl, sym, ap, subst, ◌∙◌, ℕ, List, [], ◌∷◌, ◌++◌, Option, None}
-use Rattle.std.proofs.Common.{Some, append_assoc}
+use Rattle.std.proofs.Common.{Some, Bool, append_assoc}
 use Rattle.std.specs.Prelude.{IsTrue}
 use Rattle.std.proofs.lemmas.List.{append-nil}
 use Rattle.answers.specs.declared.desk.Desk.{Ghosts as DeskOf}
@@ -24,9 +24,11 @@ use Rattle.serving.specs.declared.request.Request.{Request}
 use Rattle.serving.specs.declared.request.Request.TheVariants.{Heard, Lagging, Learned, Entered}
 use Rattle.serving.specs.declared.request.Request.TheVariants.{Asked, Printed, Ticked, Stopped}
 use Rattle.serving.specs.declared.request.Request.TheVariants.{Inspected, Copied, Strange, Ignored}
-use Rattle.serving.specs.declared.request.Request.TheVariants.{Denied}
+use Rattle.serving.specs.declared.request.Request.TheVariants.{Denied, Withheld}
+use Rattle.serving.specs.Differing.{withheld, withheld_by}
 use Rattle.serving.specs.Permissions.{permitted}
 use Rattle.serving.specs.TurnLaw.{Began, Turn, begun_in, received}
+use Rattle.wire.specs.declared.standing.Difference.{Difference}
 use Rattle.wire.specs.declared.values.Version.{Version}
 use Rattle.guarded.specs.Guarding.{Guarding}
 use Rattle.guarded.specs.GuardTurns.{Follow, Place, with_talk, within}
@@ -44,13 +46,14 @@ no_sheets (Learned run) h = absurd cc
 no_sheets (Entered e) h = absurd cc
 no_sheets (Asked id) h = absurd cc
 no_sheets (Printed event round position style) h = absurd cc
-no_sheets Inspected h = absurd cc
+no_sheets (Inspected differs) h = absurd cc
 no_sheets (Copied position) h = absurd cc
 no_sheets Ticked h = absurd cc
 no_sheets Stopped h = absurd cc
 no_sheets Strange h = absurd cc
 no_sheets Ignored h = absurd cc
 no_sheets Denied h = absurd cc
+no_sheets Withheld h = absurd cc
 
 no_entries : (r : Request) → IsTrue (delivers (permitted permission.Entries r)) → ⊥
 no_entries (Heard m) h = absurd cc
@@ -59,13 +62,40 @@ no_entries (Learned run) h = absurd cc
 no_entries (Entered e) h = absurd cc
 no_entries (Asked id) h = absurd cc
 no_entries (Printed event round position style) h = absurd cc
-no_entries Inspected h = absurd cc
+no_entries (Inspected differs) h = absurd cc
 no_entries (Copied position) h = absurd cc
 no_entries Ticked h = absurd cc
 no_entries Stopped h = absurd cc
 no_entries Strange h = absurd cc
 no_entries Ignored h = absurd cc
 no_entries Denied h = absurd cc
+no_entries Withheld h = absurd cc
+
+-- whatever differs, what is delivered is delivered
+still_by : (d : Difference) (r : Request) → delivers (withheld_by d r) ≡ delivers r
+still_by d (Heard m) = refl
+still_by d (Lagging m) = refl
+still_by d (Learned run) = refl
+still_by d (Entered e) = refl
+still_by d (Asked id) = refl
+still_by d (Printed event round position style) = refl
+still_by d (Inspected other) = refl
+still_by d (Copied position) = refl
+still_by d Ticked = refl
+still_by d Stopped = refl
+still_by d Strange = refl
+still_by d Ignored = refl
+still_by d Denied = refl
+still_by d Withheld = refl
+
+delivers_still : (differs : Option Difference) (r : Request)
+    → delivers (withheld differs r) ≡ delivers r
+delivers_still None r = refl
+delivers_still (Some d) r = still_by d r
+
+pub delivers_alike : (differs : Option Difference) (r : Request)
+    → IsTrue (delivers (withheld differs r)) → IsTrue (delivers r)
+delivers_alike differs r h = subst (λ (b : Bool). IsTrue b) (delivers_still differs r) h
 
 -- ---- what is let in under the hall's key
 
@@ -153,8 +183,8 @@ delivers_under_hall d home wire locks server earlier later one a b is follow may
     let who_may : one.may ≡ permission_of who =
     turn.3 ∙ ap (λ (e : CalledOf). permission_of (caller_of e)) now.0 in
     let allowed =
-    subst (λ (q : Permission). IsTrue (delivers (permitted q (request home one.frame)))) who_may may
-    in
+    subst (λ (q : Permission). IsTrue (delivers (permitted q (request home one.frame)))) who_may
+    (delivers_alike one.differs (permitted one.may (request home one.frame)) may) in
     let admitted =
     subst (λ (o : Doors). Admits o server k.front handed who) k.doors_are
     (subst (λ (s : List ℕ). Admits c.doors s k.front handed who) k.server_is

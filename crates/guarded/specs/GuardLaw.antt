@@ -21,7 +21,7 @@ use Rattle.serving.specs.declared.request.Request.{Request}
 use Rattle.serving.specs.declared.request.Request.TheVariants.{Heard, Lagging, Learned, Entered}
 use Rattle.serving.specs.declared.request.Request.TheVariants.{Asked, Printed, Ticked, Stopped}
 use Rattle.serving.specs.declared.request.Request.TheVariants.{Inspected, Copied, Strange, Ignored}
-use Rattle.serving.specs.declared.request.Request.TheVariants.{Denied}
+use Rattle.serving.specs.declared.request.Request.TheVariants.{Denied, Withheld}
 use Rattle.serving.specs.TurnLaw.{AreServed, Began, Turn, begun_in, handed_out, received}
 use Rattle.store.specs.declared.home.Home.{Home}
 use Rattle.wire.specs.declared.values.Version.{Version}
@@ -97,13 +97,14 @@ delivers (Learned run) = true
 delivers (Entered e) = false
 delivers (Asked id) = false
 delivers (Printed event round position style) = false
-delivers Inspected = false
+delivers (Inspected differs) = false
 delivers (Copied position) = false
 delivers Ticked = false
 delivers Stopped = false
 delivers Strange = false
 delivers Ignored = false
 delivers Denied = false
+delivers Withheld = false
 
 -- What came is a client's preface, records whose tags fit under the hall's key, numbered from 0,
 -- and a rest; and in the bodies of these records stands this frame, after those before it.

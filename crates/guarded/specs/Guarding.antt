@@ -1,5 +1,5 @@
 -- A connection behind its door: what it has between two turns, and what each call does.
-use Rattle.std.specs.Prelude.{◌≡◌, ◌≢◌, ◌⊎◌, ℕ, ◌&&◌, not, Bool, true, false, List, []}
+use Rattle.std.specs.Prelude.{◌≡◌, ◌≢◌, ◌⊎◌, ℕ, ◌&&◌, not, Bool, true, false, List, [], ◌∷◌}
 use Rattle.std.specs.Prelude.{length, drop, Option, None, Some}
 use Rattle.answers.specs.declared.desk.Desk.{Ghosts as DeskOf}
 use Rattle.seal.specs.Records.{preface_of}
@@ -13,12 +13,15 @@ use Rattle.sealed.specs.declared.callers.Doors.{Doors}
 use Rattle.sealed.specs.declared.callers.Refusal.{Refusal}
 use Rattle.sealed.specs.declared.callers.Refusal.TheVariants.{Unsealed, NoMemory}
 use Rattle.sealed.specs.Sent.{KeepsSent}
+use Rattle.serving.specs.Differing.{first_frame}
 use Rattle.serving.specs.Kinds.{dear_next, message_next}
 use Rattle.serving.specs.declared.peers.Peers.{Ghosts as PeersOf}
 use Rattle.serving.specs.Turns.{Talk, new_talk}
 use Rattle.serving.specs.Turns as Turns
 use Rattle.store.specs.declared.home.Home.{Home}
+use Rattle.wire.specs.declared.frame.Frame.{Frame}
 use Rattle.wire.specs.declared.values.Version.{Version}
+use Rattle.wire.specs.declared.standing.Difference.{Difference}
 use Rattle.guarded.specs.Permitting.{permission_of}
 
 -- what a guarded connection has between two turns
@@ -62,6 +65,16 @@ pub record WantsRead (g : Guarding) : Type 0 where
   pub taken : g.output ≡ []
   pub hears : is_over g.called ≡ false
   pub served : Turns.WantsRead g.talk
+
+-- which record has begun to come, where the connection waits for the rest of it: all that came
+-- before is served, and all is sent
+abbrev pub begun_after : Option Frame → List ℕ → Option ℕ → Option ℕ
+begun_after None [] begun = begun
+begun_after None (b ∷ more) begun = None
+begun_after (Some f) output begun = None
+
+abbrev pub begun : Guarding → Option ℕ
+begun g = begun_after (first_frame g.talk.waiting) g.output (Calls.begun g.called)
 
 -- Nothing more comes of the connection: memory was refused, it ended, or nothing more is let in,
 -- and all that was let in is served.
@@ -164,15 +177,16 @@ moment node peers guard = record { node = node; peers = peers; guard = guard }
 abbrev pub within_at : {V U : Type 0} → Moment V U → Talk → Turns.Moment V U
 within_at m talk = Turns.moment m.node m.peers talk
 
--- a turn in which a frame is begun, as far as whoever calls may ask, or none is
-abbrev pub Advances : {V U : Type 0} → DeskOf V → PeersOf U → Bool → Moment V U → Moment V U
-    → Type 0
-Advances d p true a b =
+-- a turn in which a frame is begun, as far as whoever calls may ask, or none is, where another desk
+-- differs so or none does
+abbrev pub Advances : {V U : Type 0} → DeskOf V → PeersOf U → Option Difference → Bool
+    → Moment V U → Moment V U → Type 0
+Advances d p differs true a b =
     IsFree a.guard × (served : Talk)
-    × Turns.Advances d p (permission_of (caller_of a.guard.called)) true
+    × Turns.Advances d p (permission_of (caller_of a.guard.called)) differs true
     (within_at a a.guard.talk) (within_at b served)
     × Answers served a.guard b.guard
-Advances d p false a b = (b.node ≡ a.node) × (b.peers ≡ a.peers) × Rests a.guard b.guard
+Advances d p differs false a b = (b.node ≡ a.node) × (b.peers ≡ a.peers) × Rests a.guard b.guard
 
 -- ---- what is sent is taken
 

@@ -1,21 +1,25 @@
 //! A connection behind its door.
 
 ghost use Rattle.std.specs.Prelude.{◌≡◌, ◌≢◌, ◌≤◌, ◌↔◌, [], length, IfNone, IfOk, IfSome, IsTrue};
+ghost use Rattle.std.specs.Prelude.{None, Some};
 ghost use Rattle.std.specs.Bool.{OnFalse, OnTrue};
 ghost use Rattle.seal.specs.Records.{preface_of};
 ghost use Rattle.sealed.specs.Calls.{Sends, caller_of};
+ghost use Rattle.wire.specs.Ranges.{IsDifference, IsFrame};
+ghost use Rattle.serving.specs.Differing.{first_frame};
+ghost use Rattle.guarded.specs.Permitting.{permission_of};
 ghost use Rattle.serving.specs.Turns.{after_sent as after_taken};
 ghost use Rattle.guarded.specs.Guarding.{Advances, HearsDesk, IsDear, IsDone, IsFree, IsOver};
-ghost use Rattle.guarded.specs.Guarding.{Receives, WantsRead, after_sent, fresh_guard, greets};
-ghost use Rattle.guarded.specs.Guarding.{has_key, is_plain, moment};
+ghost use Rattle.guarded.specs.Guarding.{Receives, WantsRead, after_sent, begun, fresh_guard};
+ghost use Rattle.guarded.specs.Guarding.{greets, has_key, is_plain, moment};
 
 use crate::permitting::permission_of;
 use answers::Desk;
 use sealed::{Called, Caller, Doors, NoMemory, Refusal};
-use serving::{Connection, End, Peers};
+use serving::{Connection, End, Peers, Permission};
 use std::alloc::Global;
 use std::marker::Model;
-use wire::Version;
+use wire::{Difference, Frame, Version};
 
 /// Whether the desk sends its preface now: the client's is whole with this piece, and was not
 /// before it; or the stream is refused.
@@ -172,6 +176,18 @@ impl Guard {
             && self.talk.wants_read()
     }
 
+    /// The number of the record that has begun to come, where the connection waits for the rest of
+    /// it: all that came before is served, and all is sent. The client's preface counts as the
+    /// beginning of record 0.
+    pub fn begun(&self) -> Option<u64>
+        ensures { result ≡ begun self.now }
+    {
+        if self.talk.next().is_some() || self.wants_write() {
+            return None;
+        }
+        self.called.begun()
+    }
+
     /// Whether whoever calls has a key of the desk.
     pub fn has_key(&self) -> bool
         ensures { result ≡ has_key (caller_of self.now.called) }
@@ -191,6 +207,28 @@ impl Guard {
         ensures { IsTrue result ↔ HearsDesk self.now }
     {
         self.is_free() && self.talk.hears_desk()
+    }
+
+    /// The frame that is begun next, if a frame may be begun and one waits.
+    pub fn next(&self) -> Option<&Frame>
+        ensures some { IfSome result (λ f.
+            IsFree self.now × (first_frame self.now.talk.waiting ≡ Some f.now)) }
+        ensures spelled { IfSome result (λ f. IsFrame f.now) }
+        ensures none { IfNone result
+            (IsFree self.now → first_frame self.now.talk.waiting ≡ None) }
+    {
+        if self.is_free() {
+            self.talk.next()
+        } else {
+            None
+        }
+    }
+
+    /// What whoever calls may ask of the desk.
+    pub fn permission(&self) -> Permission
+        ensures { result ≡ permission_of (caller_of self.now.called) }
+    {
+        permission_of(self.called.caller())
     }
 
     /// Has the desk's preface sent. False: memory was refused.
@@ -229,19 +267,26 @@ impl Guard {
     }
 
     /// Serves the next frame, if one waits, the connection is open, and nothing is still to be
-    /// sent, and returns whether it did. It is served as far as whoever calls may ask. Call it
-    /// after each piece, and each time that all was sent, until it returns false.
-    pub fn advance<D: Desk, P: Peers>(&mut self, node: &mut D, peers: &mut P) -> bool
+    /// sent, and returns whether it did. It is served as far as whoever calls may ask, and no
+    /// command is taken where another desk `differs`. Call it after each piece, and each time that
+    /// all was sent, until it returns false.
+    pub fn advance<D: Desk, P: Peers>(
+        &mut self,
+        node: &mut D,
+        peers: &mut P,
+        differs: Option<Difference>,
+    ) -> bool
         requires home { D.home_of node.old ≡ self.old.talk.home }
-        ensures turn { Advances D.Desk P.Peers result
+        requires differs { IsDifference differs }
+        ensures turn { Advances D.Desk P.Peers differs result
             (moment node.old peers.old self.old) (moment node.new peers.new self.new) }
         ensures home { D.home_of node.new ≡ D.home_of node.old }
     {
         if !self.is_free() {
             return false;
         }
-        let may = permission_of(self.called.caller());
-        if !self.talk.advance(node, peers, may) {
+        let may = self.permission();
+        if !self.talk.advance(node, peers, may, differs) {
             return false;
         }
         match take_answer(&mut self.called, &mut self.talk) {

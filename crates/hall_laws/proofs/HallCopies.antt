@@ -16,6 +16,7 @@ use Rattle.learner.specs.declared.event.WorldEvent.{WorldEvent}
 use Rattle.serving.specs.Answering.{copied, entries_from}
 use Rattle.serving.specs.Asking.{request}
 use Rattle.serving.specs.Connection.{asked, serve_frame}
+use Rattle.serving.specs.Differing.{withheld}
 use Rattle.serving.specs.Nodes.{Fate, Goes, Starves, Breaks}
 use Rattle.serving.specs.Permissions.{reads}
 use Rattle.serving.specs.Serving.{answer, first_fate}
@@ -29,7 +30,7 @@ use Rattle.hall_laws.specs.Copying.{HallCopiesBeginItsLog, HallCopiesAgree}
 use Rattle.hall_laws.specs.HallRuns.{Hall, HallStep, Station, IsHallRun, IsWorld, AreHappenings}
 use Rattle.hall_laws.specs.HallRuns.{hall_after, hall_log, home_at, seen_of, HallLogsAgree}
 use Rattle.hall_laws.specs.Stops.{Happening, Follows, goes_on, real_run, group, CallsAreHappenings}
-use Rattle.hall_laws.proofs.Allowed.{reads_as_asked}
+use Rattle.hall_laws.proofs.Allowed.{reads_as_asked, copied_where}
 use Rattle.hall_laws.proofs.HallRuns.{hall_comes}
 use Rattle.hall_laws.proofs.HallSheets.{framed_is}
 use Rattle.hall_laws.proofs.Running.{inside}
@@ -64,7 +65,9 @@ hall_copies {K} k h ss at d copy is =
     (λ r.
     answer home (seen_of x.node) is.one.fates r
     ≡ Some (what.Entries copy.position copy.length copy.entries))
+    (ap (λ z. withheld is.one.differs z)
     (reads_as_asked is.one.may (request home is.one.frame) (ap reads is.asked) ∙ is.asked)
+    ∙ copied_where is.one.differs copy.position)
     (framed_is is.one.frame.version home
     (answer home (seen_of x.node) is.one.fates (asked home is.one))
     (what.Entries copy.position copy.length copy.entries) tt is.answered)))

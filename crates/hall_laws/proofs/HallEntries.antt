@@ -11,6 +11,8 @@ use Rattle.learner.specs.declared.event.DeskEvent.TheVariants.{Submit, Start, Ti
 use Rattle.replica.specs.declared.roles.fault.NodeFault.{NodeFault}
 use Rattle.serving.specs.Asking.{request, is_ours, ours, strange}
 use Rattle.serving.specs.Connection.{asked, Begun, serve_frame}
+use Rattle.serving.specs.Differing.{withheld}
+use Rattle.serving.specs.Permissions.{permitted}
 use Rattle.serving.specs.Making.{Call, calls_of}
 use Rattle.serving.specs.Nodes.{Fate}
 use Rattle.serving.specs.Serving.{Act, Called, Pushed, Answered, Service, reply_to, call, from_own}
@@ -22,13 +24,13 @@ use Rattle.serving.specs.declared.request.Request.{Request}
 use Rattle.serving.specs.declared.request.Request.TheVariants.{Heard, Lagging, Learned, Entered}
 use Rattle.serving.specs.declared.request.Request.TheVariants.{Asked, Printed, Ticked, Stopped}
 use Rattle.serving.specs.declared.request.Request.TheVariants.{Inspected, Copied, Strange, Ignored}
-use Rattle.serving.specs.declared.request.Request.TheVariants.{Denied}
+use Rattle.serving.specs.declared.request.Request.TheVariants.{Denied, Withheld}
 use Rattle.serving.specs.declared.request.Run.{Run}
 use Rattle.store.specs.declared.home.Home.{Home}
 use Rattle.wire.specs.declared.frame.What.{What}
 use Rattle.wire.specs.declared.frame.What.TheVariants as what
 use Rattle.hall_laws.specs.HallRuns.{IsTakenIn}
-use Rattle.hall_laws.proofs.Allowed.{entered_as_asked}
+use Rattle.hall_laws.proofs.Allowed.{entered_as_asked, entered_where}
 use Rattle.hall_laws.proofs.OwnMessages.{calls_both, no_calls, calls_of_pushes}
 
 -- what is taken in these calls is asked for
@@ -190,11 +192,12 @@ entered_only home x fates Ticked =
 entered_only home x fates (Asked id) = λ e none. absurd none
 entered_only home x fates (Printed event round position style) = λ e none. absurd none
 entered_only home x fates Stopped = λ e none. absurd none
-entered_only home x fates Inspected = λ e none. absurd none
+entered_only home x fates (Inspected differs) = λ e none. absurd none
 entered_only home x fates (Copied position) = λ e none. absurd none
 entered_only home x fates Strange = λ e none. absurd none
 entered_only home x fates Ignored = λ e none. absurd none
 entered_only home x fates Denied = λ e none. absurd none
+entered_only home x fates Withheld = λ e none. absurd none
 
 -- a frame that enters an entry is a Submit of it
 ours_enter : (from to : ℕ) (w : What) (e : Entry) → ours from to w ≡ Entered e → w ≡ what.Submit e
@@ -220,10 +223,11 @@ unfolding serve_frame
 frame_enters home x one acts rest e parts has =
     enters_by (is_ours home one.frame) one.frame.from one.frame.to one.frame.what e
     (entered_as_asked one.may (request home one.frame) e
+    (entered_where one.differs (permitted one.may (request home one.frame)) e
     (entered_only home x one.fates (asked home one) e
     (subst (λ z. IsTakenIn e (calls_of z)) (sym parts)
     (subst (λ z. IsTakenIn e z) (sym (calls_both acts rest))
-    (taken_front e (calls_of acts) (calls_of rest) has)))))
+    (taken_front e (calls_of acts) (calls_of rest) has))))))
 
 -- nothing is taken in a Tick, or in a front part of one
 pub tick_takes_none : (home : Home) (x : Seen) (one : Begun) (acts rest : List Act) (e : Entry)

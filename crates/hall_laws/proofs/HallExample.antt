@@ -1,8 +1,9 @@
 -- A small run of a hall.
-use Rattle.std.proofs.Common.{◌≡◌, ◌≢◌, refl, sym, ap, subst, ◌∙◌, ℕ, zero, suc, Bool, true}
-use Rattle.std.proofs.Common.{false, if◌then◌else◌, eqb, List, [], ◌∷◌, ◌++◌, None}
-use Rattle.std.proofs.Common.{Ok, Err, arith}
+use Rattle.std.proofs.Common.{◌≡◌, ◌≢◌, inl, inr, refl, sym, ap, subst, ◌∙◌, ℕ, zero, suc, Bool}
+use Rattle.std.proofs.Common.{true, false, if◌then◌else◌, eqb, List, [], ◌∷◌, ◌++◌, Some}
+use Rattle.std.proofs.Common.{None, Ok, Err, slice_get, arith, take as front}
 use Rattle.std.proofs.lemmas.Bool.{ne_eqb}
+use Rattle.std.specs.List.{AllByRecursion}
 use Rattle.acceptor.specs.declared.message.Message.{Message}
 use Rattle.answers.specs.Seen.{Seen}
 use Rattle.learner.specs.Desks.{first_desk}
@@ -16,7 +17,7 @@ use Rattle.replica.specs.Nodes.{NodeValue}
 use Rattle.replica.specs.Stores.{HoldsDesk}
 use Rattle.serving.specs.declared.permission.Permission.TheVariants.{All}
 use Rattle.serving.specs.Connection.{serve_frame, close_of, answer_bytes, Begun}
-use Rattle.serving.specs.Making.{outside_of, speaking}
+use Rattle.serving.specs.Making.{calls_of, outside_of, speaking}
 use Rattle.serving.specs.Serving.{Act, Called, call, settle_by, start_if_grown, take, tell}
 use Rattle.serving.specs.Serving.{answer_out}
 use Rattle.serving.specs.Telling.{run_of, entries_told}
@@ -29,10 +30,14 @@ use Rattle.wire.specs.Ranges.{IsFrame}
 use Rattle.wire.specs.Spelling.{spelling}
 use Rattle.wire.specs.declared.frame.Frame.{Frame}
 use Rattle.wire.specs.declared.values.Version.TheVariants.{Two}
+use Rattle.hall_laws.specs.Differing.{IsBrought, IsGiven, IsHeardIn, SmallRunComesInOrder}
+use Rattle.hall_laws.specs.Differing.{WereSentInOrder}
 use Rattle.hall_laws.specs.HallExample.{third_home, three_desks, tick_frame, says, said_frame}
 use Rattle.hall_laws.specs.HallExample.{first_of, begun_as, tick_acts, SmallRunIsARun}
-use Rattle.hall_laws.specs.HallRuns.{Station, Hall, HallEvent, TurnAt, TickedAt, seen_of, IsTick}
-use Rattle.hall_laws.specs.HallRuns.{AreDone, TurnWasSent, HallGoes, connections}
+use Rattle.hall_laws.specs.HallRuns.{Station, Hall, HallEvent, HallStep, IsHallRun, TurnAt}
+use Rattle.hall_laws.specs.HallRuns.{TickedAt}
+use Rattle.hall_laws.specs.HallRuns.{seen_of, IsTick, AreDone, TurnWasSent, HallGoes, acts_of}
+use Rattle.hall_laws.specs.HallRuns.{connections, desk_of}
 use Rattle.hall_laws.proofs.HallFrames.{came_whole, talk_with}
 use Rattle.hall_laws.proofs.HallTurns.{with_station, takes_turn, ticks_itself}
 
@@ -92,7 +97,7 @@ place_in k keeper talk = record {
 }
 
 abbrev as_begun : Frame → Begun
-as_begun f = record { frame = f; may = All; fates = [] }
+as_begun f = record { frame = f; may = All; differs = None; fates = [] }
 
 -- what the frame is answered
 abbrev answer_to : Home → Frame → List ℕ
@@ -235,29 +240,39 @@ said_is_frame = record {
   body = omega arith;
 }
 
-pub small_run_is_a_run : {K : Type 0} (k : Ghosts K) → SmallRunIsARun k
-small_run_is_a_run {K} k keeper own = (
-  record { event = one; after = hall_1 keeper }
-      ∷ record { event = two; after = hall_2 keeper }
-      ∷ record { event = three; after = hall_3 keeper }
-      ∷ record { event = four; after = hall_4 keeper }
-      ∷ record { event = five; after = hall_5 keeper }
-      ∷ [],
-  refl,
-  record {
-    first = λ d ours.
-        let is = own d ours in
-        record {
-          desks = ap (λ z. z.desks) is.0;
-          desk = ap (λ z. z.desk) is.0;
-          first = refl;
-          stored = is.1;
-          talks = λ j. ap (λ z. new_talk z Two) (sym is.0);
-        };
-    unsent = refl;
-    taken = (first_turn, (second_turn, (third_turn, (fourth_turn, (own_tick, tt)))));
-  },
-)
+-- its steps
+abbrev small_steps : {K : Type 0} → (ℕ → K) → List (HallStep K)
+small_steps keeper =
+    record {
+      event = TurnAt 1 (first_of (Came (spelling tick_frame))) [];
+      after = hall_1 keeper;
+    }
+    ∷ record { event = TurnAt 1 (first_of (begun_as tick_frame)) tick_acts; after = hall_2 keeper }
+    ∷ record {
+      event = TurnAt 2 (first_of (Came (spelling said_frame))) [];
+      after = hall_3 keeper;
+    }
+    ∷ record { event = TurnAt 2 (first_of (begun_as said_frame)) hear_acts; after = hall_4 keeper }
+    ∷ record { event = TickedAt 1 (as_begun tick_frame) tick_acts; after = hall_5 keeper }
+    ∷ []
+
+small_run_taken : {K : Type 0} (k : Ghosts K) (keeper : ℕ → K)
+    → ((d : ℕ) → IsDesk 3 d
+    → (k.home_of (keeper d) ≡ third_home d) × HoldsDesk k (keeper d) first_desk)
+    → IsHallRun k 3 (three_desks keeper) (small_steps keeper)
+small_run_taken {K} k keeper own = record {
+  first = λ d ours.
+      let is = own d ours in
+      record {
+        desks = ap (λ z. z.desks) is.0;
+        desk = ap (λ z. z.desk) is.0;
+        first = refl;
+        stored = is.1;
+        talks = λ j. ap (λ z. new_talk z Two) (sym is.0);
+      };
+  unsent = refl;
+  taken = (first_turn, (second_turn, (third_turn, (fourth_turn, (own_tick, tt)))));
+}
   where
     one : HallEvent
     one = TurnAt 1 (first_of (Came (spelling tick_frame))) []
@@ -375,3 +390,71 @@ small_run_is_a_run {K} k keeper own = (
         (λ z. (serve_frame z first_seen (as_begun tick_frame)).acts ≡ tick_acts ++ [])
         (sym (own 1 one_of_three).0) (sym ticks_so))
         (record { calls = (first_node (keeper 1), handles_1, refl); pushes = tt })
+
+pub small_run_is_a_run : {K : Type 0} (k : Ghosts K) → SmallRunIsARun k
+small_run_is_a_run k keeper own = (small_steps keeper, refl, small_run_taken k keeper own)
+
+-- ---- a connection in order
+
+same_message : (m x : Message) → Deliver m ≡ Deliver x → m ≡ x
+same_message m x is = cc
+
+-- what the frame brings is that one message
+given_says : (m : Message) → IsGiven m (Deliver (says 2) ∷ []) → says 2 ≡ m
+given_says m (inl is) = same_message (says 2) m is
+given_says m (inr none) = absurd none
+
+-- what is heard in a step at desk 2
+abbrev HearsSays : {K : Type 0} → Message → HallStep K → Type 0
+HearsSays m s =
+    desk_of s.event ≡ 2 → IsHeardIn m (calls_of (acts_of s.event)) → says 2 ≡ m
+
+each_step : {K : Type 0} (m : Message) (ss : List (HallStep K))
+    → AllByRecursion (λ (s : HallStep K). HearsSays m s) ss → (at : ℕ) (step : HallStep K)
+    → slice_get ss at ≡ Some step → HearsSays m step
+each_step m [] h at step is = absurd cc
+each_step {K} m (s ∷ ss) h zero step is =
+    let same : s ≡ step = cc in subst (λ (t : HallStep K). HearsSays m t) same h.0
+each_step m (s ∷ ss) h (suc at) step is = each_step m ss h.1 at step is
+
+heard_says : {K : Type 0} (keeper : ℕ → K) (m : Message)
+    → AllByRecursion (λ (s : HallStep K). HearsSays m s) (front 4 (small_steps keeper))
+heard_says keeper m = (other, (other, ((λ here none. absurd none), (heard, tt))))
+  where
+    other : {A : Type 0} → ◌≡◌ {A = ℕ} 1 2 → A → says 2 ≡ m
+    other one_is_two heard = absurd (omega arith)
+
+    heard : {A : Type 0} → A → IsHeardIn m (calls_of hear_acts) → says 2 ≡ m
+    heard here (inl is) = same_message (says 2) m is.0
+    heard here (inr none) = absurd none
+
+pub small_run_comes_in_order : {K : Type 0} (k : Ghosts K) → SmallRunComesInOrder k
+small_run_comes_in_order {K} k keeper own = (
+  small_steps keeper,
+  refl,
+  small_run_taken k keeper own,
+  record {
+    spelled = (said_is_frame, tt);
+    sent = ((1, refl, refl), tt);
+    after_frames = λ m x same one given. order m x (one_says m one) (given_says x given);
+    after_heard = λ m x same was given.
+        order m x
+        (each_step m (front 4 (small_steps keeper)) (heard_says keeper m) was.at was.step was.here
+        was.desk was.heard)
+        (given_says x given);
+  },
+)
+  where
+    one_says : (m : Message) → IsBrought (third_home 2) m (said_frame ∷ []) → says 2 ≡ m
+    one_says m (inl given) = given_says m given
+    one_says m (inr none) = absurd none
+
+    order : (m x : Message) → says 2 ≡ m → says 2 ≡ x
+        → WereSentInOrder (hall_5 keeper).sent m x
+    order m x first second = record {
+      first = 1;
+      second = 3;
+      order = omega arith;
+      one_sent = ap (λ (y : Message). Some y) first;
+      other_sent = ap (λ (y : Message). Some y) second;
+    }

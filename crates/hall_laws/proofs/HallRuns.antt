@@ -138,11 +138,11 @@ hall_messages_are_named k law n h ss at step is here =
 -- ---- moments
 
 -- these, and so many more
-past : List Happening → ℕ → ℕ
+pub past : List Happening → ℕ → ℕ
 past [] m = m
 past (x ∷ xs) m = suc (past xs m)
 
-take_past : (xs ys : List Happening) (m : ℕ) → take (past xs m) (xs ++ ys) ≡ xs ++ take m ys
+pub take_past : (xs ys : List Happening) (m : ℕ) → take (past xs m) (xs ++ ys) ≡ xs ++ take m ys
 unfolding past
 take_past [] ys m = refl
 take_past (x ∷ xs) ys m = ap (λ (zs : List Happening). x ∷ zs) (take_past xs ys m)
@@ -199,7 +199,7 @@ steps_taken k n h (s ∷ ss) zero is = tt
 steps_taken k n h (s ∷ ss) (suc i) is = (is.0, steps_taken k n s.after ss i is.1)
 
 -- what stands among the first of these happenings stands among them all
-got_submit : (e : Entry) (j m at : ℕ) (hs : List Happening)
+pub got_submit : (e : Entry) (j m at : ℕ) (hs : List Happening)
     → slice_get (take m hs) at ≡ Some (Answered (SubmitAt j e)) → HasSubmit e hs
 got_submit e j zero at [] is = absurd (let none : None ≡ Some (Answered (SubmitAt j e)) = is in cc)
 got_submit e j zero at (x ∷ hs) is =

@@ -11,6 +11,7 @@ use Rattle.serving.specs.Permissions.{reads}
 use Rattle.std.specs.Io.KnownBytes.{Appends}
 use Rattle.replica.specs.Handles.{Handles}
 use Rattle.serving.specs.Connection.{asked, Begun, Sides, answer_bytes, answer_frame}
+use Rattle.serving.specs.Differing.{withheld}
 use Rattle.serving.specs.Connection.{framed_answer, serve_frame}
 use Rattle.serving.specs.Making.{Way, speaking}
 use Rattle.serving.specs.Turns.{LeavesAt}
@@ -32,7 +33,7 @@ use Rattle.hall_laws.specs.HallRuns.{HallSheetsAreOfLogs}
 use Rattle.hall_laws.specs.HallRuns.{HallSheetsAgree, HallLogsAgree, HallAnswersWait, HallEvent}
 use Rattle.hall_laws.specs.HallRuns.{HallGoes, TakesTurn, connections}
 use Rattle.hall_laws.specs.Stops.{CallsAreHappenings}
-use Rattle.hall_laws.proofs.Allowed.{reads_as_asked}
+use Rattle.hall_laws.proofs.Allowed.{reads_as_asked, printed_where}
 use Rattle.hall_laws.proofs.HallRuns.{hall_comes}
 use Rattle.hall_laws.specs.Served.{SheetsAreOfTheLog}
 
@@ -77,10 +78,14 @@ hall_answers_wait {K} k law n h ss at d number one step is serves =
 -- every version tells it alike
 abbrev pub IsPlain : What → Type 0
 IsPlain (what.Told id s) = ⊥
+IsPlain (what.Refused r) = ⊥
+IsPlain (what.Standing s) = ⊥
 IsPlain _ = Unit {0}
 
 plain_said : (version : Version) (u w : What) → IsPlain w → said_in version u ≡ w → u ≡ w
 plain_said version (what.Told id s) w plain h = absurd (subst IsPlain (sym h) plain)
+plain_said version (what.Refused r) w plain h = absurd (subst IsPlain (sym h) plain)
+plain_said version (what.Standing s) w plain h = absurd (subst IsPlain (sym h) plain)
 plain_said version u w plain h = h
 
 pub framed_is : (version : Version) (home : Home) (o : Option What) (w : What) → IsPlain w
@@ -96,7 +101,9 @@ unfolding serve_frame
 hall_sheets {K} k law h ss at d sheet text is =
     law home (seen_of x.node) is.one.fates sheet.event sheet.round sheet.position sheet.style text
     (subst (λ r. answer home (seen_of x.node) is.one.fates r ≡ Some (what.SheetText text))
+    (ap (λ z. withheld is.one.differs z)
     (reads_as_asked is.one.may (request home is.one.frame) (ap reads is.asked) ∙ is.asked)
+    ∙ printed_where is.one.differs sheet.event sheet.round sheet.position sheet.style)
     (framed_is is.one.frame.version home
     (answer home (seen_of x.node) is.one.fates (asked home is.one)) (what.SheetText text)
     tt is.answered))

@@ -21,7 +21,7 @@ use Rattle.serving.specs.declared.request.Request.{Request}
 use Rattle.serving.specs.declared.request.Request.TheVariants.{Heard, Lagging, Learned, Entered}
 use Rattle.serving.specs.declared.request.Request.TheVariants.{Asked, Printed, Ticked, Stopped}
 use Rattle.serving.specs.declared.request.Request.TheVariants.{Inspected, Copied, Strange, Ignored}
-use Rattle.serving.specs.declared.request.Request.TheVariants.{Denied}
+use Rattle.serving.specs.declared.request.Request.TheVariants.{Denied, Withheld}
 use Rattle.store.specs.declared.home.Home.{Home}
 use Rattle.hall_laws.specs.HallGoing.{HasCall, StartsCome}
 use Rattle.hall_laws.specs.HallRuns.{IsTakenIn}
@@ -157,11 +157,12 @@ grown home x fates Ticked is =
 grown home x fates (Asked id) is = absurd (not_grown x x refl is)
 grown home x fates (Printed event round position style) is = absurd (not_grown x x refl is)
 grown home x fates Stopped is = absurd (not_grown x x refl is)
-grown home x fates Inspected is = absurd (not_grown x x refl is)
+grown home x fates (Inspected differs) is = absurd (not_grown x x refl is)
 grown home x fates (Copied position) is = absurd (not_grown x x refl is)
 grown home x fates Strange is = absurd (not_grown x x refl is)
 grown home x fates Ignored is = absurd (not_grown x x refl is)
 grown home x fates Denied is = absurd (not_grown x x refl is)
+grown home x fates Withheld is = absurd (not_grown x x refl is)
 
 entered : (home : Home) (x : Seen) (fates : List Fate) (e : Entry)
     → IsTakenIn e (calls_of (served home x fates (Entered e)).done)

@@ -32,6 +32,11 @@ pub mod HallServing
 pub mod HallDeciding
 pub mod HallCopies
 pub mod Contents
+pub mod Alike
+pub mod Heard
+pub mod Saying
+pub mod Lengths
+pub mod Ordered
 pub mod Memory
 pub mod MemoryServes
 pub mod HallSound

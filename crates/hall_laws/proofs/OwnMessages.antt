@@ -28,7 +28,7 @@ use Rattle.serving.specs.declared.request.Request.{Request}
 use Rattle.serving.specs.declared.request.Request.TheVariants.{Heard, Lagging, Learned, Entered}
 use Rattle.serving.specs.declared.request.Request.TheVariants.{Asked, Printed, Ticked, Stopped}
 use Rattle.serving.specs.declared.request.Request.TheVariants.{Inspected, Copied, Strange, Ignored}
-use Rattle.serving.specs.declared.request.Request.TheVariants.{Denied}
+use Rattle.serving.specs.declared.request.Request.TheVariants.{Denied, Withheld}
 use Rattle.serving.specs.declared.request.Run.{Run}
 use Rattle.hall_laws.specs.Arriving.{decided_each, delivers}
 use Rattle.hall_laws.specs.OwnMessages.{WereSentTo, OwnMessagesWereSent, sent_after}
@@ -348,11 +348,12 @@ keeps_served home x fates (Asked id) sent is = keeps_begun home.desk sent x fate
 keeps_served home x fates (Printed event round position style) sent is =
     keeps_begun home.desk sent x fates
 keeps_served home x fates Stopped sent is = keeps_begun home.desk sent x fates
-keeps_served home x fates Inspected sent is = keeps_begun home.desk sent x fates
+keeps_served home x fates (Inspected differs) sent is = keeps_begun home.desk sent x fates
 keeps_served home x fates (Copied position) sent is = keeps_begun home.desk sent x fates
 keeps_served home x fates Strange sent is = keeps_begun home.desk sent x fates
 keeps_served home x fates Ignored sent is = keeps_begun home.desk sent x fates
 keeps_served home x fates Denied sent is = keeps_begun home.desk sent x fates
+keeps_served home x fates Withheld sent is = keeps_begun home.desk sent x fates
 
 pub own_messages : OwnMessagesWereSent
 own_messages home x fates r sent is = (keeps_served home x fates r sent is).calls

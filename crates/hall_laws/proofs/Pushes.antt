@@ -18,7 +18,7 @@ use Rattle.serving.specs.declared.request.Request.{Request}
 use Rattle.serving.specs.declared.request.Request.TheVariants.{Heard, Lagging, Learned, Entered}
 use Rattle.serving.specs.declared.request.Request.TheVariants.{Asked, Printed, Ticked, Stopped}
 use Rattle.serving.specs.declared.request.Request.TheVariants.{Inspected, Copied, Strange, Ignored}
-use Rattle.serving.specs.declared.request.Request.TheVariants.{Denied}
+use Rattle.serving.specs.declared.request.Request.TheVariants.{Denied, Withheld}
 use Rattle.store.specs.declared.home.Home.{Home}
 use Rattle.hall_laws.specs.Arriving.{decided_each}
 use Rattle.hall_laws.specs.Pushing.{handed, pushed_messages, left_out, due, ArePushed, as_list}
@@ -75,8 +75,8 @@ messages_pushed home x fates (Printed event round position style) =
     are_pushed home (Printed event round position style) _ [] (begun_settled home x fates)
 messages_pushed home x fates Stopped =
     are_pushed home Stopped _ [] (begun_settled home x fates)
-messages_pushed home x fates Inspected =
-    are_pushed home Inspected _ [] (begun_settled home x fates)
+messages_pushed home x fates (Inspected differs) =
+    are_pushed home (Inspected differs) _ [] (begun_settled home x fates)
 messages_pushed home x fates (Copied position) =
     are_pushed home (Copied position) _ [] (begun_settled home x fates)
 messages_pushed home x fates Strange =
@@ -85,6 +85,8 @@ messages_pushed home x fates Ignored =
     are_pushed home Ignored _ [] (begun_settled home x fates)
 messages_pushed home x fates Denied =
     are_pushed home Denied _ [] (begun_settled home x fates)
+messages_pushed home x fates Withheld =
+    are_pushed home Withheld _ [] (begun_settled home x fates)
 
 -- ---- runs
 
@@ -126,11 +128,12 @@ runs_are_due home x fates Ticked =
 runs_are_due home x fates (Asked id) = refl
 runs_are_due home x fates (Printed event round position style) = refl
 runs_are_due home x fates Stopped = refl
-runs_are_due home x fates Inspected = refl
+runs_are_due home x fates (Inspected differs) = refl
 runs_are_due home x fates (Copied position) = refl
 runs_are_due home x fates Strange = refl
 runs_are_due home x fates Ignored = refl
 runs_are_due home x fates Denied = refl
+runs_are_due home x fates Withheld = refl
 
 -- ---- events
 
@@ -152,12 +155,14 @@ events_first home x fates (Asked id) = record { dropped = []; first = refl; whil
 events_first home x fates (Printed event round position style) =
     record { dropped = []; first = refl; while_up = λ up. refl }
 events_first home x fates Stopped = record { dropped = []; first = refl; while_up = λ up. refl }
-events_first home x fates Inspected = record { dropped = []; first = refl; while_up = λ up. refl }
+events_first home x fates (Inspected differs) =
+    record { dropped = []; first = refl; while_up = λ up. refl }
 events_first home x fates (Copied position) =
     record { dropped = []; first = refl; while_up = λ up. refl }
 events_first home x fates Strange = record { dropped = []; first = refl; while_up = λ up. refl }
 events_first home x fates Ignored = record { dropped = []; first = refl; while_up = λ up. refl }
 events_first home x fates Denied = record { dropped = []; first = refl; while_up = λ up. refl }
+events_first home x fates Withheld = record { dropped = []; first = refl; while_up = λ up. refl }
 
 none_asked : (from to pos : ℕ) (es : List Entry) → decided_each from to pos es ≡ [] → es ≡ []
 none_asked from to pos [] h = refl
@@ -173,8 +178,9 @@ others_do_nothing home x fates Ticked none = absurd cc
 others_do_nothing home x fates (Asked id) none = refl
 others_do_nothing home x fates (Printed event round position style) none = refl
 others_do_nothing home x fates Stopped none = refl
-others_do_nothing home x fates Inspected none = refl
+others_do_nothing home x fates (Inspected differs) none = refl
 others_do_nothing home x fates (Copied position) none = refl
 others_do_nothing home x fates Strange none = refl
 others_do_nothing home x fates Ignored none = refl
 others_do_nothing home x fates Denied none = refl
+others_do_nothing home x fates Withheld none = refl

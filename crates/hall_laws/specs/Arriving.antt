@@ -17,7 +17,7 @@ use Rattle.serving.specs.declared.request.Request.{Request}
 use Rattle.serving.specs.declared.request.Request.TheVariants.{Heard, Lagging, Learned, Entered}
 use Rattle.serving.specs.declared.request.Request.TheVariants.{Asked, Printed, Ticked, Stopped}
 use Rattle.serving.specs.declared.request.Request.TheVariants.{Inspected, Copied, Strange, Ignored}
-use Rattle.serving.specs.declared.request.Request.TheVariants.{Denied}
+use Rattle.serving.specs.declared.request.Request.TheVariants.{Denied, Withheld}
 use Rattle.serving.specs.declared.request.Run.{Run}
 
 -- a Decided for each of the entries, the first one at a position and the others after it
@@ -35,11 +35,12 @@ delivers (Asked id) = []
 delivers (Printed event round position style) = []
 delivers Ticked = []
 delivers Stopped = []
-delivers Inspected = []
+delivers (Inspected differs) = []
 delivers (Copied position) = []
 delivers Strange = []
 delivers Ignored = []
 delivers Denied = []
+delivers Withheld = []
 
 -- Bytes that a desk was pushed, and those that came after them on the connection: the stream begins
 -- with this one frame, the later bytes are left, and the frame delivers these messages.

@@ -59,7 +59,7 @@ abbrev pub first_of : Turn → TurnOf
 first_of turn = record { number = 0; turn = turn }
 
 abbrev pub begun_as : Frame → Turn
-begun_as f = Began (record { frame = f; may = All; fates = [] })
+begun_as f = Began (record { frame = f; may = All; differs = None; fates = [] })
 
 -- what desk 1 does at a Tick
 abbrev pub tick_acts : List Act
@@ -75,7 +75,7 @@ small_run =
     ∷ TurnAt 1 (first_of (begun_as tick_frame)) tick_acts
     ∷ TurnAt 2 (first_of (Came (spelling said_frame))) []
     ∷ TurnAt 2 (first_of (begun_as said_frame)) (Called (Deliver (says 2)) (Ok []) ∷ [])
-    ∷ TickedAt 1 (record { frame = tick_frame; may = All; fates = [] }) tick_acts
+    ∷ TickedAt 1 (record { frame = tick_frame; may = All; differs = None; fates = [] }) tick_acts
     ∷ []
 
 -- these events are a run of three desks, whatever keeps their state

@@ -39,7 +39,7 @@ use Rattle.hall_laws.specs.Stops.{with_desk}
 
 -- a frame that is begun, each of whose calls is taken as the protocol has it
 abbrev pub as_it_goes : Frame → Begun
-as_it_goes f = record { frame = f; may = All; fates = [] }
+as_it_goes f = record { frame = f; may = All; differs = None; fates = [] }
 
 -- what a desk does for a request so: its calls and pushes, in order
 abbrev pub acts_for : {K : Type 0} → Ghosts K → Station K → Request → List Act

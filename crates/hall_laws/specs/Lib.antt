@@ -9,6 +9,7 @@ pub mod HallProgress
 pub mod HallGoing
 pub mod HallServing
 pub mod Copying
+pub mod Differing
 pub mod mirrors
 pub mod Memory
 pub mod Gathering

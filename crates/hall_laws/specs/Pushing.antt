@@ -19,7 +19,7 @@ use Rattle.serving.specs.declared.request.Request.{Request}
 use Rattle.serving.specs.declared.request.Request.TheVariants.{Heard, Lagging, Learned, Entered}
 use Rattle.serving.specs.declared.request.Request.TheVariants.{Asked, Printed, Ticked, Stopped}
 use Rattle.serving.specs.declared.request.Request.TheVariants.{Inspected, Copied, Strange, Ignored}
-use Rattle.serving.specs.declared.request.Request.TheVariants.{Denied}
+use Rattle.serving.specs.declared.request.Request.TheVariants.{Denied, Withheld}
 use Rattle.serving.specs.declared.request.Run.{Run}
 use Rattle.store.specs.declared.home.Home.{Home}
 
@@ -77,11 +77,12 @@ left_out (Asked id) = 0
 left_out (Printed event round position style) = 0
 left_out Ticked = 0
 left_out Stopped = 0
-left_out Inspected = 0
+left_out (Inspected differs) = 0
 left_out (Copied position) = 0
 left_out Strange = 0
 left_out Ignored = 0
 left_out Denied = 0
+left_out Withheld = 0
 
 -- what is to be pushed: all that the calls hand out for other desks, in order, but for what is left
 -- out
@@ -121,11 +122,12 @@ runs_due home (Asked id) acts = []
 runs_due home (Printed event round position style) acts = []
 runs_due home Ticked acts = []
 runs_due home Stopped acts = []
-runs_due home Inspected acts = []
+runs_due home (Inspected differs) acts = []
 runs_due home (Copied position) acts = []
 runs_due home Strange acts = []
 runs_due home Ignored acts = []
 runs_due home Denied acts = []
+runs_due home Withheld acts = []
 
 -- these runs are pushed, and no others; all else is pushed message by message
 abbrev pub RunsAreDue : Type 0
@@ -145,11 +147,12 @@ asks_for (Asked id) = []
 asks_for (Printed event round position style) = []
 asks_for Ticked = Tick ∷ []
 asks_for Stopped = []
-asks_for Inspected = []
+asks_for (Inspected differs) = []
 asks_for (Copied position) = []
 asks_for Strange = []
 asks_for Ignored = []
 asks_for Denied = []
+asks_for Withheld = []
 
 -- The first acts are calls with the events that the request asks for, one each, in order; where the
 -- desk goes down, the events that are left are dropped. So what is left out for a frame of several

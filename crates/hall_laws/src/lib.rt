@@ -4,6 +4,7 @@
 
 mod arriving;
 mod copying;
+mod differing;
 mod hall_going;
 mod hall_runs;
 mod hall_serving;
@@ -15,6 +16,7 @@ mod stops;
 
 pub use arriving::messages_arrive;
 pub use copying::copies_are_of_logs;
+pub use differing::{desks_never_differ, differences_are_heard};
 pub use hall::world::laws::headline;
 pub use hall_going::halls_go_on;
 pub use hall_runs::{halls_are_not_stuck, halls_are_runs};

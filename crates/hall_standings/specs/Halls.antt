@@ -1,13 +1,18 @@
 -- The desks of a hall, and what is told of them.
 use Rattle.std.specs.Prelude.{◌≡◌, ◌≢◌, ℕ, List, [], ◌∷◌, ◌++◌, length, if◌then◌else◌, nat_le}
-use Rattle.std.specs.Prelude.{Bool, true, false, flat_map, map, min, slice_get, String}
+use Rattle.std.specs.Prelude.{Bool, true, false, flat_map, map, min, slice_get, String, Option, None}
+use Rattle.std.specs.Prelude.{Some, ◌==◌}
 use Rattle.std.specs.Global.{Global}
 use Rattle.desk_talks.specs.Lines.{wait_of}
-use Rattle.surveying.specs.Surveys.{new_survey}
+use Rattle.surveying.specs.Surveys.{new_survey, speaks_five}
 use Rattle.surveying.specs.declared.survey.Contact.{Contact}
 use Rattle.surveying.specs.declared.survey.Contact.TheVariants as contact
 use Rattle.standings.specs.Reports.{json_line}
+use Rattle.standings.specs.Standings.{difference}
 use Rattle.standings.specs.declared.polled.Polled.{Polled}
+use Rattle.wire.specs.declared.standing.Difference.{Difference}
+use Rattle.wire.specs.declared.values.ClientRefusal.{ClientRefusal}
+use Rattle.wire.specs.declared.values.ClientRefusal.TheVariants as refusal
 use Rattle.hall_standings.specs.declared.asked.Asked.{Asked}
 use Rattle.hall_standings.specs.Told.{AreTold}
 
@@ -65,9 +70,39 @@ is_away asked = is_away_by asked.survey.contact
 abbrev pub away_one : Asked → List ℕ
 away_one asked = if is_away asked then asked.desk ∷ [] else []
 
--- the numbers of those desks, in their order
+abbrev pub says_other : ClientRefusal → Bool
+says_other refusal.Foreign = true
+says_other _ = false
+
+abbrev pub is_other_by : Contact → Bool
+is_other_by contact.NotAsked = false
+is_other_by contact.Answers = false
+is_other_by contact.Silent = false
+is_other_by (contact.Refuses why) = says_other why
+
+-- a desk says that it is of another hall
+abbrev pub is_other : Asked → Bool
+is_other asked = is_other_by asked.survey.contact
+
+-- the number of the first desk that says so
+abbrev pub first_other : List Asked → Option ℕ
+first_other [] = None
+first_other (asked ∷ others) = if is_other asked then Some asked.desk else first_other others
+
+-- the numbers of those that do not say how they stand, in their order
 abbrev pub away_in : HallDesksOf → List ℕ
 away_in h = flat_map away_one h.asked
+
+-- the desk of this number answers now in version 5 of the wire
+abbrev pub one_speaks_five : ℕ → List Asked → Bool
+one_speaks_five desk [] = false
+one_speaks_five desk (a ∷ asked) =
+    if a.desk == desk then speaks_five a.survey else one_speaks_five desk asked
+
+-- how a desk differs from others, by all that is told of the desks
+abbrev pub Differs : HallDesksOf → Option Difference → Type 0
+Differs h differs =
+    (told : List Polled) × AreTold h.asked told × (differs ≡ difference told)
 
 -- the JSON value of all that is told of the desks, on a line
 abbrev pub IsStatus : HallDesksOf → List ℕ → Type 0

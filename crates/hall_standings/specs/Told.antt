@@ -33,6 +33,7 @@ pub record IsTold (a : Asked) (told : Polled) : Type 0 where
   pub asked : told.asked ≡ a.desk
   pub address : told.address.now ≡ string_bytes a.address
   pub reply : told.reply ≡ reply_of a.desk a.survey
+  pub other : told.other ≡ None
 
 -- these are told of these desks, one of each, in order
 abbrev pub AreTold : List Asked → List Polled → Type 0

@@ -1,12 +1,15 @@
 //! One desk, and what is told of it.
 
 ghost use Rattle.std.specs.Prelude.{◌≡◌, ◌++◌, IfOk, OnOk, flat_map, length};
-ghost use Rattle.hall_standings.specs.Halls.{away_one, is_away, least_of, waits_of};
+ghost use Rattle.hall_standings.specs.Halls.{away_one, first_other, is_away, is_other, least_of};
+ghost use Rattle.hall_standings.specs.Halls.{one_speaks_five};
+ghost use Rattle.hall_standings.specs.Halls.{says_other, waits_of};
 ghost use Rattle.hall_standings.specs.Told.{AreTold, IsTold, reply_of, standing_of};
 
 use standings::{Polled, Reply};
 use std::alloc::{AllocError, Global};
 use surveying::{Contact, Survey};
+use wire::ClientRefusal;
 
 /// Milliseconds until there is something to be done, where no desk is asked.
 const LONGEST_WAIT: u64 = 1000;
@@ -53,6 +56,7 @@ fn told_of(asked: &Asked) -> Polled<'_>
         asked: asked.desk,
         address: &asked.address,
         reply: reply_of(asked.desk, &asked.survey),
+        other: None,
     }
 }
 
@@ -86,6 +90,59 @@ pub(crate) fn away_of(alloc: Global, asked: &[Asked]) -> Result<Vec<u8>, AllocEr
         push_away(&mut away, one)?;
     }
     Ok(away)
+}
+
+/// Whether the desk of this number answers now in version 5 of the wire.
+pub(crate) fn one_speaks_five(desk: u8, asked: &[Asked]) -> bool
+    ensures { result ≡ one_speaks_five desk asked.now }
+{
+    let [one, rest @ ..] = asked else {
+        return false;
+    };
+    if one.desk == desk {
+        return one.survey.speaks_five();
+    }
+    one_speaks_five(desk, rest)
+}
+
+/// Whether a desk that refuses so is of another hall.
+fn says_other(refusal: ClientRefusal) -> bool
+    ensures { result ≡ says_other refusal }
+{
+    match refusal {
+        ClientRefusal::Foreign => true,
+        ClientRefusal::NotAllowed
+        | ClientRefusal::Busy
+        | ClientRefusal::LogFull
+        | ClientRefusal::BallotsSpent
+        | ClientRefusal::NoMemory
+        | ClientRefusal::Down
+        | ClientRefusal::NotThere
+        | ClientRefusal::NoSuchRound
+        | ClientRefusal::HallDiffers => false,
+    }
+}
+
+/// Whether a desk says that it is of another hall.
+fn is_other(asked: &Asked) -> bool
+    ensures { result ≡ is_other asked.now }
+{
+    match asked.survey.contact() {
+        Contact::Refuses(refusal) => says_other(refusal),
+        Contact::NotAsked | Contact::Answers | Contact::Silent => false,
+    }
+}
+
+/// The number of the first desk that says so.
+pub(crate) fn first_other(asked: &[Asked]) -> Option<u8>
+    ensures { result ≡ first_other asked.now }
+{
+    for one in asked {
+        if is_other(one) {
+            return Some(one.desk);
+        }
+    }
+    None
 }
 
 /// In how many milliseconds the first of the surveys of these desks is due, if nothing comes, and

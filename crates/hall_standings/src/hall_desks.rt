@@ -2,17 +2,19 @@
 
 ghost use Rattle.std.specs.Prelude.{◌≡◌, IfOk, OnErr, OnOk, string_bytes};
 ghost use Rattle.hall_standings.specs.Halls.{IsKept, IsStatus, adds, away_in, desks_wait};
-ghost use Rattle.hall_standings.specs.Halls.{no_desks};
+ghost use Rattle.hall_standings.specs.Halls.{Differs, first_other as other_of, no_desks};
+ghost use Rattle.hall_standings.specs.Halls.{one_speaks_five};
 ghost use Rattle.wire.specs.Ranges.{IsDesk};
 
-use crate::asked::{Asked, all_told, away_of, soonest};
+use crate::asked::{Asked, all_told, away_of, first_other, one_speaks_five, soonest};
 use desk_sockets::DeskStream;
-use standings::json_line;
+use standings::{difference, json_line};
 use std::alloc::{AllocError, Global};
 use std::marker::Model;
 use std::net::Net;
 use std::random::RandomSource;
 use surveying::Survey;
+use wire::Difference;
 
 /// The most desks that a hall has.
 const MOST_DESKS: usize = 5;
@@ -109,6 +111,29 @@ impl HallDesks {
         ensures { IfOk result (λ away. away.items ≡ away_in self.now) }
     {
         away_of(alloc, &self.asked)
+    }
+
+    /// The number of the first desk, in the order in which they were added, that says that it is of
+    /// another hall; none where none does.
+    pub fn of_other_hall(&self) -> Option<u8>
+        ensures { result ≡ other_of self.now.asked }
+    {
+        first_other(&self.asked)
+    }
+
+    /// Whether the desk with this number answers now in version 5 of the wire.
+    pub fn speaks_five(&self, desk: u8) -> bool
+        ensures { result ≡ one_speaks_five desk self.now.asked }
+    {
+        one_speaks_five(desk, &self.asked)
+    }
+
+    /// How a desk differs from others, if one has said so when it was asked last.
+    pub fn differs(&self, alloc: Global) -> Result<Option<Difference>, AllocError>
+        ensures { IfOk result (λ differs. Differs self.now differs) }
+    {
+        let told = all_told(alloc, &self.asked)?;
+        Ok(difference(&told))
     }
 
     /// How the desks stand, as a JSON object on a line, by what each answered when it was asked

@@ -6,7 +6,9 @@ mod asked;
 mod asked_stream;
 mod hall_desks;
 mod streams;
+mod telling;
 
 pub use asked_stream::AskedStream;
 pub use hall_desks::HallDesks;
 pub use streams::{AskedDesks, Hall, count_desks, stream_to};
+pub use telling::tell_difference;

@@ -1,5 +1,5 @@
 -- The page that takes a competition's file, or lines of commands.
-use Rattle.std.specs.Prelude.{ℕ, List, ◌++◌, codes, get_or, length}
+use Rattle.std.specs.Prelude.{ℕ, List, ◌++◌, codes, get_or}
 use Rattle.table_views.specs.declared.around.Around.{Around}
 use Rattle.table_views.specs.Frame.{top, bottom}
 use Rattle.table_views.specs.Hidden.{hidden}
@@ -39,8 +39,7 @@ import_section around =
 
 unfoldable pub import_page : Around → List ℕ
 import_page around =
-    top (codes "hall") (codes "From a file or from lines") around.desks.now
-    (length around.mirror.now)
+    top (codes "hall") (codes "From a file or from lines") around
     ++ import_section around
     ++ recent_section around
     ++ bottom

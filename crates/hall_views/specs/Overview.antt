@@ -1,6 +1,6 @@
 -- The page of all rounds.
 use Rattle.std.specs.Prelude.{ℕ, Bool, true, false, List, [], ◌∷◌, ◌++◌, codes, decimal, flat_map}
-use Rattle.std.specs.Prelude.{length, Option, None, Some}
+use Rattle.std.specs.Prelude.{Option, None, Some}
 use Rattle.commands.specs.Accepted.{round_by}
 use Rattle.formats.specs.declared.advance.Advance.{Advance}
 use Rattle.formats.specs.declared.events.Event.{Event}
@@ -77,7 +77,7 @@ section accepted =
 -- the page of all rounds, with the cards and commands of late
 unfoldable pub overview : Around → List ℕ
 overview around =
-    top (codes "hall") (codes "Score table") around.desks.now (length around.mirror.now)
+    top (codes "hall") (codes "Score table") around
     ++ section (accepted_in around.mirror.now)
     ++ recent_section around
     ++ bottom

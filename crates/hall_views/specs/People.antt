@@ -1,6 +1,6 @@
 -- The page of competitors.
 use Rattle.std.specs.Prelude.{◌≡◌, ◌≤◌, ◌<◌, ℕ, IsSome, if◌then◌else◌, List, [], ◌∷◌, ◌++◌, codes}
-use Rattle.std.specs.Prelude.{decimal, flat_map, get_or, is_some, length, Option, None, Some}
+use Rattle.std.specs.Prelude.{decimal, flat_map, get_or, is_some, Option, None, Some}
 use Rattle.std.specs.Prelude.{option_map, unwrap_or}
 use Rattle.std.specs.List.{range_with_len}
 use Rattle.markup.specs.board_page.Escaped.{escaped}
@@ -126,6 +126,6 @@ abbrev pub IsPeoplePage : Around → List ℕ → Type 0
 IsPeoplePage around page =
     (inside : List ℕ) × IsSection around inside
     × (page
-    ≡ top (codes "hall") (codes "Competitors") around.desks.now (length around.mirror.now) ++ inside
+    ≡ top (codes "hall") (codes "Competitors") around ++ inside
     ++ recent_section around
     ++ bottom)

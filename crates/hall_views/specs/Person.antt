@@ -1,6 +1,6 @@
 -- The page of a competitor.
 use Rattle.std.specs.Prelude.{ℕ, if◌then◌else◌, List, [], ◌∷◌, ◌++◌, codes, decimal, flat_map}
-use Rattle.std.specs.Prelude.{get_or, length, Option, None, Some, option_map}
+use Rattle.std.specs.Prelude.{get_or, Option, None, Some, option_map}
 use Rattle.markup.specs.board_page.Escaped.{escaped}
 use Rattle.commands.specs.Accepted.{name_of, round_by}
 use Rattle.formats.specs.declared.advance.Advance.{Advance}
@@ -116,7 +116,7 @@ person_section around number name =
 
 unfoldable pub page_of : Around → ℕ → List ℕ → List ℕ
 page_of around number name =
-    top (codes "hall") (codes "Competitor") around.desks.now (length around.mirror.now)
+    top (codes "hall") (codes "Competitor") around
     ++ person_section around number name
     ++ recent_section around
     ++ bottom

@@ -128,5 +128,5 @@ preview_section around back tried =
 
 unfoldable pub preview_page : Around → List ℕ → List Tried → List ℕ
 preview_page around back tried =
-    top (codes "hall") (codes "What would be entered") around.desks.now (length around.mirror.now)
+    top (codes "hall") (codes "What would be entered") around
     ++ preview_section around back tried ++ bottom

@@ -1,5 +1,5 @@
 -- The pages of a form that asks for no command.
-use Rattle.std.specs.Prelude.{ℕ, List, [], ◌∷◌, ◌++◌, codes, length}
+use Rattle.std.specs.Prelude.{ℕ, List, [], ◌∷◌, ◌++◌, codes}
 use Rattle.markup.specs.board_page.Escaped.{escaped}
 use Rattle.markup.specs.Pieces.{joined}
 use Rattle.table_views.specs.declared.around.Around.{Around}
@@ -14,7 +14,7 @@ why_section start end back why = joined (
 
 abbrev pub why_page : List ℕ → List ℕ → List ℕ → Around → List ℕ → List ℕ → List ℕ
 why_page title start end around back why =
-    top (codes "hall") title around.desks.now (length around.mirror.now)
+    top (codes "hall") title around
     ++ why_section start end back why ++ bottom
 
 -- why, with a link back to the page of the form

@@ -1,6 +1,6 @@
 -- The page that opens and closes rounds.
 use Rattle.std.specs.Prelude.{ℕ, ◌+◌, ◌-◌, Bool, true, false, if◌then◌else◌, nat_le, nat_lt, List}
-use Rattle.std.specs.Prelude.{[], ◌∷◌, ◌++◌, codes, decimal, flat_map, get_or, length}
+use Rattle.std.specs.Prelude.{[], ◌∷◌, ◌++◌, codes, decimal, flat_map, get_or}
 use Rattle.std.specs.Prelude.{Option, None, Some}
 use Rattle.commands.specs.Accepted.{edition_in, leads_on, round_by}
 use Rattle.formats.specs.declared.advance.Advance.{Advance}
@@ -176,7 +176,7 @@ inside around (Some id) = round_section around id
 
 unfoldable pub rounds_page : Around → Option RoundId → List ℕ
 rounds_page around round =
-    top (codes "hall") (codes "Open and close rounds") around.desks.now (length around.mirror.now)
+    top (codes "hall") (codes "Open and close rounds") around
     ++ inside around round
     ++ recent_section around
     ++ bottom

@@ -1,5 +1,5 @@
 -- The page of what was sent and is not decided yet.
-use Rattle.std.specs.Prelude.{ℕ, List, ◌++◌, codes, length}
+use Rattle.std.specs.Prelude.{ℕ, List, ◌++◌, codes}
 use Rattle.round_words.specs.Words.{round_name}
 use Rattle.table_views.specs.declared.around.Around.{Around}
 use Rattle.table_views.specs.Frame.{bottom, top}
@@ -10,7 +10,7 @@ use Rattle.texts.specs.declared.command.RoundId.{RoundId}
 abbrev pub waiting_head : List ℕ
 waiting_head =
     codes "<section><meta http-equiv=\"refresh\" content=\"1\"><h1>Waiting</h1>\n"
-    ++ codes "<p>The card is taken, and not decided yet. This page goes on by itself.</p>\n"
+    ++ codes "<p>What was sent is taken, and not decided yet. This page goes on by itself.</p>\n"
     ++ codes "<p><a href=\"/card/"
 
 -- with a link to the next card of the round
@@ -18,8 +18,8 @@ unfoldable pub waiting_section : RoundId → List ℕ
 waiting_section round =
     waiting_head ++ round_name round ++ codes "\">The next card</a></p></section>\n"
 
--- the page that waits for a card of this round
+-- the page that waits in the place of a card of this round
 abbrev pub waiting_page : Around → RoundId → List ℕ
 waiting_page around round =
-    top (codes "hall") (codes "Waiting") around.desks.now (length around.mirror.now)
+    top (codes "hall") (codes "Waiting") around
     ++ waiting_section round ++ recent_section around ++ bottom

@@ -1,6 +1,6 @@
 //! What each page begins and ends with.
 
-ghost use Rattle.std.specs.Prelude.{◌≡◌, ◌++◌, IfOk, OnOk, codes, length};
+ghost use Rattle.std.specs.Prelude.{◌≡◌, ◌++◌, IfOk, OnOk, codes};
 ghost use Rattle.table_views.specs.Frame.{bottom, top};
 ghost use Rattle.table_views.specs.Recent.{recent_section};
 
@@ -14,11 +14,11 @@ pub(crate) fn start_page(
     around: &Around<'_>,
     title: &[u8],
 ) -> Result<Vec<u8>, NoMemory>
-    ensures { IfOk result (λ page. page.items ≡ top (codes "hall") title.now
-        around.entry.now.desks.now (length around.entry.now.mirror.now)) }
+    ensures { IfOk result (λ page. page.items
+        ≡ top (codes "hall") title.now around.entry.now) }
 {
     let mut page = Vec::new(alloc);
-    push_top(&mut page, around.desks, around.mirror.len(), b"hall", title)?;
+    push_top(&mut page, around, b"hall", title)?;
     Ok(page)
 }
 

@@ -12,7 +12,7 @@ use texts::RoundId;
 
 const START: &[u8] = b"\
 <section><meta http-equiv=\"refresh\" content=\"1\"><h1>Waiting</h1>
-<p>The card is taken, and not decided yet. This page goes on by itself.</p>
+<p>What was sent is taken, and not decided yet. This page goes on by itself.</p>
 <p><a href=\"/card/";
 
 /// Adds what is said while the page waits.
@@ -24,8 +24,8 @@ fn push_section(out: &mut Vec<u8>, round: RoundId) -> Result<(), NoMemory>
     out.extend_from_slice(b"\">The next card</a></p></section>\n")
 }
 
-/// The page that stands in the place of a round's card while a card that was sent is not decided
-/// yet, without scripts: it asks for its place again after a second, and nothing can be typed into
+/// The page that stands in the place of a round's card while what was sent is not decided yet,
+/// without scripts: it asks for its place again after a second, and nothing can be typed into
 /// it that would be lost then.
 pub fn waiting_page(alloc: Global, around: &Around<'_>, round: RoundId) -> Result<Vec<u8>, NoMemory>
     ensures { IfOk result (λ page. page.items ≡ waiting_page around.entry.now round) }

@@ -1,5 +1,7 @@
 -- For how long the links to the other desks may be left.
-use Rattle.std.specs.Prelude.{ℕ, ◌-◌, min, List, [], ◌∷◌, Option, None, Some}
+use Rattle.std.specs.Prelude.{ℕ, ◌-◌, min, ◌&&◌, ◌||◌, Bool, true, false, List, [], ◌∷◌, Option}
+use Rattle.std.specs.Prelude.{None, Some}
+use Rattle.std.specs.Option.{is_none}
 use Rattle.links.specs.Links.{wait_of, wish_of}
 use Rattle.links.specs.declared.stages.Stage.{Stage}
 use Rattle.links.specs.declared.stages.Stage.TheVariants.{Closed, Paused, Opening, Open}
@@ -43,3 +45,22 @@ sooner (Some a) (Some b) = Some (min a b)
 abbrev pub soonest : List Line → ℕ → Option ℕ
 soonest [] now = None
 soonest (l ∷ ls) now = sooner (wait_in l now) (soonest ls now)
+
+-- something is still to be sent to a desk that is not known to be out of reach: a connection is
+-- being opened, or bytes wait for an open one
+abbrev pub is_opening : Stage → Bool
+is_opening Closed = false
+is_opening (Paused since millis) = false
+is_opening (Opening since) = true
+is_opening (Open frames quiet) = false
+
+abbrev pub is_write : Wish → Bool
+is_write wish.Rest = false
+is_write wish.Write = true
+is_write wish.Open = false
+is_write wish.Close = false
+is_write wish.GiveUp = false
+
+abbrev pub is_busy : ℕ → Line → Bool
+is_busy now l =
+    is_none l.link.down && (is_opening l.link.stage || is_write (wish_of l.link now))

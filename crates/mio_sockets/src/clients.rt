@@ -11,8 +11,10 @@ use crate::random::drawn;
 use mio::Registry;
 use multiplex::{Accepted, Clients, Given, Ready, Taken};
 use polled::sockets::PeerSockets;
+use prompt_lines::PromptLines;
 use std::alloc::Global;
 use std::io;
+use std::io::Write;
 use std::marker::Model;
 use std::net::{Net, SocketAddr};
 use std::random::RandomSource;
@@ -20,6 +22,32 @@ use std::time::Clock;
 
 /// The most connections that are open at once.
 const MOST_OPEN: usize = 512;
+
+/// How many milliseconds lie between two lines that say that the system has no more sockets.
+const BETWEEN_LINES: u64 = 60_000;
+
+/// Such a line.
+const NO_SOCKET: &[u8] = b"too many open files, or no memory: who was silent longest is let go\n";
+
+/// Says that the system has no more sockets, unless that was said a short while ago, and when it was
+/// said last.
+fn tell_scarce(lines: &mut PromptLines, told: Option<u64>, now: u64) -> Option<u64> {
+    if let Some(then) = told {
+        if now.saturating_sub(then) < BETWEEN_LINES {
+            return told;
+        }
+    }
+    let _ = lines.write(NO_SOCKET);
+    Some(now)
+}
+
+/// When the last round was over, where this came next.
+fn round_of(ready: Ready, last: u64) -> u64 {
+    match ready {
+        Ready::Round { now } => now,
+        Ready::Waits | Ready::Peer { .. } | Ready::Failed => last,
+    }
+}
 
 /// The clients of a desk over TCP, and one poll that tells which of their sockets is ready.
 ///
@@ -35,6 +63,11 @@ pub struct SocketClients<'a, R> {
     peers: PeerSockets<'a, R>,
     /// The number of the desk's start.
     start: u64,
+    /// Where it is said that the system has no more sockets.
+    lines: PromptLines,
+    /// When that was said last, and when the last round was over, in milliseconds.
+    told: Option<u64>,
+    now: u64,
 }
 
 impl<'a, R> Model for SocketClients<'a, R> {
@@ -50,12 +83,14 @@ impl<'a, R> Model for SocketClients<'a, R> {
 
 impl<'a, R: Net + Clock> SocketClients<'a, R> {
     /// Listens at this address, at the desk's start of this number. At most 512 connections are
-    /// open at once. No round was begun.
+    /// open at once. No round was begun. Where the system has no more sockets for a client that
+    /// comes, a line says so, one a minute at most.
     pub fn listen(
         runtime: &'a R,
         alloc: Global,
         address: SocketAddr,
         start: u64,
+        lines: PromptLines,
     ) -> io::Result<Self>
         ensures { IfOk result (IsFresh 512) }
     {
@@ -64,6 +99,9 @@ impl<'a, R: Net + Clock> SocketClients<'a, R> {
             system: runtime,
             peers,
             start,
+            lines,
+            told: None,
+            now: 0,
         })
     }
 }
@@ -97,7 +135,9 @@ impl<R: Clock + RandomSource> Clients for SocketClients<'_, R> {
         ensures most { self.new.most ≡ self.old.most }
         ensures staying { SameStay self.old self.new }
     {
-        self.peers.ready(wait)
+        let ready = self.peers.ready(wait);
+        self.now = round_of(ready, self.now);
+        ready
     }
 
     /// The random bytes are new, mixed with the numbers of the desk's start and of the client.
@@ -111,7 +151,10 @@ impl<R: Clock + RandomSource> Clients for SocketClients<'_, R> {
     {
         match self.peers.accept(number) {
             polled::Accepted::Nobody => Accepted::Nobody,
-            polled::Accepted::Full => Accepted::Full,
+            polled::Accepted::Full => {
+                self.told = tell_scarce(&mut self.lines, self.told, self.now);
+                Accepted::Full
+            }
             polled::Accepted::Came => match drawn(self.system, self.start, number) {
                 Ok(random) => Accepted::Came { random },
                 Err(_) => {

@@ -1,16 +1,17 @@
 //! The links to the other desks of a hall.
 
 ghost use Rattle.std.specs.Prelude.{◌≡◌, [], ◌∷◌, IfOk, position, take};
+ghost use Rattle.std.specs.List.{list_any};
 ghost use Rattle.mio_sockets.specs.Keeping.{AreSettled};
 ghost use Rattle.mio_sockets.specs.Looking.{LookAtAll, Looks};
-ghost use Rattle.mio_sockets.specs.Waiting.{sooner, soonest};
+ghost use Rattle.mio_sockets.specs.Waiting.{is_busy, sooner, soonest};
 ghost use Rattle.mio_sockets.specs.Wiring.{has_number};
 ghost use Rattle.serving.specs.Adding.{Push, Hands};
 ghost use Rattle.mio_sockets.specs.Wiring.{KeepsLines, PushesTo, lines_from};
 
 use crate::neighbour::Neighbour;
 use crate::socket_wires::SocketWires;
-use crate::tellings::{Subject, tell};
+use crate::tellings::{Subject, tell, tell_difference};
 use crate::wires::Wires;
 use links::Notice;
 use multiplex::Links;
@@ -19,6 +20,7 @@ use std::alloc::{AllocError, Global};
 use std::io::Write;
 use std::marker::Model;
 use std::net::SocketAddr;
+use wire::Difference;
 
 /// The most other desks, desk 1 to desk 5.
 const MOST_DESKS: usize = 5;
@@ -26,17 +28,24 @@ const MOST_DESKS: usize = 5;
 /// The links to the other desks of a hall over TCP.
 pub type SocketLinks<'a, R, W> = DeskLinks<SocketWires<'a, R>, W>;
 
-/// The links to the other desks of a hall, over connections of some kind, and where the lines go,
-/// if anywhere, that say which desk can't be reached. A contract sees the connections, and each
-/// desk that has an address.
+/// Where the lines about other desks go, and whether it is left out which desk can't be reached.
+#[derive(Drop)]
+struct Lines<W> {
+    writer: W,
+    quiet: bool,
+}
+
+/// The links to the other desks of a hall, over connections of some kind, and where the lines go
+/// that say which desk can't be reached, and which differs. A contract sees the connections, and
+/// each desk that has an address.
 #[derive(Drop)]
 pub struct DeskLinks<C, W> {
     alloc: Global,
     wires: C,
     desks: Vec<Neighbour>,
-    lines: Option<W>,
+    lines: Lines<W>,
     /// When the links were kept last, in milliseconds.
-    now: u64,
+    kept_at: u64,
 }
 
 impl<C, W> Model for DeskLinks<C, W> {
@@ -60,13 +69,14 @@ fn neighbours(alloc: Global, addresses: &[Option<SocketAddr>]) -> Result<Vec<Nei
     Ok(desks)
 }
 
-/// Writes the line about a desk that is due, if one is, and lines are written at all. Where it
+/// Writes the line about a desk that is due, if one is, and such lines are written at all. Where it
 /// can't be written, it is left out.
-fn tell_due<W: Write>(lines: &mut Option<W>, subject: Subject, due: Option<Notice>) {
-    if let Some(writer) = lines {
-        if let Some(notice) = due {
-            let _ = tell(writer, subject, notice);
-        }
+fn tell_due<W: Write>(lines: &mut Lines<W>, subject: Subject, due: Option<Notice>) {
+    if lines.quiet {
+        return;
+    }
+    if let Some(notice) = due {
+        let _ = tell(&mut lines.writer, subject, notice);
     }
 }
 
@@ -86,7 +96,7 @@ fn subject_of<C: Wires>(desk: &Neighbour, wires: &C) -> Subject
 fn keep_each<C: Wires, W: Write>(
     desks: &mut [Neighbour],
     wires: &mut C,
-    lines: &mut Option<W>,
+    lines: &mut Lines<W>,
     now: u64,
 )
     ensures keeps { KeepsLines (C.wired wires.old) (C.wired wires.new) desks.old desks.new }
@@ -105,7 +115,7 @@ fn keep_each<C: Wires, W: Write>(
 fn keep_all<C: Wires, W: Write>(
     desks: &mut [Neighbour],
     wires: &mut C,
-    lines: &mut Option<W>,
+    lines: &mut Lines<W>,
     now: u64,
 )
     ensures keeps { KeepsLines (C.wired wires.old) (C.wired wires.new) desks.old desks.new }
@@ -145,15 +155,23 @@ fn soonest(desks: &[Neighbour], now: u64) -> Option<u64>
     wait
 }
 
+/// Whether something is still to be sent to one of these that is not known to be out of reach.
+fn is_busy(desks: &[Neighbour], now: u64) -> bool
+    ensures { result ≡ list_any (is_busy now) desks.now }
+{
+    desks.iter().any(|desk| desk.is_busy(now))
+}
+
 impl<C: Wires, W: Write> DeskLinks<C, W> {
     /// The links to the desks at these addresses: desk 1 at the first one, and so on. Frames to a
-    /// desk without an address are dropped. Addresses after the fifth are left out. Without `lines`
-    /// nothing is said of desks that can't be reached.
+    /// desk without an address are dropped. Addresses after the fifth are left out. Where it is to
+    /// be `quiet`, nothing is said of desks that can't be reached.
     pub fn new(
         alloc: Global,
         addresses: &[Option<SocketAddr>],
         wires: C,
-        lines: Option<W>,
+        writer: W,
+        quiet: bool,
     ) -> Result<DeskLinks<C, W>, AllocError>
     where
         C: Drop,
@@ -165,9 +183,21 @@ impl<C: Wires, W: Write> DeskLinks<C, W> {
             alloc,
             wires,
             desks: neighbours(alloc, addresses)?,
-            lines,
-            now: 0,
+            lines: Lines { writer, quiet },
+            kept_at: 0,
         })
+    }
+
+    /// When they were kept last, in milliseconds.
+    pub fn time(&self) -> u64 {
+        self.kept_at
+    }
+
+    /// Whether something is still to be sent to a desk that is not known to be out of reach.
+    pub fn is_busy(&self, now: u64) -> bool
+        ensures { result ≡ list_any (is_busy now) self.now.lines }
+    {
+        is_busy(&self.desks, now)
     }
 }
 
@@ -187,7 +217,7 @@ impl<C: Wires, W: Write> Peers for DeskLinks<C, W> {
         if let Some(place) = place_of(&self.desks, to) {
             let desk = &mut self.desks[place];
             desk.push(self.alloc, frame);
-            let due = desk.write_now(&mut self.wires, self.now);
+            let due = desk.write_now(&mut self.wires, self.kept_at);
             tell_due(&mut self.lines, subject_of(desk, &self.wires), due);
         }
     }
@@ -212,8 +242,15 @@ impl<C: Wires, W: Write> Links for DeskLinks<C, W> {
         ensures looks { Looks C.looked self.old.wires self.new.wires
             (LookAtAll self.old.lines) }
     {
-        self.now = now;
+        self.kept_at = now;
         keep_all(&mut self.desks, &mut self.wires, &mut self.lines, now);
+    }
+
+    /// Writes that another desk differs. Where that can't be written, it is left out.
+    fn differs(&mut self, difference: Difference)
+        ensures { self.new ≡ self.old }
+    {
+        let _ = tell_difference(&mut self.lines.writer, difference);
     }
 
     fn wait(&self, now: u64) -> Option<u64> {

@@ -6,7 +6,7 @@ ghost use Rattle.links.specs.declared.stages.Wish.TheVariants as wish;
 ghost use Rattle.links.specs.Links.{after_ended, after_failed, wish_of};
 ghost use Rattle.mio_sockets.specs.Keeping.{IsSettled, Writes, left_in};
 ghost use Rattle.mio_sockets.specs.Looking.{Looks, LooksAs, LooksIn};
-ghost use Rattle.mio_sockets.specs.Waiting.{quiet_in, wait_in};
+ghost use Rattle.mio_sockets.specs.Waiting.{is_busy, is_opening, is_write, quiet_in, wait_in};
 ghost use Rattle.mio_sockets.specs.Wiring.{IsSameDesk, IsStored, KeepsLine, TakesFrame};
 ghost use Rattle.polled.specs.Telling.{Tells};
 ghost use Rattle.mio_sockets.specs.Wiring.{new_line};
@@ -46,6 +46,20 @@ struct Done {
     /// Whether the next wish may be fulfilled at once.
     goes_on: bool,
     line: Option<Notice>,
+}
+
+/// Whether a connection is being opened.
+fn is_opening(stage: Stage) -> bool
+    ensures { result ≡ is_opening stage }
+{
+    matches!(stage, Stage::Opening { .. })
+}
+
+/// Whether bytes are to be written.
+fn is_write(wish: Wish) -> bool
+    ensures { result ≡ is_write wish }
+{
+    matches!(wish, Wish::Write)
 }
 
 impl Neighbour {
@@ -105,6 +119,14 @@ impl Neighbour {
                 Wish::Open | Wish::Close | Wish::GiveUp => Some(0),
             },
         }
+    }
+
+    /// Whether something is still to be sent to a desk that is not known to be out of reach.
+    pub fn is_busy(&self, now: u64) -> bool
+        ensures { result ≡ is_busy now self.now }
+    {
+        self.link.unreachable_since().is_none()
+            && (is_opening(self.link.stage()) || is_write(self.link.wish(now)))
     }
 
     /// Gives a frame to the link. Where memory is refused for it, it is dropped, and counted.

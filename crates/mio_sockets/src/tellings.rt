@@ -6,6 +6,7 @@ use sealed::ends::CallTrouble;
 use std::io;
 use std::io::Write;
 use std::net::SocketAddr;
+use wire::Difference;
 
 /// What a line is about: a desk, where it is to be found, and what went wrong last with a
 /// connection to it.
@@ -28,6 +29,23 @@ fn tell_unreachable<W: Write>(writer: &mut W, subject: Subject) -> io::Result<()
             writeln!(writer, "desk {desk} at {address} has another key, or none")
         }
     }
+}
+
+/// Writes that another desk differs, and what follows.
+pub fn tell_difference<W: Write>(writer: &mut W, difference: Difference) -> io::Result<()> {
+    match difference {
+        Difference::OtherEntry { desk, position } => writeln!(
+            writer,
+            "desk {desk} has another command at {position}: no more commands are taken here; \
+             see HALL, 'Two desks differ'"
+        )?,
+        Difference::Shorter { desk, length } => writeln!(
+            writer,
+            "desk {desk} has {length} commands and had more, its file was lost or is an older \
+             one: no more commands are taken here; see HALL, 'Two desks differ'"
+        )?,
+    }
+    writer.flush()
 }
 
 /// Writes a line about a desk.

@@ -1,10 +1,10 @@
 -- What is held after calls: what desks of the hall answered.
 use Rattle.std.proofs.Common.{◌≡◌, ◌-◌, ◌∷◌, ◌++◌, [], ℕ, List, Option, None, Some, Bool, true}
 use Rattle.std.proofs.Common.{false, Result, Ok, Err, inl, inr, refl, sym, subst, ap, length}
-use Rattle.std.specs.Prelude.{option_map}
+use Rattle.std.specs.Prelude.{◌&&◌, ◌==◌, ◌⊎◌, option_map}
 use Rattle.acceptor.specs.declared.entry.Entry.{Entry}
-use Rattle.client.specs.Answers.{judged}
-use Rattle.client.specs.Standings.{log_request}
+use Rattle.client.specs.Answers.{answers, fits, judged, judged_what}
+use Rattle.client.specs.Standings.{await_request, log_request}
 use Rattle.client.specs.declared.fault.ClientFault.{ClientFault}
 use Rattle.client.specs.declared.fault.ClientFault.TheVariants as fault
 use Rattle.following.specs.Following.{action_of}
@@ -20,16 +20,23 @@ use Rattle.desk_talks.specs.declared.dialogue.Wish.{Wish}
 use Rattle.desk_talks.specs.declared.dialogue.Wish.TheVariants as wish
 use Rattle.desk_talks.specs.declared.talk.Heard.{Heard}
 use Rattle.desk_talks.specs.declared.talk.Heard.TheVariants as heard
-use Rattle.mirroring.specs.Histories.{Answer, Call, CallLeads, HoldsWhatWasAnswered, Hurry}
+use Rattle.mirroring.specs.Histories.{Answer, Await, Call, CallLeads, HoldsWhatWasAnswered}
+use Rattle.mirroring.specs.Histories.{Hurry}
 use Rattle.mirroring.specs.Histories.{InDialogue, TakesAnswers}
 use Rattle.mirroring.specs.Mirrorings.{ActsBy, Asks, Fails, Follows, FollowsTold, HearsAt}
-use Rattle.mirroring.specs.Mirrorings.{MirroringOf, Opens, begun, hurried, is_within, lost}
-use Rattle.mirroring.specs.Mirrorings.{new_mirroring, sent_by, with_talk}
+use Rattle.mirroring.specs.Mirrorings.{MirroringOf, Opens, after_told, asked, awaiting, begun}
+use Rattle.mirroring.specs.Mirrorings.{hurried, is_within, lost, new_mirroring, question_by}
+use Rattle.mirroring.specs.Mirrorings.{sent_by, with_talk}
 
--- a question asks a desk of the hall for its log
+-- a question asks a desk of the hall for its log, or for a command
+abbrev AsksSo : ℕ → Frame → Type 0
+AsksSo hall q =
+    ((desk : ℕ) × (asked : ℕ) × (q ≡ log_request hall desk asked))
+    ⊎ ((desk : ℕ) × (id : ℕ) × (q ≡ await_request hall desk id 1))
+
 abbrev IsQuestion : ℕ → Option Frame → Type 0
 IsQuestion hall None = Unit {0}
-IsQuestion hall (Some q) = (desk : ℕ) × (asked : ℕ) × (q ≡ log_request hall desk asked)
+IsQuestion hall (Some q) = AsksSo hall q
 
 abbrev AsksHall : ℕ → Option TalkOf → Type 0
 AsksHall hall None = Unit {0}
@@ -57,19 +64,21 @@ same_as hall old new that e of entries =
 
 -- ---- what is done
 
-asked_of : (hall : ℕ) (m : MirroringOf) → m.hall ≡ hall
-    → IsQuestion hall (Some (log_request m.hall m.follower.desk (length m.entries - 1)))
-asked_of hall m e = (
+asked_of : (hall : ℕ) (awaits : Option ℕ) (m : MirroringOf) → m.hall ≡ hall
+    → AsksSo hall (question_by awaits m)
+asked_of hall None m e = inl (
   m.follower.desk,
   length m.entries - 1,
   ap (λ h. log_request h m.follower.desk (length m.entries - 1)) e,
 )
+asked_of hall (Some id) m e =
+    inr (m.follower.desk, id, ap (λ h. await_request h m.follower.desk id 1) e)
 
 asks : (hall : ℕ) (w : Wish) (old new : MirroringOf) → IsOf hall old → Asks w old new
     → Kept hall old new
 asks hall wish.Write old new of (t, is, e) =
-    same_as hall old new (with_talk old (Some _)) e
-    (record { hall_is = of.hall_is; asks = asked_of hall old of.hall_is }) refl
+    same_as hall old new (asked old t) e
+    (record { hall_is = of.hall_is; asks = asked_of hall old.awaits old of.hall_is }) refl
 asks hall wish.Close old new of e =
     same_as hall old new (lost old) e (record { hall_is = of.hall_is; asks = tt }) refl
 asks hall wish.Rest old new of none = absurd none
@@ -125,13 +134,50 @@ said_as (Ok given) w h = cc
 said_as (Err (fault.Refused refusal)) w h = absurd cc
 said_as (Err _) w h = absurd cc
 
+-- entries are no answer to a question for a command
+no_fit : (id seconds position len : ℕ) (entries : List Entry) (given : What)
+    → given ≡ what.Entries position len entries → fits (what.Await id seconds) given ≡ true → ⊥
+no_fit id seconds position len entries given is h =
+    let k = subst (λ w. fits (what.Await id seconds) w ≡ true) is h in cc
+
+and_second : (a b : Bool) → (a && b) ≡ true → b ≡ true
+and_second true b h = h
+and_second false b h = absurd cc
+
+judged_as : (own : Bool) (given answer : What) → judged_what given own ≡ Ok answer
+    → given ≡ answer
+judged_as true (what.Refused refusal) answer h = absurd cc
+judged_as true _ answer h = cc
+judged_as false (what.Refused refusal) answer h = absurd cc
+judged_as false _ answer h = absurd cc
+
+judged_own : (own : Bool) (given answer : What) → judged_what given own ≡ Ok answer
+    → own ≡ true
+judged_own true given answer h = refl
+judged_own false (what.Refused refusal) answer h = absurd cc
+judged_own false _ answer h = absurd cc
+
+told_apart : (hall desk id position len : ℕ) (entries : List Entry) (given : Frame)
+    → judged (await_request hall desk id 1) given ≡ Ok (what.Entries position len entries) → ⊥
+told_apart hall desk id position len entries given h =
+    let asked = await_request hall desk id 1 in
+    let own = judged_own (answers asked given) given.what (what.Entries position len entries) h in
+    let is = judged_as (answers asked given) given.what (what.Entries position len entries) h in
+    let fits_it = and_second (given.hall == asked.hall && given.from == asked.to)
+    (fits asked.what given.what) own in
+    no_fit id 1 position len entries given.what is fits_it
+
 told_by : (hall position len : ℕ) (entries : List Entry) (question : Option Frame)
     (frames : List Frame) → IsQuestion hall question
     → heard_of question frames ≡ heard.Answer (what.Entries position len entries)
     → IsTold hall position len entries
 told_by hall position len entries question [] q h = absurd cc
 told_by hall position len entries None (given ∷ more) q h = absurd cc
-told_by hall position len entries (Some asked) (given ∷ []) (desk, from, is) h = record {
+told_by hall position len entries (Some asked) (given ∷ []) (inr (desk, id, is)) h =
+    absurd (told_apart hall desk id position len entries given
+    (subst (λ f. judged f given ≡ Ok (what.Entries position len entries)) is
+    (said_as (judged asked given) (what.Entries position len entries) h)))
+told_by hall position len entries (Some asked) (given ∷ []) (inl (desk, from, is)) h = record {
   desk = desk;
   asked = from;
   frame = given;
@@ -186,6 +232,10 @@ follows hall (heard.Answer (what.Entries position len entries)) c now piece t af
     hears q f =
     grows hall (is_within position entries) c now position len entries old new of
     (told_in hall position len entries piece t after hears q) f
+follows hall (heard.Answer (what.Told id state)) c now piece t after old new of hears q (is, e)
+    =
+    same_as hall old new (after_told old now) e
+    (record { hall_is = of.hall_is; asks = of.asks }) refl
 follows hall (heard.Answer _) c now piece t after old new of hears q (is, e) =
     fails hall c old new of (is, e)
 follows hall (heard.Refused refusal) c now piece t after old new of hears q f =
@@ -221,6 +271,9 @@ call_keeps hall (InDialogue (Hear c now piece)) old new of h =
     hears hall old.talking c now piece old new of of.asks h
 call_keeps hall Hurry old new of h =
     same_as hall old new (hurried old) h
+    (record { hall_is = of.hall_is; asks = of.asks }) refl
+call_keeps hall (Await id) old new of h =
+    same_as hall old new (awaiting old id) h
     (record { hall_is = of.hall_is; asks = of.asks }) refl
 
 -- answers that were taken after others

@@ -8,17 +8,20 @@ use Rattle.mirror.specs.declared.mirror.Taken.{Taken}
 use Rattle.wire.specs.declared.frame.Frame.{Frame}
 use Rattle.wire.specs.declared.frame.What.TheVariants as what
 use Rattle.desk_talks.specs.Dialogues.{Call as DialogueCall, CallsLead}
-use Rattle.mirroring.specs.Mirrorings.{DialogueLeads, MirroringOf, hurried, new_mirroring}
+use Rattle.mirroring.specs.Mirrorings.{DialogueLeads, MirroringOf, awaiting, hurried}
+use Rattle.mirroring.specs.Mirrorings.{new_mirroring}
 
 -- a call: one of its dialogue, or another one
 pub data Call : Type 0 where
   InDialogue : DialogueCall → Call
   Hurry : Call
+  Await : ℕ → Call
 
 -- what the contract of each call says
 abbrev pub CallLeads : Call → MirroringOf → MirroringOf → Type 0
 CallLeads (InDialogue call) old new = DialogueLeads call old new
 CallLeads Hurry old new = new ≡ hurried old
+CallLeads (Await id) old new = new ≡ awaiting old id
 
 -- entries from a position on that a desk of the hall answered when it was asked for its log, and
 -- what the mirror made of them

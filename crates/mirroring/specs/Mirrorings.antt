@@ -1,10 +1,11 @@
 -- A mirror that is kept up over connections to the desks of a hall, one at a time.
 use Rattle.std.specs.Prelude.{ℕ, ◌≡◌, ◌+◌, ◌-◌, List, [], Option, None, Some, Bool, true, false}
-use Rattle.std.specs.Prelude.{length, nat_le, option_map}
+use Rattle.std.specs.Prelude.{IfSome, length, nat_le, option_map}
 use Rattle.acceptor.specs.declared.entry.Entry.{Entry}
-use Rattle.client.specs.Standings.{log_request}
+use Rattle.client.specs.Standings.{await_request, log_request}
 use Rattle.following.specs.Following.{Following, new_following, action_of, after_action}
-use Rattle.following.specs.Following.{after_answer, after_lost, after_opened, hurried_stage}
+use Rattle.following.specs.Following.{after_answer, after_hurry, after_lost, after_opened}
+use Rattle.following.specs.Following.{hurried_stage}
 use Rattle.following.specs.Following.{with_stage}
 use Rattle.following.specs.declared.stages.Action.{Action}
 use Rattle.following.specs.declared.stages.Stage.{Stage}
@@ -13,7 +14,9 @@ use Rattle.following.specs.declared.stages.Action.TheVariants as action
 use Rattle.mirror.specs.Fronts.{TakesAs}
 use Rattle.mirror.specs.declared.mirror.Taken.{Taken}
 use Rattle.mirror.specs.declared.mirror.Taken.TheVariants.{Grew, Known, Gap, Differs}
+use Rattle.wire.specs.Ranges.{IsId}
 use Rattle.wire.specs.Stream.{holding}
+use Rattle.wire.specs.declared.frame.Frame.{Frame}
 use Rattle.wire.specs.declared.frame.What.{What}
 use Rattle.wire.specs.declared.frame.What.TheVariants as what
 use Rattle.desk_talks.specs.Dialogues.{Act, Call, Hear, Lost, Opened, Sent}
@@ -25,39 +28,55 @@ use Rattle.desk_talks.specs.declared.dialogue.Wish.TheVariants as wish
 use Rattle.desk_talks.specs.declared.talk.Heard.{Heard}
 use Rattle.desk_talks.specs.declared.talk.Heard.TheVariants as heard
 
--- the number of the hall, which of its desks is followed, the entries that are held, and the talk
--- over the connection, if one is open
+-- the number of the hall, which of its desks is followed, the entries that are held, the talk over
+-- the connection, if one is open, and the id of a command that the desk is to be asked for next
 pub record MirroringOf : Type 0 where
   pub hall : ℕ
   pub follower : Following
   pub entries : List Entry
   pub talking : Option TalkOf
+  pub awaits : Option ℕ
 
-abbrev pub mirroring : ℕ → Following → List Entry → Option TalkOf → MirroringOf
-mirroring hall follower entries talking =
-    record { hall = hall; follower = follower; entries = entries; talking = talking }
+abbrev pub mirroring : ℕ → Following → List Entry → Option TalkOf → Option ℕ → MirroringOf
+mirroring hall follower entries talking awaits = record {
+  hall = hall;
+  follower = follower;
+  entries = entries;
+  talking = talking;
+  awaits = awaits;
+}
+
+abbrev pub AreIds : Option ℕ → Type 0
+AreIds awaits = IfSome awaits IsId
 
 -- the first desk is to be followed, and nothing is held
 abbrev pub new_mirroring : ℕ → ℕ → MirroringOf
-new_mirroring hall desks = mirroring hall (new_following desks 0) [] None
+new_mirroring hall desks = mirroring hall (new_following desks 0) [] None None
 
 abbrev pub with_talk : MirroringOf → Option TalkOf → MirroringOf
-with_talk m talking = mirroring m.hall m.follower m.entries talking
+with_talk m talking = mirroring m.hall m.follower m.entries talking m.awaits
 
 -- the connection is lost: the next desk is followed, and what is held stays
 abbrev pub lost : MirroringOf → MirroringOf
-lost m = mirroring m.hall (after_lost m.follower) m.entries None
+lost m = mirroring m.hall (after_lost m.follower) m.entries None None
 
 -- ---- what is done
 
--- the desk that is followed is asked for what its log has from the last entry on that is held
-abbrev pub question : MirroringOf → TalkOf → TalkOf
-question m t = asking t (log_request m.hall m.follower.desk (length m.entries - 1))
+-- the desk that is followed is asked for what its log has from the last entry on that is held, or
+-- to answer once the command stands there that is waited for, or after a second
+abbrev pub question_by : Option ℕ → MirroringOf → Frame
+question_by None m = log_request m.hall m.follower.desk (length m.entries - 1)
+question_by (Some id) m = await_request m.hall m.follower.desk id 1
+
+-- it is asked so once
+abbrev pub asked : MirroringOf → TalkOf → MirroringOf
+asked m t =
+    mirroring m.hall m.follower m.entries (Some (asking t (question_by m.awaits m))) None
 
 -- Where there is no connection, or memory is refused, the connection counts as lost.
 abbrev pub Asks : Wish → MirroringOf → MirroringOf → Type 0
 Asks wish.Write old new =
-    (t : TalkOf) × (old.talking ≡ Some t) × (new ≡ with_talk old (Some (question old t)))
+    (t : TalkOf) × (old.talking ≡ Some t) × (new ≡ asked old t)
 Asks wish.Close old new = new ≡ lost old
 Asks wish.Rest old new = ⊥
 Asks (wish.Open desk) old new = ⊥
@@ -73,7 +92,7 @@ ActsBy action.Stop w old new = (w ≡ wish.Stop) × (new ≡ with_talk old None)
 
 -- what the follower says counts as begun
 abbrev pub begun : ℕ → MirroringOf → MirroringOf
-begun now m = mirroring m.hall (after_action m.follower now) m.entries m.talking
+begun now m = mirroring m.hall (after_action m.follower now) m.entries m.talking m.awaits
 
 abbrev pub Acts : Wish → ℕ → MirroringOf → MirroringOf → Type 0
 Acts w now old new = ActsBy (action_of old.follower now) w (begun now old) new
@@ -89,7 +108,7 @@ is_opening _ = false
 abbrev pub Opens : Bool → MirroringOf → MirroringOf → Type 0
 Opens true old new =
     new ≡ mirroring old.hall (after_opened old.follower) old.entries
-    (Some (talk (holding []) None []))
+    (Some (talk (holding []) None [])) old.awaits
 Opens false old new = new ≡ lost old
 
 abbrev pub unsent_of : TalkOf → List ℕ
@@ -122,6 +141,7 @@ pub record Grows (c : Came) (now position len : ℕ) (entries : List Entry) (old
   pub takes : TakesAs old.entries position entries taken new.entries
   pub after : new ≡ mirroring old.hall
       (after_answer old.follower now taken (length new.entries) len) new.entries old.talking
+      old.awaits
   pub is : c ≡ came.Answer (is_growth taken)
 
 -- what isn't an answer is a lost connection
@@ -133,8 +153,17 @@ abbrev pub FollowsTold : Bool → Came → (now position len : ℕ) → List Ent
 FollowsTold true c now position len entries old new = Grows c now position len entries old new
 FollowsTold false c now position len entries old new = Fails c old new
 
--- a question for the log is answered by entries of it
+-- What a desk says of a command brings no entries and tells nothing of its log, which is asked for
+-- at once.
+abbrev pub after_told : MirroringOf → ℕ → MirroringOf
+after_told m now =
+    mirroring m.hall (after_hurry (after_answer m.follower now None (length m.entries) 0))
+    m.entries m.talking None
+
+-- a question for the log is answered by entries of it, one for a command by what becomes of it
 abbrev pub FollowsAnswer : What → Came → ℕ → MirroringOf → MirroringOf → Type 0
+FollowsAnswer (what.Told id state) c now old new =
+    (c ≡ came.Answer false) × (new ≡ after_told old now)
 FollowsAnswer (what.Entries position len entries) c now old new =
     FollowsTold (is_within position entries) c now position len entries old new
 FollowsAnswer _ c now old new = Fails c old new
@@ -176,6 +205,13 @@ DialogueLeads (Hear c now piece) old new = HearsDesk c now piece old new
 abbrev pub hurried : MirroringOf → MirroringOf
 hurried m =
     mirroring m.hall (with_stage m.follower (hurried_stage m.follower.stage)) m.entries m.talking
+    m.awaits
+
+-- the same, and the next question is for this command
+abbrev pub awaiting : MirroringOf → ℕ → MirroringOf
+awaiting m id =
+    mirroring m.hall (with_stage m.follower (hurried_stage m.follower.stage)) m.entries m.talking
+    (Some id)
 
 -- what a mirror holds: its entries
 abbrev pub held : MirroringOf → List Entry

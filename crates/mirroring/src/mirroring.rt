@@ -1,25 +1,27 @@
 //! A mirror, the follower that says which desk is asked, and the talk with it.
 
-ghost use Rattle.std.specs.Prelude.{◌≡◌, ◌≤◌, ◌+◌, IfOk, List, length};
+ghost use Rattle.std.specs.Prelude.{◌≡◌, ◌≤◌, ◌+◌, false, IfOk, List, length};
 ghost use Rattle.following.specs.Following.{IsPlace, wait_of};
 ghost use Rattle.mirroring.specs.Mirrorings.{Acts, Asks, Fails, Follows, FollowsAnswer, Grows};
-ghost use Rattle.mirroring.specs.Mirrorings.{HearsDesk, Opens};
+ghost use Rattle.mirroring.specs.Mirrorings.{HearsDesk, Opens, after_told, awaiting};
 ghost use Rattle.mirroring.specs.Mirrorings.{hurried, is_growth, is_within, lost};
-ghost use Rattle.mirroring.specs.Mirrorings.{new_mirroring, sent_by, unsent_by};
+ghost use Rattle.mirroring.specs.Mirrorings.{new_mirroring, question_by, sent_by, unsent_by};
+ghost use Rattle.desk_talks.specs.declared.dialogue.Came.TheVariants as came;
+ghost use Rattle.wire.specs.Ranges.{IsFrame, IsId};
 
-use client::log_request;
+use client::{await_request, log_request};
 use desk_talks::{Came, Dialogue, Heard, Talk, Wish};
 use following::{Action, Follower, Stage};
 use mirror::{Mirror, Taken};
 use std::alloc::{AllocError, Global};
 use std::marker::Model;
-use wire::{Entries, What};
+use wire::{Entries, Frame, What};
 
 /// Keeps a mirror up with the desks of a hall. Its caller asks it again and again what is to be
 /// done (`act`), does it over one connection at a time, and says what came of it.
 ///
-/// A contract sees the number of the hall, the follower, the entries of the mirror, and the talk
-/// over the connection, if one is open.
+/// A contract sees the number of the hall, the follower, the entries of the mirror, the talk over
+/// the connection, if one is open, and the id of a command that the desk is to be asked for next.
 #[derive(Drop)]
 pub struct Mirroring {
     alloc: Global,
@@ -27,14 +29,20 @@ pub struct Mirroring {
     follower: Follower,
     mirror: Mirror,
     talk: Option<Talk>,
+    awaits: Option<u64>,
 }
 
+/// How long a desk is to wait for a command, in seconds, before it says that it does not have it.
+const SECONDS: u8 = 1;
+
 impl Model for Mirroring {
-    ghost use Rattle.mirroring.specs.Mirrorings.{MirroringOf, mirroring};
+    ghost use Rattle.mirroring.specs.Mirrorings.{AreIds, MirroringOf, mirroring};
 
     ghost Value = { MirroringOf };
 
-    ghost view = { λ m. mirroring m.hall m.follower m.mirror m.talk };
+    ghost view = { λ m. mirroring m.hall m.follower m.mirror m.talk m.awaits };
+
+    ghost invariant = { λ m. AreIds m.awaits };
 }
 
 /// Whether a mirror has grown, as far as is told.
@@ -64,6 +72,7 @@ impl Mirroring {
             follower: Follower::new(desks, 0),
             mirror: Mirror::new(alloc)?,
             talk: None,
+            awaits: None,
         })
     }
 
@@ -117,19 +126,30 @@ impl Mirroring {
         }
     }
 
-    /// Asks the desk that is followed for its log, from the mirror's last entry on: where the desk
-    /// has another one there, it is told apart.
+    /// What the desk that is followed is asked: for a command, or for its log from the mirror's
+    /// last entry on: where the desk has another one there, it is told apart.
+    fn question(&self) -> Frame
+        ensures question { result ≡ question_by self.now.awaits self.now }
+        ensures spelled { IsFrame result }
+    {
+        let desk = self.follower.desk();
+        match self.awaits {
+            Some(id) => await_request(self.hall, desk, id, SECONDS),
+            None => log_request(self.hall, desk, self.mirror.len().saturating_sub(1)),
+        }
+    }
+
+    /// Asks the desk that is followed.
     fn ask(&mut self) -> Wish
         ensures { Asks result self.old self.new }
     {
-        let desk = self.follower.desk();
-        let position = self.mirror.len().saturating_sub(1);
-        let question = log_request(self.hall, desk, position);
+        let question = self.question();
         let asked = match &mut self.talk {
             Some(talk) => talk.ask(self.alloc, question).is_ok(),
             None => false,
         };
         if asked {
+            self.awaits = None;
             return Wish::Write;
         }
         self.lost();
@@ -159,6 +179,7 @@ impl Mirroring {
         ensures { self.new ≡ lost self.old }
     {
         self.talk = None;
+        self.awaits = None;
         self.follower.lost();
     }
 
@@ -228,8 +249,21 @@ impl Mirroring {
                     self.fail()
                 }
             }
+            What::Told { .. } => self.say(now),
             _other => self.fail(),
         }
+    }
+
+    /// Asks for the log at once, since a desk has said what becomes of a command.
+    fn say(&mut self, now: u64) -> Came
+        ensures said { self.new ≡ after_told self.old now }
+        ensures came { result ≡ came.Answer false }
+    {
+        self.awaits = None;
+        let held = self.mirror.len();
+        self.follower.answered(now, None, held, 0);
+        self.hurry();
+        Came::Answer { changed: false }
     }
 
     /// Takes entries that a desk told, whose log is so long.
@@ -253,6 +287,17 @@ impl Mirroring {
         ensures { self.new ≡ hurried self.old }
     {
         self.follower.hurry();
+    }
+
+    /// The same, and the next question is for this command, which the log does not have yet: the
+    /// desk answers it once it stands there, or after a second, and is asked for its log at once
+    /// then. The desk has to know version 5 of the wire: another one ends the connection at it.
+    pub fn await_next(&mut self, id: u64)
+        requires { IsId id }
+        ensures { self.new ≡ awaiting self.old id }
+    {
+        self.awaits = Some(id);
+        self.hurry();
     }
 }
 

@@ -1,14 +1,20 @@
 -- What was asked, one after the other.
-use Rattle.std.proofs.Common.{◌≡◌, ◌≢◌, ◌↔◌, inl, inr, refl, sym, ap, subst, ◌∙◌, ℕ, ◌≤◌, ◌-◌, ◌+◌}
+use Rattle.std.proofs.Common.{◌≡◌, ◌≢◌, ◌↔◌, ◌⊎◌, inl, inr, refl, sym, ap, subst, ◌∙◌, ℕ, ◌≤◌, ◌-◌}
+use Rattle.std.proofs.Common.{◌+◌, get_or, take}
 use Rattle.std.proofs.Common.{List, [], ◌∷◌, ◌++◌, append_assoc, append-nil, length, length-append}
 use Rattle.std.proofs.Common.{set}
 use Rattle.std.proofs.Common.{Option, None, Some, Bool, true, false, arith, IsTrue, position, ◌<◌}
 use Rattle.std.proofs.lemmas.Bool.{eqb-false, ltb-false}
 use Rattle.std.proofs.lemmas.List.{reverse-append}
-use Rattle.std.specs.Prelude.{map, not}
+use Rattle.std.proofs.lemmas.List.{take_all, take_more}
+use Rattle.std.specs.Prelude.{map, not, ◌&&◌, is_some}
+use Rattle.answers.specs.Seen.{Seen}
+use Rattle.store.specs.declared.home.Home.{Home}
 use Rattle.polled.specs.Telling.{Tells}
-use Rattle.guarded.specs.Guarding.{Guarding, WantsRead}
-use Rattle.multiplex.specs.Musts.{Accepts, Admits, Attends, IsMove, IsWatched, MakesPlace}
+use Rattle.guarded.specs.Guarding.{Guarding, WantsRead, begun}
+use Rattle.multiplex.specs.Musts.{Accepts, Admits, Attends, IsMove, IsWatched, IsWoken, MakesPlace}
+use Rattle.multiplex.specs.Musts.{WaitsToRead}
+use Rattle.multiplex.specs.Noting.{awakes}
 use Rattle.multiplex.specs.Musts.{AsksUntil, Ends, Follows, GoesOn, Musts, NoneIsSilent, Stand}
 use Rattle.multiplex.specs.Musts.{ends_of, joined, left_at, wait_by}
 use Rattle.multiplex.specs.Requests.{Asks, Request, Accepting, Closing, Waited, Watching}
@@ -20,10 +26,12 @@ use Rattle.multiplex.specs.declared.table.Guest.{Guest}
 use Rattle.multiplex.specs.declared.table.Table.{Table}
 use Rattle.multiplex.specs.declared.table.Terms.{Terms}
 use Rattle.multiplex.specs.model.Asking.{AsksHosted, AsksMove, AsksSome, BeginsWithMove, ClosesAt}
-use Rattle.multiplex.specs.model.Asking.{IsEndsOf, IsWatchedIf, MayClose}
+use Rattle.multiplex.specs.model.Asking.{IsEndsOf, IsWatchedIf, KeepsWoken, MayClose, WakesAll}
+use Rattle.multiplex.specs.Silence.{waited_for}
 use Rattle.multiplex.specs.model.Tables.{has_number, is_silent}
-use Rattle.multiplex.proofs.Placed.{all_as, nowhere}
-use Rattle.multiplex.proofs.Shutting.{at_place}
+use Rattle.multiplex.proofs.Looking.{none_of, some_of}
+use Rattle.multiplex.proofs.Placed.{all_as, all_both, nowhere}
+use Rattle.multiplex.proofs.Shutting.{all_but, at_place}
 use Rattle.polled.proofs.Telling.{Tells-as, Tells-nil, Tells-trans}
 use Rattle.multiplex.proofs.Visits.{About}
 
@@ -100,8 +108,8 @@ begins_alone requests c later k talk h =
     (λ xs at. (xs, at, ([], sym (append-nil xs)))) h
 
 -- nobody can be watched any more
-pub hosted_unwatched : (k : ℕ) (old new : Guarding) (w : Why) (xs ys : List Request)
-    → BeginsWithMove k old xs → AsksHosted k old new (Some w) (xs ++ ys)
+pub hosted_unwatched : (k : ℕ) (old new : Guest) (w : Why) (xs ys : List Request)
+    → BeginsWithMove k old.talk xs → AsksHosted k old new (Some w) (xs ++ ys)
 hosted_unwatched k old new w xs ys h = record {
   first = h.0;
   move = h.1;
@@ -112,8 +120,9 @@ hosted_unwatched k old new w xs ys h = record {
       ∙ ap (λ (z : List Request). h.0 ++ z) (sym (append-nil (h.2.0 ++ ys)));
 }
 
-pub hosted_watched : (k : ℕ) (old new : Guarding) (xs ys : List Request)
-    → BeginsWithMove k old xs → IsWatched k new ys → AsksHosted k old new None (xs ++ ys)
+pub hosted_watched : (k : ℕ) (old new : Guest) (xs ys : List Request)
+    → BeginsWithMove k old.talk xs → IsWatched k old new ys
+    → AsksHosted k old new None (xs ++ ys)
 hosted_watched k old new xs ys h is = record {
   first = h.0;
   move = h.1;
@@ -125,11 +134,11 @@ hosted_watched k old new xs ys h is = record {
 
 -- its connection is to be ended, before it is watched
 pub hosts_ended : {C : Type 0} (requests : C → Option (List Request)) (c later : C)
-    (k : ℕ) (old new : Guarding) (w : Why)
-    → Asks requests c later (BeginsWithMove k old)
+    (k : ℕ) (old new : Guest) (w : Why)
+    → Asks requests c later (BeginsWithMove k old.talk)
     → Asks requests c later (AsksHosted k old new (Some w))
 hosts_ended requests c later k old new w h =
-    asks_as requests c later (BeginsWithMove k old) (AsksHosted k old new (Some w))
+    asks_as requests c later (BeginsWithMove k old.talk) (AsksHosted k old new (Some w))
     (λ xs at. record {
       first = at.0;
       move = at.1;
@@ -140,8 +149,8 @@ hosts_ended requests c later k old new w h =
     }) h
 
 pub hosts_unwatched : {C : Type 0} (requests : C → Option (List Request)) (c between later : C)
-    (k : ℕ) (old new : Guarding) (w : Why) (more : List Request)
-    → Asks requests c between (BeginsWithMove k old)
+    (k : ℕ) (old new : Guest) (w : Why) (more : List Request)
+    → Asks requests c between (BeginsWithMove k old.talk)
     → Tells (requests between) (requests later) more
     → Asks requests c later (AsksHosted k old new (Some w))
 hosts_unwatched requests c between later k old new w more h told = (
@@ -150,32 +159,73 @@ hosts_unwatched requests c between later k old new w more h told = (
   hosted_unwatched k old new w h.0 more h.2,
 )
 
--- it is watched for reads where it is to be read from, and only there
-watched_as : (k : ℕ) (c : Guarding) (reads writes ok : Bool) → (IsTrue reads ↔ WantsRead c)
-    → writes ≡ not reads → ok ≡ true → IsWatched k c (Watching k writes ok ∷ [])
-watched_as k c reads writes ok h is accepted = (
-  writes,
-  (λ none. h.0 (read_if reads (sym is ∙ none)), λ wants. is ∙ ap not (h.1 wants)),
-  ap (λ b. Watching k writes b ∷ []) accepted,
-)
-  where
-    read_if : (b : Bool) → not b ≡ false → b ≡ true
-    read_if true n = refl
-    read_if false n = absurd cc
+read_if : (b : Bool) → not b ≡ false → b ≡ true
+read_if true n = refl
+read_if false n = absurd cc
+
+-- an Await of it was not put off before, or is not now
+not_both : (was : Bool) (old new : Option ℕ) → was ≡ is_some old
+    → false ≡ (was && is_some new) → (old ≡ None) ⊎ (new ≡ None)
+not_both false old new before apart = inl (none_of old false before refl)
+not_both true old new before apart = inr (none_of new (is_some new) refl (sym apart))
+
+both_on : (was off : Bool) → true ≡ (was && off) → (was ≡ true) × (off ≡ true)
+both_on true off both = (refl, sym both)
+both_on false off both = absurd cc
+
+-- it is watched for reads where it waits for that, and only there
+watched_as : (k : ℕ) (old g : Guest) (was waits writes ok : Bool)
+    → was ≡ is_some old.notes.until → false ≡ (was && is_some g.notes.until)
+    → (IsTrue waits ↔ WaitsToRead g) → writes ≡ not waits → ok ≡ true
+    → IsWatched k old g (Watching k writes ok ∷ [])
+watched_as k old g was waits writes ok before apart h is accepted =
+    inr (
+      not_both was old.notes.until g.notes.until before apart,
+      (
+        writes,
+        (λ none. h.0 (read_if waits (sym is ∙ none)), λ at. is ∙ ap not (h.1 at)),
+        ap (λ b. Watching k writes b ∷ []) accepted,
+      ),
+    )
 
 pub hosts_watched : {C : Type 0} (requests : C → Option (List Request)) (c between later : C)
-    (k : ℕ) (old new : Guarding) (reads writes ok : Bool)
-    → Asks requests c between (BeginsWithMove k old)
+    (k : ℕ) (old new : Guest) (was waits writes ok : Bool)
+    → Asks requests c between (BeginsWithMove k old.talk)
     → Tells (requests between) (requests later) (Watching k writes ok ∷ [])
-    → (IsTrue reads ↔ WantsRead new) → writes ≡ not reads → ok ≡ true
+    → was ≡ is_some old.notes.until → false ≡ (was && is_some new.notes.until)
+    → (IsTrue waits ↔ WaitsToRead new) → writes ≡ not waits → ok ≡ true
     → Asks requests c later (AsksHosted k old new None)
-hosts_watched requests c between later k old new reads writes ok h told waits is accepted = (
-  h.0 ++ Watching k writes ok ∷ [],
-  Tells-trans (requests c) (requests between) (requests later) h.0 (Watching k writes ok ∷ [])
-      h.1 told,
-  hosted_watched k old new h.0 (Watching k writes ok ∷ []) h.2
-      (watched_as k new reads writes ok waits is accepted),
-)
+hosts_watched requests c between later k old new was waits writes ok h told before apart reads is
+    accepted = (
+      h.0 ++ Watching k writes ok ∷ [],
+      Tells-trans (requests c) (requests between) (requests later) h.0
+          (Watching k writes ok ∷ []) h.1 told,
+      hosted_watched k old new h.0 (Watching k writes ok ∷ []) h.2
+          (watched_as k old new was waits writes ok before apart reads is accepted),
+    )
+
+-- nothing is asked where an Await was put off, and still is
+pub hosts_off : {C : Type 0} (requests : C → Option (List Request)) (c later : C) (k : ℕ)
+    (old new : Guest) (was : Bool)
+    → Asks requests c later (BeginsWithMove k old.talk)
+    → was ≡ is_some old.notes.until → true ≡ (was && is_some new.notes.until)
+    → Asks requests c later (AsksHosted k old new None)
+hosts_off requests c later k old new was h before both =
+    let on = both_on was (is_some new.notes.until) both in
+    asks_as requests c later (BeginsWithMove k old.talk) (AsksHosted k old new None)
+    (λ xs at. record {
+      first = at.0;
+      move = at.1;
+      more = at.2.0;
+      last = [];
+      watched =
+          inl (
+            some_of old.notes.until was before on.0,
+            some_of new.notes.until (is_some new.notes.until) refl on.1,
+            refl,
+          );
+      all = at.2.1 ∙ ap (λ (z : List Request). at.0 ++ z) (sym (append-nil at.2.0));
+    }) h
 
 -- ---- a client is named
 
@@ -196,7 +246,7 @@ pub attends_stay : (k place : ℕ) (table : Table) (new : List Guest) (old later
     (before after : List Guest) (asked : List Request)
     → About table place old later before after → old.number ≡ k
     → new ≡ set table.guests.items place later
-    → AsksHosted old.number old.talk later.talk None asked
+    → AsksHosted old.number old later None asked
     → Attends k table.guests.items new asked
 attends_stay k place table new old later before after asked split number is h =
     inr
@@ -215,7 +265,7 @@ attends_stay k place table new old later before after asked split number is h =
           (record {
             later = later;
             stays = is ∙ split.put;
-            watched = subst (λ n. IsWatched n later.talk h.last) number h.watched;
+            watched = subst (λ n. IsWatched n old later h.last) number h.watched;
           });
       all = h.all;
     })
@@ -225,7 +275,7 @@ pub attends_leave : (k place : ℕ) (w : Why) (table mid : Table) (new : List Gu
     → About table place old later before after → old.number ≡ k → later.number ≡ old.number
     → mid.guests.items ≡ set table.guests.items place later
     → new ≡ before ++ after
-    → AsksHosted old.number old.talk later.talk (Some w) xs
+    → AsksHosted old.number old later (Some w) xs
     → ClosesAt place mid.guests.items ys
     → Attends k table.guests.items new (xs ++ ys)
 attends_leave k place w table mid new old later before after xs ys split number same is left h
@@ -301,9 +351,85 @@ pub none_silent : (patience : ℕ) (table : Table)
     → NoneIsSilent patience table
 none_silent patience table none =
     all_as (λ g. is_silent patience table.time g ≡ false)
-    (λ (g : Guest). table.time - g.ready ≤ patience) table.guests.items
-    (λ g apart. ltb-false patience (table.time - g.ready) apart)
+    (λ (g : Guest). table.time - g.ready ≤ waited_for patience (begun g.talk)) table.guests.items
+    (λ g apart. ltb-false (waited_for patience (begun g.talk)) (table.time - g.ready) apart)
     (nowhere (is_silent patience table.time) table.guests.items none)
+
+-- ---- those are woken whose Await is to be answered
+
+woken_more : (home : Home) (x : Seen) (time : ℕ) (xs ys : List Request) (g : Guest)
+    → IsWoken home x time xs g → IsWoken home x time (xs ++ ys) g
+woken_more home x time xs ys g h awake =
+    let at = h awake in (
+      at.0,
+      at.1,
+      at.2 ++ ys,
+      ap (λ (z : List Request). z ++ ys) at.3
+          ∙ append_assoc at.0 (Watching g.number true at.1 ∷ at.2) ys,
+    )
+
+pub all_woken_more : (home : Home) (x : Seen) (time : ℕ) (guests : List Guest)
+    (xs ys : List Request)
+    → WakesAll home x time guests xs → WakesAll home x time guests (xs ++ ys)
+all_woken_more home x time guests xs ys h =
+    all_as (IsWoken home x time xs) (IsWoken home x time (xs ++ ys)) guests
+    (λ g at. woken_more home x time xs ys g at) h
+
+woken_then : (home : Home) (x : Seen) (time : ℕ) (xs ys : List Request) (g : Guest)
+    → IsWoken home x time ys g → IsWoken home x time (xs ++ ys) g
+woken_then home x time xs ys g h awake =
+    let at = h awake in (
+      xs ++ at.0,
+      at.1,
+      at.2,
+      ap (λ (z : List Request). xs ++ z) at.3
+          ∙ sym (append_assoc xs at.0 (Watching g.number true at.1 ∷ at.2)),
+    )
+
+-- the first of these were woken, and one more
+wakes_next : (home : Home) (x : Seen) (time : ℕ) (guests : List Guest) (i : ℕ) (g : Guest)
+    (xs ys : List Request) → i < length guests → g ≡ get_or guests i g
+    → WakesAll home x time (take i guests) xs → IsWoken home x time ys g
+    → WakesAll home x time (take (i + 1) guests) (xs ++ ys)
+wakes_next home x time guests i g xs ys within is h one =
+    subst (λ z. WakesAll home x time z (xs ++ ys)) (sym (take_more guests i g within))
+    (all_both (IsWoken home x time (xs ++ ys)) (take i guests) (get_or guests i g ∷ [])
+    (all_woken_more home x time (take i guests) xs ys h)
+    (subst (λ z. IsWoken home x time (xs ++ ys) z) is (woken_then home x time xs ys g one), tt))
+
+pub wakes_one : {C : Type 0} (requests : C → Option (List Request)) (c between later : C)
+    (home : Home) (x : Seen) (time : ℕ) (guests : List Guest) (i : ℕ) (g : Guest)
+    → i < length guests → g ≡ get_or guests i g
+    → Asks requests c between (WakesAll home x time (take i guests))
+    → Asks requests between later (λ asked. IsWoken home x time asked g)
+    → Asks requests c later (WakesAll home x time (take (i + 1) guests))
+wakes_one requests c between later home x time guests i g within is h more =
+    asks_both requests c between later (WakesAll home x time (take i guests))
+    (λ asked. IsWoken home x time asked g) (WakesAll home x time (take (i + 1) guests))
+    (λ xs ys at one. wakes_next home x time guests i g xs ys within is at one) h more
+
+-- nobody is woken whose Await is not to be answered
+pub asleep : {C : Type 0} (requests : C → Option (List Request)) (c : C) (home : Home)
+    (x : Seen) (time : ℕ) (g : Guest) → false ≡ awakes home x time g.talk g.notes
+    → Asks requests c c (λ asked. IsWoken home x time asked g)
+asleep requests c home x time g is =
+    asks_none requests c (λ asked. IsWoken home x time asked g)
+    (λ on. let n : false ≡ true = is ∙ on in absurd cc)
+
+pub wakes_all : {C : Type 0} (requests : C → Option (List Request)) (c later : C) (home : Home)
+    (x : Seen) (time : ℕ) (guests : List Guest) (i : ℕ) → length guests ≤ i
+    → Asks requests c later (WakesAll home x time (take i guests))
+    → Asks requests c later (WakesAll home x time guests)
+wakes_all requests c later home x time guests i whole h =
+    asks_as requests c later (WakesAll home x time (take i guests)) (WakesAll home x time guests)
+    (λ xs at. subst (λ z. WakesAll home x time z xs) (take_all i guests whole) at) h
+
+pub keeps_woken : (guests before : List Guest) (gone : Guest) (after left : List Guest)
+    → guests ≡ before ++ gone ∷ after → left ≡ before ++ after → KeepsWoken guests left
+keeps_woken guests before gone after left found is home x time asked h =
+    subst (λ z. WakesAll home x time z asked) (sym is)
+    (all_but (IsWoken home x time asked) before gone after
+    (subst (λ z. WakesAll home x time z asked) found h))
 
 -- ---- all are ended
 
@@ -345,17 +471,17 @@ none_left (one ∷ guests) none = let some : false ≡ true = none (omega arith)
 
 -- it was waited as long as may be, and then more was asked
 pub musts_ask : {C L : Type 0} (requests : C → Option (List Request))
-    (due : L → ℕ → Option ℕ → Type 0) (kept : L → Option (List ℕ)) (t : Terms)
-    (over : Option Over) (old new : Table) (links after : L) (c between later : C) (wait : ℕ)
-    (ready : Ready) (more : List Request)
+    (due : L → ℕ → Option ℕ → Type 0) (kept : L → Option (List ℕ)) (t : Terms) (home : Home)
+    (x : Seen) (over : Option Over) (old new : Table) (links after : L) (c between later : C)
+    (wait : ℕ) (ready : Ready) (more : List Request)
     → ((left : Option ℕ) × due links old.time left
     × (wait ≡ wait_by left (left_at old.own.ticker old.time)))
     → Tells (requests c) (requests between) (Waited wait ready ∷ [])
     → Tells (requests between) (requests later) more
-    → Follows t over old new (kept after) ready more
-    → Asks requests c later (Musts due kept t over old new links after)
-musts_ask requests due kept t over old new links after c between later wait ready more h told k
-    follows = (
+    → Follows t home x over old new (kept after) ready more
+    → Asks requests c later (Musts due kept t home x over old new links after)
+musts_ask requests due kept t home x over old new links after c between later wait ready more h told
+    k follows = (
       Waited wait ready ∷ more,
       Tells-trans (requests c) (requests between) (requests later) (Waited wait ready ∷ []) more
           told k,
@@ -372,18 +498,18 @@ musts_ask requests due kept t over old new links after c between later wait read
 -- ---- serving goes on
 
 pub goes_more : {L : Type 0} (due : L → ℕ → Option ℕ → Type 0) (kept : L → Option (List ℕ))
-    (t : Terms) (a m b : Stand L) (steps : List (List Request)) (asked : List Request)
-    → GoesOn due kept t a steps m
-    → Musts due kept t None m.table b.table m.links b.links asked
-    → GoesOn due kept t a (steps ++ asked ∷ []) b
-goes_more {L} due kept t a m b [] asked h k = (
+    (t : Terms) (home : Home) (a m b : Stand L) (steps : List (List Request)) (asked : List Request)
+    → GoesOn due kept t home a steps m
+    → Musts due kept t home b.seen None m.table b.table m.links b.links asked
+    → GoesOn due kept t home a (steps ++ asked ∷ []) b
+goes_more {L} due kept t home a m b [] asked h k = (
   b,
-  subst (λ (s : Stand L). Musts due kept t None s.table b.table s.links b.links asked)
+  subst (λ (s : Stand L). Musts due kept t home b.seen None s.table b.table s.links b.links asked)
       (sym h) k,
   refl,
 )
-goes_more due kept t a m b (one ∷ steps) asked h k =
-    (h.0, h.1, goes_more due kept t h.0 m b steps asked h.2 k)
+goes_more due kept t home a m b (one ∷ steps) asked h k =
+    (h.0, h.1, goes_more due kept t home h.0 m b steps asked h.2 k)
 
 joined_more : (steps : List (List Request)) (asked : List Request)
     → joined (steps ++ asked ∷ []) ≡ joined steps ++ asked
@@ -394,27 +520,28 @@ joined_more (one ∷ steps) asked =
 
 -- what was asked in so many steps
 abbrev pub AsksSteps : {C L : Type 0} → (C → Option (List Request))
-    → (L → ℕ → Option ℕ → Type 0) → (L → Option (List ℕ)) → Terms → ℕ → Stand L → Stand L → C → C
-    → Type 0
-AsksSteps requests due kept t count a b c later =
-    (steps : List (List Request)) × (length steps ≡ count) × GoesOn due kept t a steps b
+    → (L → ℕ → Option ℕ → Type 0) → (L → Option (List ℕ)) → Terms → Home → ℕ → Stand L → Stand L
+    → C → C → Type 0
+AsksSteps requests due kept t home count a b c later =
+    (steps : List (List Request)) × (length steps ≡ count) × GoesOn due kept t home a steps b
     × Tells (requests c) (requests later) (joined steps)
 
 pub steps_none : {C L : Type 0} (requests : C → Option (List Request))
-    (due : L → ℕ → Option ℕ → Type 0) (kept : L → Option (List ℕ)) (t : Terms) (a : Stand L)
-    (c : C) → AsksSteps requests due kept t 0 a a c c
-steps_none requests due kept t a c = ([], refl, refl, Tells-nil (requests c))
+    (due : L → ℕ → Option ℕ → Type 0) (kept : L → Option (List ℕ)) (t : Terms) (home : Home)
+    (a : Stand L) (c : C) → AsksSteps requests due kept t home 0 a a c c
+steps_none requests due kept t home a c = ([], refl, refl, Tells-nil (requests c))
 
 pub steps_more : {C L : Type 0} (requests : C → Option (List Request))
-    (due : L → ℕ → Option ℕ → Type 0) (kept : L → Option (List ℕ)) (t : Terms) (count : ℕ)
-    (a m b : Stand L) (c between later : C)
-    → AsksSteps requests due kept t count a m c between
-    → Asks requests between later (Musts due kept t None m.table b.table m.links b.links)
-    → AsksSteps requests due kept t (count + 1) a b c later
-steps_more requests due kept t count a m b c between later h k = (
+    (due : L → ℕ → Option ℕ → Type 0) (kept : L → Option (List ℕ)) (t : Terms) (home : Home)
+    (count : ℕ) (a m b : Stand L) (c between later : C)
+    → AsksSteps requests due kept t home count a m c between
+    → Asks requests between later
+    (Musts due kept t home b.seen None m.table b.table m.links b.links)
+    → AsksSteps requests due kept t home (count + 1) a b c later
+steps_more requests due kept t home count a m b c between later h k = (
   h.0 ++ k.0 ∷ [],
   length-append h.0 (k.0 ∷ []) ∙ ap (λ n. n + 1) h.1,
-  goes_more due kept t a m b h.0 k.0 h.2 k.2,
+  goes_more due kept t home a m b h.0 k.0 h.2 k.2,
   Tells-as (requests c) (requests later) (joined h.0 ++ k.0) (joined (h.0 ++ k.0 ∷ []))
       (sym (joined_more h.0 k.0))
       (Tells-trans (requests c) (requests between) (requests later) (joined h.0) k.0 h.3 k.1),
@@ -422,12 +549,12 @@ steps_more requests due kept t count a m b c between later h k = (
 
 -- serving is over without a further step
 pub until_here : {C L : Type 0} (requests : C → Option (List Request))
-    (due : L → ℕ → Option ℕ → Type 0) (kept : L → Option (List ℕ)) (t : Terms) (over : Over)
-    (count : ℕ) (a m : Stand L) (c later : C)
-    → AsksSteps requests due kept t count a m c later
-    → Ends due kept t over count m m []
-    → Asks requests c later (AsksUntil due kept t over a m)
-until_here requests due kept t over count a m c later h ends = (
+    (due : L → ℕ → Option ℕ → Type 0) (kept : L → Option (List ℕ)) (t : Terms) (home : Home)
+    (over : Over) (count : ℕ) (a m : Stand L) (c later : C)
+    → AsksSteps requests due kept t home count a m c later
+    → Ends due kept t home over count m m []
+    → Asks requests c later (AsksUntil due kept t home over a m)
+until_here requests due kept t home over count a m c later h ends = (
   joined h.0,
   h.3,
   record {
@@ -435,20 +562,20 @@ until_here requests due kept t over count a m c later h ends = (
     mid = m;
     last = [];
     goes = h.2;
-    ends = subst (λ n. Ends due kept t over n m m []) (sym h.1) ends;
+    ends = subst (λ n. Ends due kept t home over n m m []) (sym h.1) ends;
     all = sym (append-nil (joined h.0));
   },
 )
 
 -- or by one
 pub until_step : {C L : Type 0} (requests : C → Option (List Request))
-    (due : L → ℕ → Option ℕ → Type 0) (kept : L → Option (List ℕ)) (t : Terms) (over : Over)
-    (count : ℕ) (a m b : Stand L) (c between later : C)
-    → AsksSteps requests due kept t count a m c between
+    (due : L → ℕ → Option ℕ → Type 0) (kept : L → Option (List ℕ)) (t : Terms) (home : Home)
+    (over : Over) (count : ℕ) (a m b : Stand L) (c between later : C)
+    → AsksSteps requests due kept t home count a m c between
     → Asks requests between later
-    (Musts due kept t (Some over) m.table b.table m.links b.links)
-    → Asks requests c later (AsksUntil due kept t over a b)
-until_step requests due kept t over count a m b c between later h k = (
+    (Musts due kept t home b.seen (Some over) m.table b.table m.links b.links)
+    → Asks requests c later (AsksUntil due kept t home over a b)
+until_step requests due kept t home over count a m b c between later h k = (
   joined h.0 ++ k.0,
   Tells-trans (requests c) (requests between) (requests later) (joined h.0) k.0 h.3 k.1,
   record {

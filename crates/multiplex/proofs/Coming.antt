@@ -5,7 +5,7 @@ use Rattle.serving.specs.Making.{Way}
 use Rattle.multiplex.specs.Happenings.{Happened}
 use Rattle.multiplex.specs.Passing.{Change, Changed, Changes, Clock, Comes, IsServedEach, Lobby}
 use Rattle.multiplex.specs.Passing.{NoSocket, Pass, Room, Shut, Step, Stops, Stray, Takes, Ticked}
-use Rattle.multiplex.specs.Passing.{TurnedAway, Visit}
+use Rattle.multiplex.specs.Passing.{TurnedAway, Unwatched, Visit}
 use Rattle.multiplex.specs.declared.ends.ServedEach.{ServedEach}
 use Rattle.multiplex.specs.declared.table.Terms.{Terms}
 
@@ -15,10 +15,11 @@ HasFew t l = l.next ≤ t.most
 few_changed : (home : Home) (t : Terms) (c : Change) (a b : Lobby)
     → Changes home t c a b → HasFew t a → HasFew t b
 few_changed home t (Comes k random) a b h few =
-    subst (λ l. HasFew t l) (sym h.enters) (omega (arith, h.wanted))
+    subst (λ l. HasFew t l) (sym h.1.enters) (omega (arith, h.1.wanted))
 few_changed home t (TurnedAway k random) a b h few =
     subst (λ l. HasFew t l) (sym h.enters) (omega (arith, h.wanted))
 few_changed home t NoSocket a b h few = subst (λ l. HasFew t l) (sym h.1) few
+few_changed home t (Unwatched k) a b h few = subst (λ l. HasFew t l) (sym h.1) few
 few_changed home t (Stray k) a b h few = subst (λ l. HasFew t l) (sym h.2) few
 few_changed home t (Shut k w) a b h few = subst (λ l. HasFew t l) (sym h.3.left) few
 few_changed home t (Stops e) a b h few = subst (λ l. HasFew t l) (sym h.2) few

@@ -27,11 +27,11 @@ use Rattle.multiplex.specs.EachClient.{AreDoneInTurn, Deed, EachClientIsServed, 
 use Rattle.multiplex.specs.EachClient.{came_with, frames_in, gave, own_ticks, point_in, sides_at}
 use Rattle.multiplex.specs.EachClient.{ticks_of, took}
 use Rattle.multiplex.specs.Happenings.{Closed, Happened, Round}
+use Rattle.multiplex.specs.Noting.{fresh_notes}
 use Rattle.multiplex.specs.Passing.{Change, Changed, Changes, Clock, Comes, Lobby, NoSocket, Pass}
 use Rattle.multiplex.specs.Passing.{Room, Shut, Step, Stops, Stray, Takes, Ticked, TicksBy}
-use Rattle.multiplex.specs.Passing.{TurnedAway, Visit, Visits, guest, lobby, staying, told}
-use Rattle.multiplex.specs.Passing.{told_all}
-use Rattle.multiplex.specs.Passing.{told_change, told_end, told_why, with_node}
+use Rattle.multiplex.specs.Passing.{TurnedAway, Unwatched, Visit, Visits, guest, lobby, staying}
+use Rattle.multiplex.specs.Passing.{told, told_all, told_change, told_end, told_why, with_node}
 use Rattle.multiplex.specs.declared.ends.Over.{Over}
 use Rattle.multiplex.specs.declared.ends.Over.TheVariants as over
 use Rattle.multiplex.specs.declared.ends.Why.{Why}
@@ -197,22 +197,26 @@ after_change : {V : Type 0} {way : Way V} (home : Home) (t : Terms) (before : Li
 after_change home t before frames guards (Comes k random) a b seen outside h s each =
     let l = a.lobby in
     let new = fresh_guard t.doors random home t.wire in
+    let notes = fresh_notes h.0 in
     let left : b.lobby
-    ≡ lobby (l.guests ++ guest l.next new l.time ∷ []) (l.next + 1) l.time l.own l.spent None
+    ≡ lobby (l.guests ++ guest l.next new notes l.time ∷ []) (l.next + 1) l.time l.own l.spent
+    l.differs None
     = subst
     (λ n.
-    b.lobby ≡ lobby (l.guests ++ guest n new l.time ∷ []) (l.next + 1) l.time l.own l.spent None)
-    h.number h.enters in
+    b.lobby
+    ≡ lobby (l.guests ++ guest n new notes l.time ∷ []) (l.next + 1) l.time l.own l.spent l.differs
+    None)
+    h.1.number h.1.enters in
     arrived home t before frames a b (told_change (Comes k random)) (put k new guards) seen outside
     (subst
     (λ n. Arrived home t before frames b.lobby (told_change (Comes n random)) (put n new guards))
-    (sym h.number)
+    (sym h.1.number)
     (record {
       stands =
           subst
           (λ (z : Lobby). StandsIn home t.wire (before ++ told_change (Comes l.next random))
           (put l.next new guards) z) (sym left)
-          (one_more home t.wire t.doors random before guards l.guests l.next l.time s);
+          (one_more home t.wire t.doors random before guards l.guests l.next notes l.time s);
       each =
           came_behind home t.wire t.doors random l.next before [] frames guards
           (s.fresh l.next (omega arith)) nothing_gives each;
@@ -241,6 +245,10 @@ after_change home t before frames guards (TurnedAway k random) a b seen outside 
     }))
 after_change home t before frames guards NoSocket a b seen outside h s each =
     stays_so home t before frames guards a b (told_change NoSocket) seen outside
+    (λ k. record { gave = refl; took = refl; earlier = refl })
+    (subst (λ (l : Lobby). StandsIn home t.wire before guards l) (sym h.1) s) each
+after_change home t before frames guards (Unwatched j) a b seen outside h s each =
+    stays_so home t before frames guards a b (told_change (Unwatched j)) seen outside
     (λ k. record { gave = refl; took = refl; earlier = refl })
     (subst (λ (l : Lobby). StandsIn home t.wire before guards l) (sym h.1) s) each
 after_change home t before frames guards (Stray j) a b seen outside h s each =

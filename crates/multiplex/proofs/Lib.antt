@@ -1,5 +1,6 @@
 pub mod Telling
 pub mod Looking
+pub mod Noted
 pub mod Placed
 pub mod Walking
 pub mod Shutting

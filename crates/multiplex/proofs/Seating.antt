@@ -12,6 +12,7 @@ use Rattle.wire.specs.declared.values.Version.{Version}
 use Rattle.multiplex.specs.EachClient.{came_with}
 use Rattle.multiplex.specs.Happenings.{Happened, Came}
 use Rattle.multiplex.specs.Passing.{Lobby, guest}
+use Rattle.multiplex.specs.declared.notes.Notes.{Notes}
 use Rattle.multiplex.specs.declared.table.Guest.{Guest}
 use Rattle.multiplex.proofs.Apart.{Apart, Below, Other, instead, one_behind, others, without}
 use Rattle.multiplex.proofs.Giving.{came_with-both, first_there}
@@ -193,16 +194,16 @@ arrives home wire doors random told js guards guests next none h =
     }
 
 pub one_more : (home : Home) (wire : Version) (doors : Doors) (random : List ℕ)
-    (told : List Happened) (guards : ℕ → Guarding) (guests : List Guest) (next time : ℕ)
-    → Stands home wire told guards guests next
+    (told : List Happened) (guards : ℕ → Guarding) (guests : List Guest) (next : ℕ) (notes : Notes)
+    (time : ℕ) → Stands home wire told guards guests next
     → Stands home wire (told ++ Came next random ∷ [])
     (put next (fresh_guard doors random home wire) guards)
-    (guests ++ guest next (fresh_guard doors random home wire) time ∷ []) (next + 1)
-one_more home wire doors random told guards guests next time h =
+    (guests ++ guest next (fresh_guard doors random home wire) notes time ∷ []) (next + 1)
+one_more home wire doors random told guards guests next notes time h =
     let g = fresh_guard doors random home wire in
     let all = arrives home wire doors random told [] guards guests next (λ k. refl) h in
     let here :
-    Hosted (told ++ Came next random ∷ []) (put next g guards) (guest next g time) =
+    Hosted (told ++ Came next random ∷ []) (put next g guards) (guest next g notes time) =
     record {
       at = put_same next g guards;
       came =

@@ -13,7 +13,7 @@ use Rattle.wire.specs.declared.frame.What.{What}
 use Rattle.wire.specs.declared.frame.What.TheVariants as what
 use Rattle.multiplex.specs.Passing.{AreMessages, Change, Changed, Changes, Clock, Comes, Lobby}
 use Rattle.multiplex.specs.Passing.{NoSocket, Pass, Room, Shares, SharesLast, SharesOne, Shut}
-use Rattle.multiplex.specs.Passing.{Step, Stops, Stray, Ticked, TurnedAway, Visit}
+use Rattle.multiplex.specs.Passing.{Step, Stops, Stray, Ticked, TurnedAway, Unwatched, Visit}
 use Rattle.multiplex.specs.SharedTurns.{AreShared, TurnsAreShared, begun_by, count_dear}
 use Rattle.multiplex.specs.SharedTurns.{count_others, rounds, visits}
 use Rattle.multiplex.specs.declared.table.Terms.{Terms}
@@ -25,9 +25,10 @@ one_if false = 0
 
 same_spent : (home : Home) (t : Terms) (c : Change) (a b : Lobby) → Changes home t c a b
     → b.spent ≡ a.spent
-same_spent home t (Comes k random) a b h = ap (λ (l : Lobby). l.spent) h.enters
+same_spent home t (Comes k random) a b h = ap (λ (l : Lobby). l.spent) h.1.enters
 same_spent home t (TurnedAway k random) a b h = ap (λ (l : Lobby). l.spent) h.enters
 same_spent home t NoSocket a b h = ap (λ (l : Lobby). l.spent) h.1
+same_spent home t (Unwatched k) a b h = ap (λ (l : Lobby). l.spent) h.1
 same_spent home t (Stray k) a b h = ap (λ (l : Lobby). l.spent) h.2
 same_spent home t (Shut k w) a b h = ap (λ (l : Lobby). l.spent) h.3.left
 same_spent home t (Stops e) a b h = ap (λ (l : Lobby). l.spent) h.2
@@ -84,6 +85,7 @@ small (what.Behind len) h = refl
 small (what.Decided pos es) h = refl
 small (what.Submit e) h = refl
 small (what.Ask id) h = refl
+small (what.Await id seconds) h = refl
 small what.Tick h = refl
 small what.Stop h = refl
 small what.Status h = refl

@@ -1,16 +1,17 @@
 -- Changes of which the node knows nothing, one after the other.
 use Rattle.std.proofs.Common.{◌≡◌, ◌⊎◌, inl, inr, refl, sym, ap, subst, ◌∙◌, ℕ, ◌+◌, ◌<◌, ◌≤◌}
 use Rattle.std.proofs.Common.{List, [], ◌∷◌, ◌++◌, append-nil, length, length-append, Option, None}
-use Rattle.std.proofs.Common.{Some, arith, get_or, true, ◌-◌, position, Bool}
+use Rattle.std.proofs.Common.{Some, arith, get_or, true, false, ◌-◌, position, Bool}
 use Rattle.std.proofs.lemmas.Bool.{ltb-true}
 use Rattle.std.proofs.lemmas.List.Quantifiers.{position-Some}
 use Rattle.store.specs.declared.home.Home.{Home}
 use Rattle.wire.specs.declared.values.Version.{Version}
-use Rattle.guarded.specs.Guarding.{fresh_guard}
+use Rattle.guarded.specs.Guarding.{begun, fresh_guard}
 use Rattle.std.specs.List.{AllByRecursion}
 use Rattle.polled.specs.Telling.{Tells}
-use Rattle.multiplex.specs.Happenings.{Happened, Came, Closed, Full}
+use Rattle.multiplex.specs.Happenings.{Happened, Broke, Came, Closed, Full, watched}
 use Rattle.multiplex.specs.Passing.{Change, Changes, Comes, Lobby, NoSocket, Shut, TurnedAway}
+use Rattle.multiplex.specs.Passing.{Unwatched}
 use Rattle.multiplex.specs.Passing.{Enters, IsCause, guest, lobby, told_change}
 use Rattle.multiplex.specs.declared.dear.DearTurns.{DearTurns}
 use Rattle.multiplex.specs.declared.ends.Over.{Over}
@@ -22,7 +23,12 @@ use Rattle.multiplex.specs.declared.table.Table.{Table}
 use Rattle.multiplex.specs.declared.table.Terms.{Terms}
 use Rattle.multiplex.specs.model.Scenes.{AltersSome, ChangeAll, Empties, IsShut, Loses}
 use Rattle.multiplex.specs.model.Scenes.{Welcomes}
+use Rattle.answers.specs.Seen.{Seen}
+use Rattle.wire.specs.Ranges.{IsDifference}
+use Rattle.wire.specs.declared.standing.Difference.{Difference}
+use Rattle.multiplex.specs.Noting.{first_notes}
 use Rattle.multiplex.specs.model.Scenes.{lobby_of}
+use Rattle.multiplex.specs.Silence.{waited_for}
 use Rattle.multiplex.specs.model.Tables.{AreKept, IsKept, IsLongestAt, KeepsAll, KeepsKept}
 use Rattle.multiplex.specs.model.Tables.{MakesRoom, is_silent}
 use Rattle.multiplex.proofs.Placed.{all_back, all_both, all_front}
@@ -30,10 +36,10 @@ use Rattle.polled.proofs.Telling.{Tells-as, Tells-trans}
 use Rattle.multiplex.proofs.Telling.{changes_told_both}
 
 pub lobby_same : {gs hs : List Guest} {n m s t : ℕ} {w v : OwnTicks} {x y : Bool}
-    {o p : Option Over}
-    → gs ≡ hs → n ≡ m → s ≡ t → w ≡ v → x ≡ y → o ≡ p
-    → lobby gs n s w x o ≡ lobby hs m t v y p
-lobby_same g n s w x o = cc
+    {d e : Option Difference} {o p : Option Over}
+    → gs ≡ hs → n ≡ m → s ≡ t → w ≡ v → x ≡ y → d ≡ e → o ≡ p
+    → lobby gs n s w x d o ≡ lobby hs m t v y e p
+lobby_same g n s w x d o = cc
 
 pub spent_same : (a b : DearTurns) → a ≡ b → a.spent ≡ b.spent
 spent_same a b is = ap (λ (d : DearTurns). d.spent) is
@@ -104,7 +110,8 @@ shuts_one happened home t w over old new c later before after gone cause h = (
           number = refl;
           cause = cause;
           left =
-              lobby_same h.left h.next h.time h.own (spent_same new.dear old.dear h.dear) h.ends;
+              lobby_same h.left h.next h.time h.own (spent_same new.dear old.dear h.dear)
+              h.differs h.ends;
         },
       ),
       refl,
@@ -132,9 +139,13 @@ all_but P xs x ys h =
 pub shut_keeps : {C : Type 0} (happened : C → Option (List Happened)) (place : ℕ)
     (over : Option Over) (old new : Table) (c later : C)
     → IsShut happened place over old new c later → KeepsAll old new
-shut_keeps happened place over old new c later h home wire kept =
-    subst (λ z. AreKept home wire z) (sym h.4.left)
-    (all_but (IsKept home wire) h.0 h.2 h.1 (subst (λ z. AreKept home wire z) h.4.found kept))
+shut_keeps happened place over old new c later h home wire kept = record {
+  guests =
+      subst (λ z. AllByRecursion (IsKept home wire) z) (sym h.4.left)
+      (all_but (IsKept home wire) h.0 h.2 h.1
+      (subst (λ z. AllByRecursion (IsKept home wire) z) h.4.found kept.guests));
+  differs = subst (λ z. IsDifference z) (sym h.4.differs) kept.differs;
+}
 
 pub keeps_both : (home : Home) (wire : Version) (old mid new : Table)
     → KeepsKept home wire old mid → KeepsKept home wire mid new → KeepsKept home wire old new
@@ -143,33 +154,38 @@ keeps_both home wire old mid new h k kept = k (h kept)
 -- ---- a client comes
 
 pub welcome_keeps : {C : Type 0} (happened : C → Option (List Happened)) (home : Home)
-    (t : Terms) (random : List ℕ) (old new : Table) (c later : C)
-    → Welcomes happened home t random old new c later → KeepsKept home t.wire old new
-welcome_keeps happened home t random old new c later h kept = either h.either
+    (t : Terms) (random : List ℕ) (x : Seen) (old new : Table) (c later : C)
+    → AllByRecursion (λ (len : ℕ). len ≤ 65536) x.told
+    → Welcomes happened home t random x old new c later → KeepsKept home t.wire old new
+welcome_keeps happened home t random x old new c later most h kept = record {
+  guests = either h.either;
+  differs = subst (λ z. IsDifference z) (sym h.differs) kept.differs;
+}
   where
     either :
         ((new.guests.items
         ≡ old.guests.items
-        ++ guest old.next (fresh_guard t.doors random home t.wire) old.time ∷ [])
+        ++ guest old.next (fresh_guard t.doors random home t.wire) (first_notes x) old.time ∷ [])
         × Tells (happened c) (happened later) [])
         ⊎ ((new.guests.items ≡ old.guests.items)
         × Tells (happened c) (happened later) (Closed old.next ∷ []))
-        → AreKept home t.wire new.guests.items
+        → AllByRecursion (IsKept home t.wire) new.guests.items
     either (inl k) =
-        subst (λ z. AreKept home t.wire z) (sym k.0)
-        (all_both (IsKept home t.wire) old.guests.items _ kept (
-          record { home = refl; wire = refl },
+        subst (λ z. AllByRecursion (IsKept home t.wire) z) (sym k.0)
+        (all_both (IsKept home t.wire) old.guests.items _ kept.guests (
+          record { home = refl; wire = refl; known = most },
           tt,
         ))
-    either (inr k) = subst (λ z. AreKept home t.wire z) (sym k.0) kept
+    either (inr k) =
+        subst (λ z. AllByRecursion (IsKept home t.wire) z) (sym k.0) kept.guests
 
 pub enters : {C : Type 0} (happened : C → Option (List Happened)) (home : Home) (t : Terms)
-    (random : List ℕ) (old new : Table) (c between later : C)
+    (random : List ℕ) (x : Seen) (old new : Table) (c between later : C)
     → old.next < t.most → length old.guests.items < 512
     → Tells (happened c) (happened between) (Came old.next random ∷ [])
-    → Welcomes happened home t random old new between later
+    → Welcomes happened home t random x old new between later
     → AltersSome happened home t None old new c later
-enters happened home t random old new c between later wanted room told h = either h.either
+enters happened home t random x old new c between later wanted room told h = either h.either
   where
     comes : (more : List Guest) → new.guests.items ≡ old.guests.items ++ more
         → Enters t old.next more (lobby_of old None) (lobby_of new None)
@@ -178,13 +194,14 @@ enters happened home t random old new c between later wanted room told h = eithe
       number = refl;
       wanted = wanted;
       room = room;
-      enters = lobby_same is h.next h.time h.own (spent_same new.dear old.dear h.dear) refl;
+      enters =
+          lobby_same is h.next h.time h.own (spent_same new.dear old.dear h.dear) h.differs refl;
     }
 
     either :
         ((new.guests.items
         ≡ old.guests.items
-        ++ guest old.next (fresh_guard t.doors random home t.wire) old.time ∷ [])
+        ++ guest old.next (fresh_guard t.doors random home t.wire) (first_notes x) old.time ∷ [])
         × Tells (happened between) (happened later) [])
         ⊎ ((new.guests.items ≡ old.guests.items)
         × Tells (happened between) (happened later) (Closed old.next ∷ []))
@@ -192,7 +209,7 @@ enters happened home t random old new c between later wanted room told h = eithe
     either (inl k) = (
       Comes old.next random ∷ [],
       record {
-        changed = (lobby_of new None, comes _ k.0, refl);
+        changed = (lobby_of new None, (x.told, comes _ k.0), refl);
         told = Tells-trans (happened c) (happened between) (happened later) _ _ told k.1;
       },
     )
@@ -212,6 +229,31 @@ pub no_socket : {C : Type 0} (happened : C → Option (List Happened)) (home : H
     → AltersSome happened home t over old new c later
 no_socket happened home t over old new c between later told k =
     alters_after happened home t over NoSocket old old new c between later (refl, refl) told k
+
+-- the system refuses to name this one
+pub unwatched : {C : Type 0} (happened : C → Option (List Happened)) (home : Home) (t : Terms)
+    (k : ℕ) (table : Table) (c between : C) → Tells (happened c) (happened between) (Broke k ∷ [])
+    → AltersSome happened home t None table table c between
+unwatched happened home t k table c between told = (
+  Unwatched k ∷ [],
+  record { changed = (lobby_of table None, (refl, refl), refl); told = told },
+)
+
+pub may_watch : {C : Type 0} (happened : C → Option (List Happened)) (home : Home) (t : Terms)
+    (k : ℕ) (ok : Bool) (table : Table) (c between : C)
+    → Tells (happened c) (happened between) (watched k ok)
+    → AltersSome happened home t None table table c between
+may_watch happened home t k true table c between told =
+    alters_none happened home t table c between told
+may_watch happened home t k false table c between told =
+    unwatched happened home t k table c between told
+
+pub no_guests : (home : Home) (wire : Version) (t : Table) → t.guests.items ≡ []
+    → t.differs ≡ None → AreKept home wire t
+no_guests home wire t none same = record {
+  guests = subst (λ z. AllByRecursion (IsKept home wire) z) (sym none) tt;
+  differs = subst (λ z. IsDifference z) (sym same) tt;
+}
 
 -- ---- why
 
@@ -247,10 +289,11 @@ room_cause t why.Over a gone going full longest = absurd full
 pub silent_cause : (patience time : ℕ) (guests before : List Guest) (gone : Guest)
     (after : List Guest) (i : ℕ)
     → length before ≡ i → guests ≡ before ++ gone ∷ after
-    → position (is_silent patience time) guests ≡ Some i → patience < time - gone.ready
+    → position (is_silent patience time) guests ≡ Some i
+    → waited_for patience (begun gone.talk) < time - gone.ready
 silent_cause patience time guests before gone after i len found is =
     let here = (position-Some (is_silent patience time) guests i gone is).1 in
-    ltb-true patience (time - gone.ready)
+    ltb-true (waited_for patience (begun gone.talk)) (time - gone.ready)
     (subst (λ z. is_silent patience time z ≡ true)
     (at_place guests before gone after i gone len found) here)
 
@@ -273,12 +316,12 @@ shut_fewer happened place over old new c later h =
 pub empties_more : {C : Type 0} (happened : C → Option (List Happened)) (home : Home) (t : Terms)
     (over : Over) (old mid new : Table) (gone : Guest) (c between later : C)
     → mid.guests.items ≡ new.guests.items ++ gone ∷ [] → new.next ≡ mid.next
-    → new.time ≡ mid.time → new.own ≡ mid.own → new.dear ≡ mid.dear
+    → new.time ≡ mid.time → new.own ≡ mid.own → new.dear ≡ mid.dear → new.differs ≡ mid.differs
     → Empties happened home t over old mid c between
     → Tells (happened between) (happened later) (Closed gone.number ∷ [])
     → Empties happened home t over old new c later
-empties_more happened home t over old mid new gone c between later last next time own dear h
-    told = (
+empties_more happened home t over old mid new gone c between later last next time own dear differs
+    h told = (
       h.0 ++ Shut gone.number why.Over ∷ [],
       ChangeAll-trans home t (lobby_of old (Some over)) (lobby_of mid (Some over))
           (lobby_of new (Some over)) h.0 (Shut gone.number why.Over ∷ []) h.1 (
@@ -293,7 +336,7 @@ empties_more happened home t over old mid new gone c between later last next tim
                 cause = λ e. some_none e;
                 left =
                     lobby_same (sym (append-nil new.guests.items)) next time own
-                    (spent_same new.dear mid.dear dear) refl;
+                    (spent_same new.dear mid.dear dear) differs refl;
               },
             ),
             refl,
@@ -309,13 +352,13 @@ empties_more happened home t over old mid new gone c between later last next tim
 pub empties_same : {C : Type 0} (happened : C → Option (List Happened)) (home : Home) (t : Terms)
     (over : Over) (old mid new : Table) (c later : C)
     → mid.guests.items ≡ new.guests.items ++ [] → new.next ≡ mid.next → new.time ≡ mid.time
-    → new.own ≡ mid.own → new.dear ≡ mid.dear
+    → new.own ≡ mid.own → new.dear ≡ mid.dear → new.differs ≡ mid.differs
     → Empties happened home t over old mid c later
     → Empties happened home t over old new c later
-empties_same happened home t over old mid new c later items next time own dear h = (
+empties_same happened home t over old mid new c later items next time own dear differs h = (
   h.0,
   subst (λ l. ChangeAll home t (lobby_of old (Some over)) h.0 l)
       (sym (lobby_same (sym (items ∙ append-nil new.guests.items)) next time own
-      (spent_same new.dear mid.dear dear) refl)) h.1,
+      (spent_same new.dear mid.dear dear) differs refl)) h.1,
   h.2,
 )

@@ -138,14 +138,16 @@ does_stop d p happened home t over table node peers c later is told = (
 -- ---- rounds
 
 -- the table at the end of a round
-abbrev pub timed : Table → ℕ → OwnTicks → DearTurns → Table
-timed table time own dear =
+abbrev pub timed : Table → ℕ → OwnTicks → DearTurns → Bool → Table
+timed table time own dear said =
     record {
       guests = table.guests;
       next = table.next;
       time = time;
       own = own;
       dear = dear;
+      differs = table.differs;
+      said = said;
     }
 
 outside_same : {V U : Type 0} (d : DeskOf V) (p : PeersOf U) (version : Version) (node : V)
@@ -158,25 +160,25 @@ outside_same d p version node peers kept same =
 -- no Tick was due
 does_clock : {V U C : Type 0} (d : DeskOf V) (p : PeersOf U)
     (happened : C → Option (List Happened)) (home : Home) (t : Terms) (time : ℕ) (table : Table)
-    (own : OwnTicks) (dear : DearTurns) (node : V) (peers kept : U) (c between : C)
+    (own : OwnTicks) (dear : DearTurns) (said : Bool) (node : V) (peers kept : U) (c between : C)
     → dear.spent ≡ false
     → p.handed kept ≡ p.handed peers → Tells (happened c) (happened between) (Round time ∷ [])
     → IsFalse (ticks_at table.own.ticker (shown (d.seen node) time))
     → own ≡ ticks_after table.own (shown (d.seen node) time) false
-    → Does d p happened home t None table (timed table time own dear) (scene node peers c)
+    → Does d p happened home t None table (timed table time own dear said) (scene node peers c)
     (scene node kept between)
-does_clock d p happened home t time table own dear node peers kept c between fresh same told early
-    is = (
+does_clock d p happened home t time table own dear said node peers kept c between fresh same told
+    early is = (
       Clock time ∷ [],
       record {
         pass = (
-          room_of d p t.wire (timed table time own dear) None (scene node kept between),
+          room_of d p t.wire (timed table time own dear said) None (scene node kept between),
           record {
             going = refl;
             early = early;
             seen = refl;
             outside = outside_same d p t.wire node peers kept same;
-            left = lobby_same refl refl refl is fresh refl;
+            left = lobby_same refl refl refl is fresh refl refl;
           },
           refl,
         );
@@ -187,20 +189,20 @@ does_clock d p happened home t time table own dear node peers kept c between fre
 -- a Tick was due, and taken
 does_tick : {V U C : Type 0} (d : DeskOf V) (p : PeersOf U)
     (happened : C → Option (List Happened)) (t : Terms) (time : ℕ) (starved : Bool)
-    (over : Option Over) (table : Table) (own : OwnTicks) (dear : DearTurns) (node next : V)
-    (peers more kept : U) (c between : C)
+    (over : Option Over) (table : Table) (own : OwnTicks) (dear : DearTurns) (said : Bool)
+    (node next : V) (peers more kept : U) (c between : C)
     → dear.spent ≡ false
     → p.handed kept ≡ p.handed more → Tells (happened c) (happened between) (Round time ∷ [])
     → HasTicked d p t.wire (shown (d.seen node) time) starved over table.own own (desks node peers)
     (desks next more)
-    → Does d p happened (d.home_of node) t over table (timed table time own dear)
+    → Does d p happened (d.home_of node) t over table (timed table time own dear said)
     (scene node peers c) (scene next kept between)
-does_tick d p happened t time starved over table own dear node next peers more kept c between fresh
-    same told h = (
+does_tick d p happened t time starved over table own dear said node next peers more kept c between
+    fresh same told h = (
       Ticked time starved ∷ [],
       record {
         pass = (
-          room_of d p t.wire (timed table time own dear) over (scene next kept between),
+          room_of d p t.wire (timed table time own dear said) over (scene next kept between),
           record {
             going = refl;
             due = h.due;
@@ -209,7 +211,7 @@ does_tick d p happened t time starved over table own dear node next peers more k
                 (λ z. TicksBy starved (d.home_of node) (sides_alone d p t.wire node peers)
                 (unanswered (d.seen next) z))
                 (sym (outside_same d p t.wire next more kept same)) h.tick;
-            left = lobby_same refl refl refl h.own fresh h.ends;
+            left = lobby_same refl refl refl h.own fresh refl h.ends;
           },
           refl,
         );
@@ -221,29 +223,29 @@ does_tick d p happened t time starved over table own dear node next peers more k
 -- handed out
 pub does_round : {V U C : Type 0} (d : DeskOf V) (p : PeersOf U)
     (happened : C → Option (List Happened)) (t : Terms) (time : ℕ) (over : Option Over)
-    (table : Table) (own : OwnTicks) (dear : DearTurns) (node next : V) (peers more kept : U)
-    (c between : C)
+    (table : Table) (own : OwnTicks) (dear : DearTurns) (said : Bool) (node next : V)
+    (peers more kept : U) (c between : C)
     → dear.spent ≡ false
     → p.handed kept ≡ p.handed more → Tells (happened c) (happened between) (Round time ∷ [])
     → MayTick d p t.wire time over table.own own (desks node peers) (desks next more)
-    → Does d p happened (d.home_of node) t over table (timed table time own dear)
+    → Does d p happened (d.home_of node) t over table (timed table time own dear said)
     (scene node peers c) (scene next kept between)
-does_round {V} {U} d p happened t time over table own dear node next peers more kept c between fresh
-    same told (inl h) =
+does_round {V} {U} d p happened t time over table own dear said node next peers more kept c between
+    fresh same told (inl h) =
     let here : next ≡ node = ap (λ (z : Desks V U). z.node) h.same in
     let others : more ≡ peers = ap (λ (z : Desks V U). z.peers) h.same in
     subst
-    (λ o. Does d p happened (d.home_of node) t o table (timed table time own dear)
+    (λ o. Does d p happened (d.home_of node) t o table (timed table time own dear said)
     (scene node peers c) (scene next kept between)) (sym h.goes_on)
     (subst
-    (λ n. Does d p happened (d.home_of node) t None table (timed table time own dear)
+    (λ n. Does d p happened (d.home_of node) t None table (timed table time own dear said)
     (scene node peers c) (scene n kept between)) (sym here)
-    (does_clock d p happened (d.home_of node) t time table own dear node peers kept c between fresh
-    (same ∙ ap p.handed others) told h.early h.own))
-does_round d p happened t time over table own dear node next peers more kept c between fresh same
-    told (inr h) =
-    does_tick d p happened t time h.0 over table own dear node next peers more kept c between fresh
-    same told h.1
+    (does_clock d p happened (d.home_of node) t time table own dear said node peers kept c between
+    fresh (same ∙ ap p.handed others) told h.early h.own))
+does_round d p happened t time over table own dear said node next peers more kept c between fresh
+    same told (inr h) =
+    does_tick d p happened t time h.0 over table own dear said node next peers more kept c between
+    fresh same told h.1
 
 -- ---- from the first client to the end
 
@@ -302,7 +304,7 @@ pub serves_none : {V U C : Type 0} (d : DeskOf V) (p : PeersOf U)
     (record { connections = 0; over = over_is.NoMemory; starved = false })
     (scene node peers c) (scene node peers c)
 serves_none d p happened t period node peers c = (
-  lobby [] 0 0 (first_ticks (d.home_of node) period (d.seen node)) false
+  lobby [] 0 0 (first_ticks (d.home_of node) period (d.seen node)) false None
       (Some over_is.NoMemory),
   Changed (Stops over_is.NoMemory) ∷ [],
   record {

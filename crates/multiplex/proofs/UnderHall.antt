@@ -5,7 +5,7 @@ use Rattle.std.specs.List.{flat_map}
 use Rattle.connections.specs.Connections.{begun_of}
 use Rattle.connections.proofs.Interleaving.{begun_both}
 use Rattle.guarded.specs.GuardLaw.{AreAllowed, IsAllowed, IsUnderHall, delivers}
-use Rattle.guarded.proofs.Delivering.{under_hall, under_more}
+use Rattle.guarded.proofs.Delivering.{delivers_alike, under_hall, under_more}
 use Rattle.guarded.proofs.Holding.{BeginsAt}
 use Rattle.serving.specs.Asking.{request}
 use Rattle.serving.specs.Connection.{Begun, frames_of}
@@ -50,7 +50,7 @@ each_delivers home locks server came sent earlier later one h may =
     let asks =
     subst
     (λ (p : Permission). IsTrue (delivers (permitted p (request home one.one.frame)))) allowed.may
-    may in
+    (delivers_alike one.one.differs (permitted one.one.may (request home one.one.frame)) may) in
     subst (λ z. IsUnderHall locks server z before one.one) (sym s.read.parts)
     (under_more locks server s.front s.read.later before one.one
     (under_hall s.who locks server s.front h.handed before one.one

@@ -3,6 +3,7 @@ use Rattle.std.proofs.Common.{◌≡◌, ◌≢◌, refl, sym, ap, subst, ◌∙
 use Rattle.std.proofs.Common.{append_assoc, length, take, drop, get_or, set, suc, Option, None}
 use Rattle.std.proofs.Common.{Some}
 use Rattle.std.proofs.Common.{true, false, position, arith, ◌<◌}
+use Rattle.std.specs.List.{AllByRecursion}
 use Rattle.std.specs.Vec.{with_item}
 use Rattle.std.proofs.lemmas.Bool.{eqb-false, eqb-true}
 use Rattle.std.proofs.lemmas.List.Quantifiers.{position-Some}
@@ -12,7 +13,10 @@ use Rattle.serving.specs.declared.peers.Peers.{Ghosts as PeersOf}
 use Rattle.serving.specs.TurnLaw.{Turn}
 use Rattle.guarded.specs.GuardTurns.{Follow}
 use Rattle.store.specs.declared.home.Home.{Home}
+use Rattle.wire.specs.Ranges.{IsDifference}
+use Rattle.wire.specs.declared.standing.Difference.{Difference}
 use Rattle.wire.specs.declared.values.Version.{Version}
+use Rattle.multiplex.specs.Noting.{AreNoted}
 use Rattle.polled.specs.Telling.{Tells}
 use Rattle.multiplex.specs.Happenings.{Happened, Closed}
 use Rattle.multiplex.specs.Passing.{Changed, IsLeft, Lobby, Shares, Stray, Takes, Visit, lobby}
@@ -25,7 +29,7 @@ use Rattle.multiplex.specs.declared.table.Table.{Table}
 use Rattle.multiplex.specs.declared.table.Terms.{Terms}
 use Rattle.multiplex.specs.model.Scenes.{Answers, Hosts, IsShut, at_guest, lobby_of}
 use Rattle.multiplex.specs.Scenes.{Scene, in_room}
-use Rattle.multiplex.specs.model.Scenes.{room_of}
+use Rattle.multiplex.specs.model.Scenes.{room_of, turned}
 use Rattle.multiplex.specs.Scenes.{scene}
 use Rattle.multiplex.specs.model.Tables.{AreKept, IsKept, has_number}
 use Rattle.multiplex.specs.model.Visiting.{place_at}
@@ -99,10 +103,11 @@ pub visiting : {V U C : Type 0} (d : DeskOf V) (p : PeersOf U)
     (table : Table) (old new : Guest) (before after : List Guest) (left : Lobby)
     (a m : Scene V U C)
     → table.guests.items ≡ before ++ old ∷ after → old.number ≡ k → old.talk.talk.wire ≡ t.wire
-    → Hosts d p happened table.time fate table.dear.spent left.spent old new a m
+    → Hosts d p happened table.time fate (turned table.dear.spent table.differs)
+    (turned left.spent left.differs) old new a m
     → left
     ≡ lobby (before ++ (staying fate new ++ after)) table.next table.time table.own left.spent
-    (over_after fate new.talk)
+    left.differs (over_after fate new.talk)
     → Visiting d p happened home t k fate table left a m
 visiting d p happened home t k fate table old new before after left a m found number wire h is =
     let goes = h.1.1 in (
@@ -129,10 +134,12 @@ visiting d p happened home t k fate table old new before after left a m found nu
                 heard = h.1.2.heard;
                 shares = h.1.2.shares;
               };
-          served = h.1.3;
+          served = h.1.4;
+          heard = h.1.3.heard;
+          due = h.1.3.due;
           same = h.0.number ∙ number;
           ready = h.0.ready;
-          stands = h.1.4;
+          stands = h.1.5;
           left = is;
         },
       ),
@@ -148,13 +155,14 @@ pub answers_stay : {V U C : Type 0} (d : DeskOf V) (p : PeersOf U)
     → About table place old new before after → old.number ≡ k → old.talk.talk.wire ≡ t.wire
     → changed.guests.items ≡ set table.guests.items place new → changed.next ≡ table.next
     → changed.time ≡ table.time → changed.own ≡ table.own
-    → Hosts d p happened table.time None table.dear.spent changed.dear.spent old new a m
+    → Hosts d p happened table.time None (turned table.dear.spent table.differs)
+    (turned changed.dear.spent changed.differs) old new a m
     → Answers d p happened home t k None table changed a m
 answers_stay d p happened home t k place table changed old new before after a m split number wire
     items next time own h =
     let v =
     visiting d p happened home t k None table old new before after (lobby_of changed None) a m
-    split.found number wire h (lobby_same (items ∙ split.put) next time own refl refl) in
+    split.found number wire h (lobby_same (items ∙ split.put) next time own refl refl refl) in
     (Visit k v.0 None, told_turns k v.0 ++ [], refl, v.1, v.2)
 
 pub stay_keeps : {V U C : Type 0} (d : DeskOf V) (p : PeersOf U)
@@ -162,20 +170,28 @@ pub stay_keeps : {V U C : Type 0} (d : DeskOf V) (p : PeersOf U)
     (table changed : Table) (old new : Guest) (before after : List Guest) (a m : Scene V U C)
     → About table place old new before after
     → changed.guests.items ≡ set table.guests.items place new
-    → Hosts d p happened table.time None table.dear.spent changed.dear.spent old new a m
-    → AreKept home wire table.guests.items → AreKept home wire changed.guests.items
-stay_keeps d p happened home wire place table changed old new before after a m split items h kept =
-    let all = subst (λ z. AreKept home wire z) split.found kept in
+    → Hosts d p happened table.time None (turned table.dear.spent table.differs)
+    (turned changed.dear.spent changed.differs) old new a m
+    → AreNoted new.notes.known changed.differs
+    → AreKept home wire table → AreKept home wire changed
+stay_keeps d p happened home wire place table changed old new before after a m split items h noted
+    kept =
+    let all = subst (λ z. AllByRecursion (IsKept home wire) z) split.found kept.guests in
     let here = all_back (IsKept home wire) before (old ∷ after) all in
-    subst (λ z. AreKept home wire z) (sym (items ∙ split.put))
-    (all_both (IsKept home wire) before (new ∷ after)
-    (all_front (IsKept home wire) before (old ∷ after) all) (
-      record {
-        home = h.1.1.1.home ∙ here.0.home;
-        wire = h.1.1.1.wire ∙ here.0.wire;
-      },
-      here.1,
-    ))
+    record {
+      guests =
+          subst (λ z. AllByRecursion (IsKept home wire) z) (sym (items ∙ split.put))
+          (all_both (IsKept home wire) before (new ∷ after)
+          (all_front (IsKept home wire) before (old ∷ after) all) (
+            record {
+              home = h.1.1.1.home ∙ here.0.home;
+              wire = h.1.1.1.wire ∙ here.0.wire;
+              known = noted.0;
+            },
+            here.1,
+          ));
+      differs = noted.1;
+    }
 
 -- ---- the client leaves
 
@@ -204,7 +220,7 @@ pub record Leaving {C : Type 0} (happened : C → Option (List Happened)) (over 
     (table mid changed : Table) (k : ℕ) (new : Guest) (before after : List Guest) (c later : C)
     : Type 0 where
   pub left : lobby_of changed over
-      ≡ lobby (before ++ after) table.next table.time table.own mid.dear.spent
+      ≡ lobby (before ++ after) table.next table.time table.own mid.dear.spent mid.differs
       (over_by new.talk.talk.end)
   pub told : Tells (happened c) (happened later) (Closed k ∷ [])
 
@@ -226,7 +242,7 @@ leaving happened place over table mid changed old new before after c later split
           lobby_same
           (h.4.left ∙ ap (λ z. z ++ h.1) same.fronts ∙ ap (λ z. before ++ z) same.backs)
           (h.4.next ∙ next) (h.4.time ∙ time) (h.4.own ∙ own)
-          (spent_same changed.dear mid.dear h.4.dear)
+          (spent_same changed.dear mid.dear h.4.dear) h.4.differs
           (h.4.ends ∙ ap (λ (z : Guest). over_by z.talk.talk.end) same.here);
       told =
           subst (λ (z : Guest). Tells (happened c) (happened later) (Closed z.number ∷ []))
@@ -240,8 +256,8 @@ pub answers_leave : {V U C : Type 0} (d : DeskOf V) (p : PeersOf U)
     → About table place old new before after → old.number ≡ k → old.talk.talk.wire ≡ t.wire
     → mid.guests.items ≡ set table.guests.items place new → mid.next ≡ table.next
     → mid.time ≡ table.time → mid.own ≡ table.own
-    → Hosts d p happened table.time (Some w) table.dear.spent mid.dear.spent old new a
-    (scene node peers c)
+    → Hosts d p happened table.time (Some w) (turned table.dear.spent table.differs)
+    (turned mid.dear.spent mid.differs) old new a (scene node peers c)
     → IsShut happened place over mid changed c later
     → Answers d p happened home t k over table changed a (scene node peers later)
 answers_leave d p happened home t k w place over table mid changed old new before after a node
@@ -251,13 +267,18 @@ answers_leave d p happened home t k w place over table mid changed old new befor
     time own shut in
     let same : changed.dear.spent ≡ mid.dear.spent =
     ap (λ (l : Lobby). l.spent) gone.left in
+    let said : changed.differs ≡ mid.differs = ap (λ (l : Lobby). l.differs) gone.left in
     let v =
     visiting d p happened home t k (Some w) table old new before after (lobby_of changed over)
     a (scene node peers c) split.found number wire
-    (subst (λ s. Hosts d p happened table.time (Some w) table.dear.spent s old new a
-    (scene node peers c)) (sym same) h)
+    (subst
+    (λ s. Hosts d p happened table.time (Some w) (turned table.dear.spent table.differs)
+    (turned s changed.differs) old new a (scene node peers c)) (sym same)
+    (subst
+    (λ s. Hosts d p happened table.time (Some w) (turned table.dear.spent table.differs)
+    (turned mid.dear.spent s) old new a (scene node peers c)) (sym said) h))
     (gone.left
-    ∙ lobby_same refl refl refl refl (sym same) refl) in
+    ∙ lobby_same refl refl refl refl (sym same) (sym said) refl) in
     let closed =
     subst (λ n. Tells (happened c) (happened later) (Closed n ∷ [])) (h.0.number ∙ number)
     gone.told in (
@@ -276,16 +297,20 @@ pub leave_keeps : {C : Type 0} (happened : C → Option (List Happened)) (home :
     → About table place old new before after
     → mid.guests.items ≡ set table.guests.items place new → mid.next ≡ table.next
     → mid.time ≡ table.time → mid.own ≡ table.own
-    → IsShut happened place over mid changed c later
-    → AreKept home wire table.guests.items → AreKept home wire changed.guests.items
+    → IsShut happened place over mid changed c later → IsDifference mid.differs
+    → AreKept home wire table → AreKept home wire changed
 leave_keeps happened home wire place over table mid changed old new before after c later split
-    items next time own shut kept =
+    items next time own shut differs kept =
     let gone =
     leaving happened place over table mid changed old new before after c later split items next
     time own shut in
-    subst (λ (l : Lobby). AreKept home wire l.guests) (sym gone.left)
-    (all_but (IsKept home wire) before old after
-    (subst (λ z. AreKept home wire z) split.found kept))
+    record {
+      guests =
+          subst (λ (l : Lobby). AllByRecursion (IsKept home wire) l.guests) (sym gone.left)
+          (all_but (IsKept home wire) before old after
+          (subst (λ z. AllByRecursion (IsKept home wire) z) split.found kept.guests));
+      differs = subst (λ (l : Lobby). IsDifference l.differs) (sym gone.left) differs;
+    }
 
 -- ---- where a client stands that has this number
 
@@ -297,7 +322,7 @@ pub record Stands (home : Home) (wire : Version) (k : ℕ) (table : Table) (plac
 
 pub stands : (home : Home) (wire : Version) (k : ℕ) (table : Table) (place : ℕ) (old : Guest)
     → position (has_number k) table.guests.items ≡ Some place
-    → old ≡ get_or table.guests.items place old → AreKept home wire table.guests.items
+    → old ≡ get_or table.guests.items place old → AreKept home wire table
     → Stands home wire k table place old
 stands home wire k table place old found is kept =
     let guests = table.guests.items in
@@ -305,7 +330,7 @@ stands home wire k table place old found is kept =
     let split = about table place old old here.0 is in
     let both =
     all_back (IsKept home wire) split.0 (old ∷ split.1)
-    (subst (λ z. AreKept home wire z) split.2.found kept) in
+    (subst (λ z. AllByRecursion (IsKept home wire) z) split.2.found kept.guests) in
     record {
       within = here.0;
       number = eqb-true old.number k (subst (λ z. has_number k z ≡ true) (sym is) here.1);
@@ -322,7 +347,7 @@ pub record Met (wire : Version) (k : ℕ) (table : Table) (place : ℕ) (old new
 
 pub met : (home : Home) (wire : Version) (k : ℕ) (table : Table) (place : ℕ) (old new : Guest)
     → position (has_number k) table.guests.items ≡ Some place
-    → old ≡ get_or table.guests.items place old → AreKept home wire table.guests.items
+    → old ≡ get_or table.guests.items place old → AreKept home wire table
     → Met wire k table place old new
 met home wire k table place old new found is kept =
     let at = stands home wire k table place old found is kept in
@@ -336,12 +361,14 @@ met home wire k table place old new found is kept =
     }
 
 -- the table with the client behind its turns
-abbrev pub turned : Table → ℕ → Guest → DearTurns → Table
-turned table place new dear =
+abbrev pub visited : Table → ℕ → Guest → DearTurns → Option Difference → Table
+visited table place new dear differs =
     record {
       guests = with_item table.guests place new;
       next = table.next;
       time = table.time;
       own = table.own;
       dear = dear;
+      differs = differs;
+      said = table.said;
     }

@@ -1,23 +1,32 @@
 -- The turns of one connection, one after the other.
-use Rattle.std.proofs.Common.{◌≡◌, ◌≢◌, inl, inr, refl, sym, ap, subst, ◌∙◌, ℕ, ◌+◌, Bool, true}
+use Rattle.std.proofs.Common.{◌≡◌, ◌≢◌, ◌⊎◌, inl, inr, refl, sym, ap, subst, ◌∙◌, ℕ, ◌+◌, Bool}
+use Rattle.std.proofs.Common.{true}
 use Rattle.std.proofs.Common.{arith, ◌<◌, suc, ◌↔◌, ◌||◌, if◌then◌else◌}
 use Rattle.std.specs.Prelude.{IsTrue, not}
 use Rattle.std.proofs.Common.{false, List, [], ◌∷◌, ◌++◌, append-nil, append_assoc, length, Option}
 use Rattle.std.proofs.Common.{None, Some}
 use Rattle.answers.specs.declared.desk.Desk.{Ghosts as DeskOf}
 use Rattle.serving.specs.declared.peers.Peers.{Ghosts as PeersOf}
-use Rattle.sealed.specs.Calls.{is_over}
+use Rattle.answers.specs.Seen.{Seen}
+use Rattle.sealed.specs.Calls.{caller_of, is_over}
+use Rattle.store.specs.declared.home.Home.{Home}
+use Rattle.wire.specs.declared.standing.Difference.{Difference}
 use Rattle.serving.specs.Making.{Way}
 use Rattle.serving.specs.Sessions.{outside}
 use Rattle.serving.specs.Turns.{Talk, broken_by, ended}
 use Rattle.serving.specs.Turns as Turns
-use Rattle.serving.specs.Connection.{Begun}
+use Rattle.serving.specs.Connection.{Begun, serve_frame}
+use Rattle.serving.specs.Differing.{awaited_by, differs_by, first_difference, first_frame}
+use Rattle.serving.specs.Differing.{known_after}
+use Rattle.serving.specs.declared.differing.Awaited.{Awaited}
+use Rattle.serving.specs.declared.ends.End.{End}
 use Rattle.serving.specs.Kinds.{dear_next, is_dear, message_next}
 use Rattle.serving.specs.TurnLaw.{Came as CameIn, Began, Rested, Took as TookOf, Turn, begun_in}
 use Rattle.guarded.specs.Guarding.{Advances, Answers, Guarding, HearsDesk, IsDear, IsDone, IsFree}
 use Rattle.guarded.specs.Guarding.{Receives, Rests}
 use Rattle.guarded.specs.Guarding.{WantsRead, after_sent, moment}
 use Rattle.guarded.specs.GuardTurns.{Follow, Place}
+use Rattle.guarded.specs.Permitting.{permission_of}
 use Rattle.wire.specs.declared.fault.WireFault.{WireFault}
 use Rattle.wire.specs.declared.frame.Frame.{Frame}
 use Rattle.polled.specs.Telling.{Tells}
@@ -28,12 +37,19 @@ use Rattle.multiplex.specs.declared.ends.Why.{Why}
 use Rattle.multiplex.specs.declared.ends.Why.TheVariants as why
 use Rattle.multiplex.specs.Dear.{answered, asked, is_next, put_off}
 use Rattle.multiplex.specs.declared.dear.DearTurns.{DearTurns}
-use Rattle.multiplex.specs.model.Visiting.{Goes, HearsDesks, IsLeftOrDone, MayBegin, Moves, Reads}
+use Rattle.multiplex.specs.Noting.{AreDue, Ears, IsDueFrame, IsOff, PutsOff, awaited_of, ears}
+use Rattle.multiplex.specs.Noting.{hear, hear_all, heard_by, heard_next, is_due, listened}
+use Rattle.multiplex.specs.Noting.{listened_to, next_of, off_by, until_of}
+use Rattle.multiplex.specs.Noting.{put_off as puts_off}
+use Rattle.multiplex.specs.declared.notes.Notes.{Notes}
+use Rattle.multiplex.specs.model.Visiting.{BeginsDue, Beholds, Beside, Goes, HearsDesks}
+use Rattle.multiplex.specs.model.Visiting.{IsLeftOrDone, MayBegin, MayShare, Moves, Reads, beside}
 use Rattle.multiplex.specs.model.Visiting.{Sends, ServesNext, ServesOne, SettledOrDone, Spot}
 use Rattle.multiplex.specs.model.Visiting.{TalksOn}
 use Rattle.multiplex.specs.model.Visiting.{broken}
 use Rattle.multiplex.specs.model.Visiting.{place_at, spot}
 use Rattle.polled.proofs.Telling.{Tells-as, Tells-nil, Tells-trans}
+use Rattle.multiplex.proofs.Noted.{next_free}
 use Rattle.multiplex.proofs.Telling.{turns_both}
 
 pub Follow-trans : {V : Type 0} {way : Way V} (a m b : Place way) (ts us : List Turn)
@@ -206,20 +222,21 @@ same_home old new (inr h) = record {
 }
 
 -- the frame that is begun, if one is
-abbrev pub begun_by : {V U : Type 0} (d : DeskOf V) (p : PeersOf U) (went : Bool) (node next : V)
+abbrev pub begun_by : {V U : Type 0} (d : DeskOf V) (p : PeersOf U)
+    (differs : Option Difference) (went : Bool) (node next : V)
     (peers more : U) (old new : Guarding)
-    → Advances d p went (moment node peers old) (moment next more new) → List Begun
-begun_by d p true node next peers more old new h = h.2.0 ∷ []
-begun_by d p false node next peers more old new h = []
+    → Advances d p differs went (moment node peers old) (moment next more new) → List Begun
+begun_by d p differs true node next peers more old new h = h.2.0 ∷ []
+begun_by d p differs false node next peers more old new h = []
 
 pub advanced : {V U C : Type 0} (d : DeskOf V) (p : PeersOf U)
-    (happened : C → Option (List Happened)) (k : ℕ) (most : ℕ) (went : Bool)
-    (node next : V)
+    (happened : C → Option (List Happened)) (k : ℕ) (most : ℕ) (differs : Option Difference)
+    (went : Bool) (node next : V)
     (peers more : U) (c : C) (old new : Guarding)
-    → (h : Advances d p went (moment node peers old) (moment next more new))
-    → Goes d p happened k None most (begun_by d p went node next peers more old new h)
+    → (h : Advances d p differs went (moment node peers old) (moment next more new))
+    → Goes d p happened k None most (begun_by d p differs went node next peers more old new h)
     (spot node peers c old) (spot next more c new)
-advanced d p happened k most true node next peers more c old new h = (
+advanced d p happened k most differs true node next peers more c old new h = (
   Began h.2.0 ∷ [],
   record {
     few = omega arith;
@@ -230,7 +247,7 @@ advanced d p happened k most true node next peers more c old new h = (
     wire = (after_answer h.1 old new h.3).wire ∙ h.2.1.wire;
   },
 )
-advanced d p happened k most false node next peers more c old new h = (
+advanced d p happened k most differs false node next peers more c old new h = (
   Rested ∷ [],
   record {
     few = omega arith;
@@ -257,10 +274,12 @@ advanced d p happened k most false node next peers more c old new h = (
 -- ---- one frame at most
 
 -- a frame that is begun is the one that was asked about
-is_asked : {V U : Type 0} (d : DeskOf V) (p : PeersOf U) (node next : V) (peers more : U)
-    (old new : Guarding) (h : Advances d p true (moment node peers old) (moment next more new))
+is_asked : {V U : Type 0} (d : DeskOf V) (p : PeersOf U) (differs : Option Difference)
+    (node next : V) (peers more : U)
+    (old new : Guarding)
+    (h : Advances d p differs true (moment node peers old) (moment next more new))
     → is_dear h.2.0.frame.what ≡ true → IsDear old
-is_asked d p node next peers more old new h is =
+is_asked d p differs node next peers more old new h is =
     record { free = h.0; next = ap dear_next h.2.1.next ∙ is }
 
 -- where one is asked about, it is begun
@@ -270,28 +289,30 @@ is_begun old new dear (inr h) =
     let n : false ≡ true = sym (ap dear_next h.talk.served) ∙ dear.next in absurd cc
 
 -- a frame was begun, or none, that asks for nothing dear
-pub shares_cheap : {V U : Type 0} (d : DeskOf V) (p : PeersOf U) (went : Bool) (node next : V)
+pub shares_cheap : {V U : Type 0} (d : DeskOf V) (p : PeersOf U) (differs : Option Difference)
+    (went : Bool) (node next : V)
     (peers more : U) (old new : Guarding) (spent : Bool)
-    (h : Advances d p went (moment node peers old) (moment next more new))
+    (h : Advances d p differs went (moment node peers old) (moment next more new))
     → (IsDear old → ⊥)
-    → SharesLast (begun_by d p went node next peers more old new h) spent spent
-shares_cheap d p false node next peers more old new spent h cheap = refl
-shares_cheap d p true node next peers more old new spent h cheap =
+    → SharesLast (begun_by d p differs went node next peers more old new h) spent spent
+shares_cheap d p differs false node next peers more old new spent h cheap = refl
+shares_cheap d p differs true node next peers more old new spent h cheap =
     pick (is_dear h.2.0.frame.what) refl
   where
     pick : (b : Bool) → is_dear h.2.0.frame.what ≡ b → SharesOne b spent spent
-    pick true is = absurd (cheap (is_asked d p node next peers more old new h is))
+    pick true is = absurd (cheap (is_asked d p differs node next peers more old new h is))
     pick false is = refl
 
 -- one that does was begun, where none was before in this round
-pub shares_dear : {V U : Type 0} (d : DeskOf V) (p : PeersOf U) (went : Bool) (node next : V)
+pub shares_dear : {V U : Type 0} (d : DeskOf V) (p : PeersOf U) (differs : Option Difference)
+    (went : Bool) (node next : V)
     (peers more : U) (old new : Guarding) (spent later : Bool)
-    (h : Advances d p went (moment node peers old) (moment next more new))
+    (h : Advances d p differs went (moment node peers old) (moment next more new))
     → IsDear old → spent ≡ false → later ≡ true
-    → SharesLast (begun_by d p went node next peers more old new h) spent later
-shares_dear d p false node next peers more old new spent later h dear fresh used =
+    → SharesLast (begun_by d p differs went node next peers more old new h) spent later
+shares_dear d p differs false node next peers more old new spent later h dear fresh used =
     absurd (is_begun old new dear h.2)
-shares_dear d p true node next peers more old new spent later h dear fresh used =
+shares_dear d p differs true node next peers more old new spent later h dear fresh used =
     subst (λ b. SharesOne b spent later)
     (sym (sym (ap dear_next h.2.1.next) ∙ dear.next)) (fresh, used)
 
@@ -409,7 +430,7 @@ fresh_of false b is = refl
 
 pub may_by : (number : ℕ) (has_key : Bool) (old new : DearTurns) (result : Bool) (c : Guarding)
     → IsDear c → result ≡ is_next number has_key old → new ≡ asked number has_key old
-    → MayBegin result c old.spent new.spent
+    → MayShare result c old.spent new.spent
 may_by number has_key old new true c dear is after =
     inr (
       dear,
@@ -425,101 +446,292 @@ may_by number has_key old new false c dear is after = (
 )
 
 pub may_cheap : (c : Guarding) (spent : Bool) → (IsTrue false ↔ IsDear c)
-    → MayBegin true c spent spent
+    → MayShare true c spent spent
 may_cheap c spent h = inl (λ dear. let n : false ≡ true = h.1 dear in absurd cc, refl)
 
-pub put_off_serves : {V U C : Type 0} (d : DeskOf V) (p : PeersOf U)
-    (happened : C → Option (List Happened)) (k : ℕ) (spent later : Bool) (node : V) (peers : U)
-    (c : C) (talk : Guarding)
-    → MayBegin false talk spent later
-    → ServesOne d p happened k None spent later (spot node peers c talk) (spot node peers c talk)
-put_off_serves d p happened k spent later node peers c talk h = (
-  [],
-  no_turn d p happened k None 0 node peers c c talk talk refl (Tells-nil (happened c)),
-  h.1,
-  inr h.0,
-)
+-- why no frame is begun
+stays_off : (off : Bool) (home : Home) (x : Seen) (time : ℕ) (c : Guarding) (old new : Notes)
+    (spent later : Bool) → PutsOff off home x time c old new
+    → ((off ≡ true) × (false ≡ false) × (later ≡ spent))
+    ⊎ ((off ≡ false) × MayShare false c spent later)
+    → (later ≡ spent) × (IsDear c ⊎ IsOff x time c new.until)
+stays_off true home x time c old new spent later p (inl h) = (h.2, inr p.1)
+stays_off true home x time c old new spent later p (inr h) =
+    let n : true ≡ false = h.0 in absurd cc
+stays_off false home x time c old new spent later p (inl h) =
+    let n : false ≡ true = h.0 in absurd cc
+stays_off false home x time c old new spent later p (inr h) = (h.1.1, inl h.1.0)
 
-shares_next : {V U : Type 0} (d : DeskOf V) (p : PeersOf U) (went : Bool) (node next : V)
-    (peers more : U) (old new : Guarding) (spent later : Bool)
-    (h : Advances d p went (moment node peers old) (moment next more new))
-    → MayBegin true old spent later
-    → SharesLast (begun_by d p went node next peers more old new h) spent later
-shares_next d p went node next peers more old new spent later h (inl may) =
-    subst (λ s. SharesLast (begun_by d p went node next peers more old new h) spent s) (sym may.1)
-    (shares_cheap d p went node next peers more old new spent h may.0)
-shares_next d p went node next peers more old new spent later h (inr may) =
-    shares_dear d p went node next peers more old new spent later h may.0 may.1 may.2
+off_known : (off : Bool) (home : Home) (x : Seen) (time : ℕ) (c : Guarding) (old new : Notes)
+    → PutsOff off home x time c old new → new.known ≡ old.known
+off_known true home x time c old new p = p.2
+off_known false home x time c old new p = p.2
+
+-- what was told is as before
+pub may_known : (may : Bool) (home : Home) (x : Seen) (time : ℕ) (c : Guarding) (old new : Notes)
+    (spent later : Bool) → MayBegin may home x time c old new spent later
+    → new.known ≡ old.known
+may_known may home x time c old new spent later h = off_known h.0 home x time c old new h.1
+
+-- where one may be begun
+record MayGo (home : Home) (x : Seen) (time : ℕ) (c : Guarding) (old new : Notes)
+    (spent later : Bool) : Type 0 where
+  due : puts_off home x c time old ≡ false
+  until : new.until ≡ None
+  shares : MayShare true c spent later
+
+goes_by : (off : Bool) (home : Home) (x : Seen) (time : ℕ) (c : Guarding) (old new : Notes)
+    (spent later : Bool) → PutsOff off home x time c old new
+    → ((off ≡ true) × (true ≡ false) × (later ≡ spent))
+    ⊎ ((off ≡ false) × MayShare true c spent later)
+    → MayGo home x time c old new spent later
+goes_by true home x time c old new spent later p (inl h) =
+    let n : true ≡ false = h.1 in absurd cc
+goes_by true home x time c old new spent later p (inr h) =
+    let n : true ≡ false = h.0 in absurd cc
+goes_by false home x time c old new spent later p (inl h) =
+    let n : true ≡ false = h.1 in absurd cc
+goes_by false home x time c old new spent later p (inr h) =
+    record { due = p.0; until = p.1; shares = h.1 }
+
+may_go : (home : Home) (x : Seen) (time : ℕ) (c : Guarding) (old new : Notes)
+    (spent later : Bool) → MayBegin true home x time c old new spent later
+    → MayGo home x time c old new spent later
+may_go home x time c old new spent later h =
+    goes_by h.0 home x time c old new spent later h.1 h.2
+
+pub put_off_serves : {V U C : Type 0} (d : DeskOf V) (p : PeersOf U)
+    (happened : C → Option (List Happened)) (k time : ℕ) (spent later : Bool) (old new : Notes)
+    (node : V) (peers : U) (c : C) (talk : Guarding)
+    → MayBegin false (d.home_of node) (d.seen node) time talk old new spent later
+    → ServesOne d p happened k time None spent later old new (spot node peers c talk)
+    (spot node peers c talk)
+put_off_serves d p happened k time spent later old new node peers c talk h =
+    let off =
+    stays_off h.0 (d.home_of node) (d.seen node) time talk old new spent later h.1 h.2 in (
+      [],
+      no_turn d p happened k None 0 node peers c c talk talk refl (Tells-nil (happened c)),
+      off.0,
+      tt,
+      inr off.1,
+    )
+
+shares_next : {V U : Type 0} (d : DeskOf V) (p : PeersOf U) (differs : Option Difference)
+    (went : Bool) (node next : V) (peers more : U) (old new : Guarding) (spent later : Bool)
+    (h : Advances d p differs went (moment node peers old) (moment next more new))
+    → MayShare true old spent later
+    → SharesLast (begun_by d p differs went node next peers more old new h) spent later
+shares_next d p differs went node next peers more old new spent later h (inl may) =
+    subst
+    (λ s. SharesLast (begun_by d p differs went node next peers more old new h) spent s)
+    (sym may.1) (shares_cheap d p differs went node next peers more old new spent h may.0)
+shares_next d p differs went node next peers more old new spent later h (inr may) =
+    shares_dear d p differs went node next peers more old new spent later h may.0 may.1 may.2
 
 -- no frame is to be begun
 pub rest_serves : {V U C : Type 0} (d : DeskOf V) (p : PeersOf U)
-    (happened : C → Option (List Happened)) (k : ℕ) (spent later : Bool) (node next : V)
+    (happened : C → Option (List Happened)) (k time : ℕ) (differs : Option Difference)
+    (spent later : Bool) (notes after : Notes) (node next : V)
     (peers more : U) (c : C) (old new : Guarding)
-    → MayBegin true old spent later
-    → Advances d p false (moment node peers old) (moment next more new)
-    → ServesOne d p happened k None spent later (spot node peers c old) (spot next more c new)
-rest_serves d p happened k spent later node next peers more c old new may h = (
-  [],
-  advanced d p happened k 0 false node next peers more c old new h,
-  shares_next d p false node next peers more old new spent later h may,
-  inl (at_rest old new h.2),
-)
+    → MayBegin true (d.home_of node) (d.seen node) time old notes after spent later
+    → Advances d p differs false (moment node peers old) (moment next more new)
+    → ServesOne d p happened k time None spent later notes after (spot node peers c old)
+    (spot next more c new)
+rest_serves d p happened k time differs spent later notes after node next peers more c old new may
+    h =
+    let go = may_go (d.home_of node) (d.seen node) time old notes after spent later may in (
+      [],
+      advanced d p happened k 0 differs false node next peers more c old new h,
+      shares_next d p differs false node next peers more old new spent later h go.shares,
+      tt,
+      inl (at_rest old new h.2),
+    )
+
+-- a frame that is not put off is due, if it is an Await
+due_by : (x : Seen) (time : ℕ) (until : Option ℕ) (a : Option Awaited)
+    → off_by x a time until ≡ false → IsDueFrame x time until a
+due_by x time until None h = tt
+due_by x time until (Some a) h = by_not (is_due x a (until_of a time until) time) h
+  where
+    by_not : (b : Bool) → not b ≡ false → b ≡ true
+    by_not true n = refl
+    by_not false n = absurd cc
+
+due_next : (home : Home) (x : Seen) (time : ℕ) (notes : Notes) (c : Guarding) (frame : Frame)
+    → home ≡ c.talk.home → next_of c ≡ Some frame → puts_off home x c time notes ≡ false
+    → IsDueFrame x time notes.until (awaited_by c.talk.home frame)
+due_next home x time notes c frame same next h =
+    due_by x time notes.until (awaited_by c.talk.home frame)
+    (subst (λ z. off_by x (awaited_by z frame) time notes.until ≡ false) same
+    (subst (λ z. off_by x (awaited_of home z) time notes.until ≡ false) next h))
 
 -- one is begun, and then what is to be sent is offered, or nothing is
 pub next_serves : {V U C : Type 0} (d : DeskOf V) (p : PeersOf U)
-    (happened : C → Option (List Happened)) (k : ℕ) (cause : Option Why) (spent later : Bool)
+    (happened : C → Option (List Happened)) (k time : ℕ) (differs : Option Difference)
+    (cause : Option Why) (spent later : Bool) (notes after : Notes)
     (node next : V) (peers more : U) (c last : C) (old mid new : Guarding)
-    → MayBegin true old spent later
-    → Advances d p true (moment node peers old) (moment next more mid)
+    → d.home_of node ≡ old.talk.home
+    → MayBegin true (d.home_of node) (d.seen node) time old notes after spent later
+    → Advances d p differs true (moment node peers old) (moment next more mid)
     → Goes d p happened k cause 0 [] (spot next more c mid) (spot next more last new)
-    → ServesOne d p happened k cause spent later (spot node peers c old)
+    → ServesOne d p happened k time cause spent later notes after (spot node peers c old)
     (spot next more last new)
-next_serves d p happened k cause spent later node next peers more c last old mid new may h goes = (
-  h.2.0 ∷ [],
-  goes_both d p happened k cause 0 0 (h.2.0 ∷ []) [] (spot node peers c old)
-      (spot next more c mid) (spot next more last new)
-      (advanced d p happened k 0 true node next peers more c old mid h) goes,
-  shares_next d p true node next peers more old mid spent later h may,
-  tt,
-)
+next_serves d p happened k time differs cause spent later notes after node next peers more c last
+    old mid new home may h goes =
+    let go = may_go (d.home_of node) (d.seen node) time old notes after spent later may in (
+      h.2.0 ∷ [],
+      goes_both d p happened k cause 0 0 (h.2.0 ∷ []) [] (spot node peers c old)
+          (spot next more c mid) (spot next more last new)
+          (advanced d p happened k 0 differs true node next peers more c old mid h) goes,
+      shares_next d p differs true node next peers more old mid spent later h go.shares,
+      (
+        h.0,
+        (
+          due_next (d.home_of node) (d.seen node) time notes old h.2.0.frame home
+              (next_free old h.0 ∙ ap first_frame h.2.1.next) go.due,
+          tt,
+        ),
+      ),
+      tt,
+    )
 
--- messages of desks are served before it
+-- ---- messages of desks are served before it
+
 pub hears_none : {V U C : Type 0} (d : DeskOf V) (p : PeersOf U)
-    (happened : C → Option (List Happened)) (k : ℕ) (node : V) (peers : U) (c : C)
-    (talk : Guarding)
-    → HearsDesks d p happened k (spot node peers c talk) (spot node peers c talk)
-hears_none d p happened k node peers c talk = (
+    (happened : C → Option (List Happened)) (k : ℕ) (known : List ℕ) (differs : Option Difference)
+    (node : V) (peers : U) (c : C) (talk : Guarding)
+    → HearsDesks d p happened k (ears (d.seen node) known differs) known differs
+    (spot node peers c talk) (spot node peers c talk)
+hears_none d p happened k known differs node peers c talk = (
   [],
   no_turn d p happened k None 0 node peers c c talk talk refl (Tells-nil (happened c)),
   tt,
+  record { lengths = refl; first = refl },
+  λ free. refl,
 )
 
 all_messages : (xs ys : List Begun) → AreMessages xs → AreMessages ys → AreMessages (xs ++ ys)
 all_messages [] ys h k = k
 all_messages (x ∷ xs) ys h k = (h.0, all_messages xs ys h.1 k)
 
-message_is : {V U : Type 0} (d : DeskOf V) (p : PeersOf U) (went : Bool) (node next : V)
-    (peers more : U) (old new : Guarding)
-    (h : Advances d p went (moment node peers old) (moment next more new))
-    → HearsDesk old → AreMessages (begun_by d p went node next peers more old new h)
-message_is d p true node next peers more old new h hears =
-    (sym (ap message_next h.2.1.next) ∙ hears.next, tt)
-message_is d p false node next peers more old new h hears = tt
+heard_last : (home : Home) (e : Ears) (xs : List Begun) (one : Begun)
+    → hear_all home e (xs ++ one ∷ []) ≡ hear home (hear_all home e xs) one
+heard_last home e [] one = refl
+heard_last home e (x ∷ xs) one = heard_last home (hear home e x) xs one
+
+never_rests : (old new : Guarding) → HearsDesk old → Rests old new → ⊥
+never_rests old new hears (inl r) = r.0 hears.free
+never_rests old new hears (inr r) =
+    let n : false ≡ true = sym (ap message_next r.talk.served) ∙ hears.next in absurd cc
+
+-- where a frame may be begun after one, that one left the connection open
+still_open : (served : Talk) (old new : Guarding) → Answers served old new → IsFree new
+    → served.end ≡ None
+still_open served old new (inl h) free =
+    let n : true ≡ false = sym h.starved ∙ free.fed in absurd cc
+still_open served old new (inr h) free =
+    sym (ap (λ (t : Talk). t.end) h.talk) ∙ free.unended
+
+seen_then : {V U : Type 0} (d : DeskOf V) (p : PeersOf U) (differs : Option Difference)
+    (node next : V) (peers more : U) (old new : Guarding)
+    (h : Advances d p differs true (moment node peers old) (moment next more new))
+    → IsFree new → d.seen next ≡ (serve_frame old.talk.home (d.seen node) h.2.0).seen
+seen_then d p differs node next peers more old new h free =
+    (subst
+    (λ (e : Option End). Turns.LeavesAt e old.talk.home
+    (Turns.sides_at d p old.talk.wire (Turns.moment node peers old.talk))
+    (Turns.sides_at d p old.talk.wire (Turns.moment next more h.1)) h.2.0 h.1.frames)
+    (still_open h.1 old new h.3 free) h.2.2).0.node
+
+-- what is heard of one more, where it stands so before it
+record HeardOne (home : Home) (e : Ears) (one : Begun) (known : List ℕ)
+    (differs : Option Difference) : Type 0 where
+  lengths : known ≡ (hear home e one).known
+  first : differs ≡ (hear home e one).differs
+
+heard_one : (home : Home) (x : Seen) (c : Guarding) (notes after : Notes)
+    (differs later : Option Difference) (e : Ears) (one : Begun)
+    → next_of c ≡ Some one.frame → one.may ≡ permission_of (caller_of c.called)
+    → x ≡ e.seen → notes.known ≡ e.known → differs ≡ e.differs
+    → after ≡ listened home c notes → later ≡ heard_next home x c notes differs
+    → HeardOne home e one after.known later
+heard_one home x c notes after differs later e one next may seen known was listens hears =
+    record {
+      lengths =
+          ap (λ (n : Notes). n.known) listens
+          ∙ ap (λ z. (listened_to home c notes z).known) next
+          ∙ ap (λ m. known_after home m notes.known one.frame) (sym may)
+          ∙ ap (λ z. known_after home one.may z one.frame) known;
+      first =
+          hears ∙ ap (λ z. heard_by home x c notes z differs) next
+          ∙ ap
+          (λ m.
+          first_difference differs
+          (differs_by home m x.desk.log notes.known one.frame)) (sym may)
+          ∙ ap
+          (λ (z : Seen).
+          first_difference differs
+          (differs_by home one.may z.desk.log notes.known one.frame)) seen
+          ∙ ap
+          (λ z.
+          first_difference differs
+          (differs_by home one.may e.seen.desk.log z one.frame)) known
+          ∙ ap
+          (λ z.
+          first_difference z
+          (differs_by home one.may e.seen.desk.log e.known one.frame)) was;
+    }
+
+until_kept : (home : Home) (c : Guarding) (notes : Notes) (next : Option Frame)
+    → (listened_to home c notes next).until ≡ notes.until
+until_kept home c notes None = refl
+until_kept home c notes (Some f) = refl
+
+pub until_same : (home : Home) (c : Guarding) (notes after : Notes)
+    → after ≡ listened home c notes → after.until ≡ notes.until
+until_same home c notes after is =
+    ap (λ (n : Notes). n.until) is ∙ until_kept home c notes (next_of c)
 
 pub hears_more : {V U C : Type 0} (d : DeskOf V) (p : PeersOf U)
-    (happened : C → Option (List Happened)) (k : ℕ) (went : Bool) (a : Spot V U C)
-    (node next : V) (peers more : U) (c : C) (old new : Guarding)
-    → HearsDesks d p happened k a (spot node peers c old) → HearsDesk old
-    → Advances d p went (moment node peers old) (moment next more new)
-    → HearsDesks d p happened k a (spot next more c new)
-hears_more d p happened k went a node next peers more c old new h hears adv =
-    let one = begun_by d p went node next peers more old new adv in (
-      h.0 ++ one,
-      goes_both d p happened k None 0 0 h.0 one a (spot node peers c old) (spot next more c new)
-          h.1 (advanced d p happened k 0 went node next peers more c old new adv),
-      all_messages h.0 one h.2
-          (message_is d p went node next peers more old new adv hears),
+    (happened : C → Option (List Happened)) (k : ℕ) (e : Ears) (went : Bool) (a : Spot V U C)
+    (notes after : Notes) (differs later : Option Difference) (node next : V) (peers more : U)
+    (c : C) (old new : Guarding)
+    → d.home_of node ≡ a.talk.talk.home
+    → HearsDesks d p happened k e notes.known differs a (spot node peers c old) → HearsDesk old
+    → after ≡ listened (d.home_of node) old notes
+    → later ≡ heard_next (d.home_of node) (d.seen node) old notes differs
+    → Advances d p later went (moment node peers old) (moment next more new)
+    → HearsDesks d p happened k e after.known later a (spot next more c new)
+hears_more d p happened k e true a notes after differs later node next peers more c old new home h
+    hears listens says adv =
+    let one = adv.2.0 in
+    let place = a.talk.talk.home in
+    let heard = hear_all place e h.0 in
+    let last = heard_last place e h.0 one in
+    let it =
+    heard_one place (d.seen node) old notes after differs later heard one
+    (next_free old adv.0 ∙ ap first_frame adv.2.1.next) adv.2.3 (h.4 hears.free) h.3.lengths
+    h.3.first
+    (subst (λ z. after ≡ listened z old notes) home listens)
+    (subst (λ z. later ≡ heard_next z (d.seen node) old notes differs) home says) in (
+      h.0 ++ one ∷ [],
+      goes_both d p happened k None 0 0 h.0 (one ∷ []) a (spot node peers c old)
+          (spot next more c new) h.1
+          (advanced d p happened k 0 later true node next peers more c old new adv),
+      all_messages h.0 (one ∷ []) h.2
+          (sym (ap message_next adv.2.1.next) ∙ hears.next, tt),
+      record {
+        lengths = it.lengths ∙ sym (ap (λ (z : Ears). z.known) last);
+        first = it.first ∙ sym (ap (λ (z : Ears). z.differs) last);
+      },
+      λ free.
+          seen_then d p later node next peers more old new adv free
+          ∙ ap (λ z. (serve_frame z (d.seen node) one).seen) h.1.1.home
+          ∙ ap (λ z. (serve_frame place z one).seen) (h.4 hears.free)
+          ∙ sym (ap (λ (z : Ears). z.seen) last),
     )
+hears_more d p happened k e false a notes after differs later node next peers more c old new home h
+    hears listens says adv = absurd (never_rests old new hears adv.2)
 
 -- a message that waits is begun, so fewer wait
 fewer_wait : (w v : List Frame) (frame : Frame) → w ≡ frame ∷ v → length v < length w
@@ -527,32 +739,47 @@ fewer_wait w v frame is =
     let counted : length w ≡ suc (length v) = ap (λ (z : List Frame). length z) is in
     omega (arith, counted)
 
-pub hears_fewer : {V U : Type 0} (d : DeskOf V) (p : PeersOf U) (went : Bool) (node next : V)
-    (peers more : U) (old new : Guarding) → HearsDesk old
-    → Advances d p went (moment node peers old) (moment next more new)
+pub hears_fewer : {V U : Type 0} (d : DeskOf V) (p : PeersOf U) (differs : Option Difference)
+    (went : Bool) (node next : V) (peers more : U) (old new : Guarding) → HearsDesk old
+    → Advances d p differs went (moment node peers old) (moment next more new)
     → length new.talk.waiting < length old.talk.waiting
-hears_fewer d p true node next peers more old new hears h =
+hears_fewer d p differs true node next peers more old new hears h =
     subst (λ w. length w < length old.talk.waiting) (sym (after_waits h.1 old new h.3))
     (fewer_wait old.talk.waiting h.1.waiting h.2.0.frame h.2.1.next)
-hears_fewer d p false node next peers more old new hears h = absurd (never h.2)
-  where
-    never : Rests old new → ⊥
-    never (inl r) = r.0 hears.free
-    never (inr r) =
-        let n : false ≡ true = sym (ap message_next r.talk.served) ∙ hears.next in absurd cc
+hears_fewer d p differs false node next peers more old new hears h =
+    absurd (never_rests old new hears h.2)
+
+due_after : (home : Home) (x y : Seen) (time : ℕ) (same : Home) (until was : Option ℕ)
+    (c : Guarding) (last : List Begun) → same ≡ home → until ≡ was → (IsFree c → x ≡ y)
+    → BeginsDue same x time until c last → AreDue home y time was last
+due_after home x y time same until was c [] place moment at h = tt
+due_after home x y time same until was c (one ∷ more) place moment at h =
+    subst (λ z. AreDue z y time was (one ∷ more)) place
+    (subst (λ z. AreDue same y time z (one ∷ more)) moment
+    (subst (λ z. AreDue same z time until (one ∷ more)) (at h.0) h.1))
 
 pub hears_then : {V U C : Type 0} (d : DeskOf V) (p : PeersOf U)
-    (happened : C → Option (List Happened)) (k : ℕ) (cause : Option Why) (spent later : Bool)
-    (a m b : Spot V U C)
-    → HearsDesks d p happened k a m → ServesOne d p happened k cause spent later m b
-    → ServesNext d p happened k cause spent later a b
-hears_then d p happened k cause spent later a m b h g =
+    (happened : C → Option (List Happened)) (k time : ℕ) (cause : Option Why) (spent later : Bool)
+    (notes mid new : Notes) (differs after : Option Difference) (a m b : Spot V U C)
+    → mid.until ≡ notes.until → new.known ≡ mid.known
+    → HearsDesks d p happened k (ears (d.seen a.node) notes.known differs) mid.known after a m
+    → ServesOne d p happened k time cause spent later mid new m b
+    → ServesNext d p happened k time cause (beside spent notes differs) (beside later new after)
+    a b
+hears_then d p happened k time cause spent later notes mid new differs after a m b until known h g =
     let shares : Shares (h.0 ++ g.0) spent later =
     record { messages = h.0; last = g.0; all = refl; heard = h.2; shares = g.2 } in (
       h.0 ++ g.0,
       goes_both d p happened k cause 0 0 h.0 g.0 a m b h.1 g.1,
       shares,
-      g.3,
+      record {
+        heard = record { lengths = known ∙ h.3.lengths; first = h.3.first };
+        due =
+            due_after a.talk.talk.home (d.seen m.node)
+            (hear_all a.talk.talk.home (ears (d.seen a.node) notes.known differs) h.0).seen time
+            m.talk.talk.home mid.until notes.until m.talk g.0 h.1.1.home until h.4 g.3;
+      },
+      g.4,
     )
 
 -- ---- whether it is done
@@ -561,61 +788,67 @@ undone_is : (talk : Guarding) → SettledOrDone talk → (IsDone talk → ⊥) �
 undone_is talk (inl h) undone = h
 undone_is talk (inr h) undone = absurd (undone h)
 
-left_is : (begun : List Begun) (talk : Guarding) → IsLeftOrDone begun talk → (IsDone talk → ⊥)
-    → IsLeft begun talk
-left_is [] talk (inl h) undone = inl (undone_is talk h undone)
-left_is [] talk (inr h) undone = inr h
-left_is (one ∷ more) talk h undone = tt
+left_is : (x : Seen) (time : ℕ) (begun : List Begun) (talk : Guarding) (until : Option ℕ)
+    → IsLeftOrDone x time begun talk until → (IsDone talk → ⊥)
+    → IsLeft x time begun talk until
+left_is x time [] talk until (inl h) undone = inl (undone_is talk h undone)
+left_is x time [] talk until (inr h) undone = inr h
+left_is x time (one ∷ more) talk until h undone = tt
 
 pub not_done : (c : Guarding) (done : Bool) → (IsTrue done ↔ IsDone c) → done ≡ false → IsDone c → ⊥
 not_done c done h is at = let n : false ≡ true = sym is ∙ h.1 at in absurd cc
 
 -- a write failed, or a read did, or the client has gone
 pub talk_moved : {V U C : Type 0} (d : DeskOf V) (p : PeersOf U)
-    (happened : C → Option (List Happened)) (k : ℕ) (w : Why) (spent : Bool) (node : V) (peers : U)
-    (c later : C) (old new : Guarding)
+    (happened : C → Option (List Happened)) (k time : ℕ) (w : Why) (at : Beside) (node : V)
+    (peers : U) (c later : C) (old new : Guarding)
     → Moves happened k (Some w) c later old new
-    → TalksOn d p happened k (Some w) spent spent (spot node peers c old)
+    → TalksOn d p happened k time (Some w) at at (spot node peers c old)
     (spot node peers later new)
-talk_moved d p happened k w spent node peers c later old new h = (
+talk_moved d p happened k time w at node peers c later old new h = (
   [],
   after_move d p happened k (Some w) node peers c later old new h,
   record { messages = []; last = []; all = refl; heard = tt; shares = refl },
+  record { heard = record { lengths = refl; first = refl }; due = tt },
   λ n. some_not n,
   move_ends happened k w c later old new h,
 )
   where
-    some_not : Some w ≡ None → IsLeft [] new
+    some_not : Some w ≡ None → IsLeft (d.seen node) time [] new at.notes.until
     some_not n = absurd cc
 
 -- a frame was served after that, or none
 pub talk_served : {V U C : Type 0} (d : DeskOf V) (p : PeersOf U)
-    (happened : C → Option (List Happened)) (k : ℕ) (cause : Option Why) (spent later : Bool)
+    (happened : C → Option (List Happened)) (k time : ℕ) (cause : Option Why) (was at : Beside)
     (node : V) (peers : U) (c between : C) (old mid : Guarding) (b : Spot V U C)
     → Moves happened k None c between old mid
-    → ServesNext d p happened k cause spent later (spot node peers between mid) b
+    → ServesNext d p happened k time cause was at (spot node peers between mid) b
     → IsFate cause b.talk
-    → TalksOn d p happened k cause spent later (spot node peers c old) b
-talk_served d p happened k cause spent later node peers c between old mid b h g fate = (
-  g.0,
-  goes_both d p happened k cause 1 0 [] g.0 (spot node peers c old) (spot node peers between mid) b
-      (after_move d p happened k None node peers c between old mid h) g.1,
-  g.2,
-  λ is. left_is g.2.last b.talk g.3 (subst (λ z. IsFate z b.talk) is fate),
-  fate,
-)
+    → TalksOn d p happened k time cause was at (spot node peers c old) b
+talk_served d p happened k time cause was at node peers c between old mid b h g fate =
+    let moved = after_move d p happened k None node peers c between old mid h in (
+      g.0,
+      goes_both d p happened k cause 1 0 [] g.0 (spot node peers c old)
+          (spot node peers between mid) b moved g.1,
+      g.2,
+      subst (λ z. Beholds z time (d.seen node) g.2.messages g.2.last was at) moved.1.home g.3,
+      λ is.
+          left_is (d.seen b.node) time g.2.last b.talk at.notes.until g.4
+          (subst (λ z. IsFate z b.talk) is fate),
+      fate,
+    )
 
 -- and all is done
 pub talk_done : {V U C : Type 0} (d : DeskOf V) (p : PeersOf U)
-    (happened : C → Option (List Happened)) (k : ℕ) (spent later : Bool)
+    (happened : C → Option (List Happened)) (k time : ℕ) (was at : Beside)
     (node : V) (peers : U) (c between : C) (old mid : Guarding) (b : Spot V U C)
     → Moves happened k None c between old mid
-    → ServesNext d p happened k None spent later (spot node peers between mid) b
+    → ServesNext d p happened k time None was at (spot node peers between mid) b
     → IsDone b.talk
-    → TalksOn d p happened k (Some why.Done) spent later (spot node peers c old) b
-talk_done d p happened k spent later node peers c between old mid b h g done =
-    talk_served d p happened k (Some why.Done) spent later node peers c between old mid b h
-    (g.0, goes_done d p happened k 0 g.0 _ b g.1, g.2, g.3) done
+    → TalksOn d p happened k time (Some why.Done) was at (spot node peers c old) b
+talk_done d p happened k time was at node peers c between old mid b h g done =
+    talk_served d p happened k time (Some why.Done) was at node peers c between old mid b h
+    (g.0, goes_done d p happened k 0 g.0 _ b g.1, g.2, g.3, g.4) done
 
 -- ---- it is asked to be named again
 
@@ -632,32 +865,34 @@ goes_told d p happened k cause begun a node peers c later talk h told =
     (no_turn d p happened k cause 0 node peers c later talk talk refl told))
 
 pub hosts_on : {V U C : Type 0} (d : DeskOf V) (p : PeersOf U)
-    (happened : C → Option (List Happened)) (k : ℕ) (spent later : Bool) (a : Spot V U C)
+    (happened : C → Option (List Happened)) (k time : ℕ) (was at : Beside) (a : Spot V U C)
     (node : V) (peers : U) (c last : C) (talk : Guarding)
-    → TalksOn d p happened k None spent later a (spot node peers c talk)
+    → TalksOn d p happened k time None was at a (spot node peers c talk)
     → Tells (happened c) (happened last) []
-    → TalksOn d p happened k None spent later a (spot node peers last talk)
-hosts_on d p happened k spent later a node peers c last talk h told = (
+    → TalksOn d p happened k time None was at a (spot node peers last talk)
+hosts_on d p happened k time was at a node peers c last talk h told = (
   h.0,
   goes_told d p happened k None h.0 a node peers c last talk h.1 told,
   h.2,
   h.3,
   h.4,
+  h.5,
 )
 
 pub hosts_broken : {V U C : Type 0} (d : DeskOf V) (p : PeersOf U)
-    (happened : C → Option (List Happened)) (k : ℕ) (spent later : Bool) (a : Spot V U C)
+    (happened : C → Option (List Happened)) (k time : ℕ) (was at : Beside) (a : Spot V U C)
     (node : V) (peers : U) (c last : C) (talk : Guarding)
-    → TalksOn d p happened k None spent later a (spot node peers c talk)
+    → TalksOn d p happened k time None was at a (spot node peers c talk)
     → Tells (happened c) (happened last) (told_why k (Some why.Broke))
-    → TalksOn d p happened k (Some why.Broke) spent later a (spot node peers last talk)
-hosts_broken d p happened k spent later a node peers c last talk h told = (
+    → TalksOn d p happened k time (Some why.Broke) was at a (spot node peers last talk)
+hosts_broken d p happened k time was at a node peers c last talk h told = (
   h.0,
   goes_told d p happened k (Some why.Broke) h.0 a node peers c last talk h.1 told,
   h.2,
+  h.3,
   λ n. some_not n,
   tt,
 )
   where
-    some_not : Some why.Broke ≡ None → IsLeft h.2.last talk
+    some_not : Some why.Broke ≡ None → IsLeft (d.seen node) time h.2.last talk at.notes.until
     some_not n = absurd cc

@@ -1,6 +1,8 @@
 pub mod Happenings
 pub mod Requests
 pub mod Dear
+pub mod Noting
+pub mod Silence
 pub mod Passing
 pub mod EachClient
 pub mod SharedTurns

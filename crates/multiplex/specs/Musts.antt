@@ -3,8 +3,12 @@ use Rattle.std.specs.Prelude.{◌≡◌, ◌≢◌, ◌⊎◌, ◌≤◌, ◌<�
 use Rattle.std.specs.Prelude.{map, reverse}
 use Rattle.std.specs.Prelude.{Option, None, Some, Bool, true, false, IfSome, ◌↔◌}
 use Rattle.std.specs.List.{AllByRecursion}
-use Rattle.guarded.specs.Guarding.{Guarding, WantsRead}
+use Rattle.answers.specs.Seen.{Seen}
+use Rattle.guarded.specs.Guarding.{Guarding, WantsRead, begun}
 use Rattle.multiplex.specs.Dear.{fresh_dear}
+use Rattle.multiplex.specs.Noting.{awakes}
+use Rattle.store.specs.declared.home.Home.{Home}
+use Rattle.wire.specs.declared.standing.Difference.{Difference}
 use Rattle.multiplex.specs.Requests.{Request, Waited, Accepting, Reading, Writing, Watching}
 use Rattle.multiplex.specs.Requests.{Closing}
 use Rattle.polled.specs.declared.answers.Ready.{Ready}
@@ -18,6 +22,7 @@ use Rattle.multiplex.specs.declared.ends.Over.TheVariants as over_is
 use Rattle.multiplex.specs.declared.own_ticks.OwnTicks.{OwnTicks}
 use Rattle.multiplex.specs.declared.table.Guest.{Guest}
 use Rattle.multiplex.specs.declared.table.Table.{Table}
+use Rattle.multiplex.specs.Silence.{waited_for}
 use Rattle.multiplex.specs.declared.table.Terms.{Terms}
 use Rattle.ticking.specs.Ticking.{Ticking, left}
 
@@ -47,17 +52,26 @@ IsMove k c asked =
     ⊎ ((WantsRead c × ((g : Given) × (asked ≡ Reading k g ∷ [])))
     ⊎ ((c.output ≡ []) × (WantsRead c → ⊥) × (asked ≡ [])))
 
--- it is asked to be named again: when it can be read from, where all that came is served and all is
--- sent, or else when it can take bytes
-abbrev pub IsWatched : ℕ → Guarding → List Request → Type 0
-IsWatched k c asked =
-    (writes : Bool) × ((writes ≡ false) ↔ WantsRead c) × (asked ≡ Watching k writes true ∷ [])
+-- all that came is served and all is sent, or an Await is put off
+abbrev pub WaitsToRead : Guest → Type 0
+WaitsToRead g = WantsRead g.talk ⊎ (g.notes.until ≢ None)
+
+-- It is asked to be named again: when it can be read from, where it waits for that, or else when it
+-- can take bytes. Where an Await was put off before and still is, nothing is asked: it is named
+-- when more comes, and once the Await is to be answered.
+abbrev pub IsWatched : ℕ → Guest → Guest → List Request → Type 0
+IsWatched k old g asked =
+    ((old.notes.until ≢ None) × (g.notes.until ≢ None) × (asked ≡ []))
+    ⊎ (((old.notes.until ≡ None) ⊎ (g.notes.until ≡ None))
+    × ((writes : Bool) × ((writes ≡ false) ↔ WaitsToRead g)
+    × (asked ≡ Watching k writes true ∷ [])))
 
 -- that is asked at last
-pub record Stays (k : ℕ) (before after new : List Guest) (last : List Request) : Type 0 where
+pub record Stays (k : ℕ) (one : Guest) (before after new : List Guest) (last : List Request)
+    : Type 0 where
   pub later : Guest
   pub stays : new ≡ before ++ later ∷ after
-  pub watched : IsWatched k later.talk last
+  pub watched : IsWatched k one later last
 
 -- or its connection is ended
 pub record Leaves (k : ℕ) (before after new : List Guest) (last : List Request) : Type 0 where
@@ -75,7 +89,7 @@ pub record IsAttended (k : ℕ) (old new : List Guest) (asked : List Request) : 
   pub move : IsMove k one.talk first
   pub more : List Request
   pub last : List Request
-  pub end : Stays k before after new last ⊎ Leaves k before after new last
+  pub end : Stays k one before after new last ⊎ Leaves k before after new last
   pub all : asked ≡ first ++ (more ++ last)
 
 -- and nothing is asked where it is not
@@ -116,62 +130,78 @@ Admits t over old asked =
 
 -- ---- a round is over
 
--- each client was ready within the time for which one is waited for
+-- each client was ready within the time for which it is waited for
 abbrev pub NoneIsSilent : ℕ → Table → Type 0
 NoneIsSilent patience table =
-    AllByRecursion (λ (g : Guest). table.time - g.ready ≤ patience) table.guests.items
+    AllByRecursion
+    (λ (g : Guest). table.time - g.ready ≤ waited_for patience (begun g.talk)) table.guests.items
 
 -- the last moment at which the links were kept, where that is told
 abbrev pub WereKeptAt : ℕ → Option (List ℕ) → Type 0
 WereKeptAt now kept =
     IfSome kept (λ moments. (earlier : List ℕ) × (moments ≡ earlier ++ now ∷ []))
 
--- the links are kept, and clients that are silent for too long are let go
-pub record EndsRound (t : Terms) (now : ℕ) (over : Option Over) (new : Table)
-    (kept : Option (List ℕ)) : Type 0 where
+-- the client is asked to be named in the next round, where an Await of it is put off that is to be
+-- answered now: it is to be named when it can take bytes
+abbrev pub IsWoken : Home → Seen → ℕ → List Request → Guest → Type 0
+IsWoken home x time asked g =
+    awakes home x time g.talk g.notes ≡ true
+    → ((before : List Request) × (told : Bool) × (after : List Request)
+    × (asked ≡ before ++ Watching g.number true told ∷ after))
+
+-- the links are kept, those are woken whose Await is to be answered, and clients that are silent
+-- for too long are let go
+pub record EndsRound (t : Terms) (home : Home) (now : ℕ) (over : Option Over) (x : Seen)
+    (new : Table) (kept : Option (List ℕ)) (asked : List Request) : Type 0 where
   pub time : new.time ≡ now
   pub links : WereKeptAt now kept
+  pub woken : over ≡ None → AllByRecursion (IsWoken home x now asked) new.guests.items
   pub silent : over ≡ None → NoneIsSilent t.patience new
 
 -- ---- a step
 
-abbrev pub Follows : Terms → Option Over → Table → Table → Option (List ℕ) → Ready → List Request
-    → Type 0
-Follows t over old new kept ready_is.Waits more = Admits t over old more
-Follows t over old new kept (ready_is.Peer k) more =
+abbrev pub Follows : Terms → Home → Seen → Option Over → Table → Table → Option (List ℕ) → Ready
+    → List Request → Type 0
+Follows t home x over old new kept ready_is.Waits more = Admits t over old more
+Follows t home x over old new kept (ready_is.Peer k) more =
     Attends k old.guests.items new.guests.items more
-Follows t over old new kept (ready_is.Round now) more = EndsRound t now over new kept
-Follows t over old new kept ready_is.Failed more = (over ≡ Some over_is.Failed) × (more ≡ [])
+Follows t home x over old new kept (ready_is.Round now) more =
+    EndsRound t home now over x new kept more
+Follows t home x over old new kept ready_is.Failed more =
+    (over ≡ Some over_is.Failed) × (more ≡ [])
 
 -- It is waited until something is ready, as long as may be, and then that is done which is to be
--- done. What the links say of when they are to be kept again stands first.
+-- done. What the links say of when they are to be kept again stands first. This is seen of the desk
+-- behind the step.
 pub record Musts {L : Type 0} (due : L → ℕ → Option ℕ → Type 0) (kept : L → Option (List ℕ))
-    (t : Terms) (over : Option Over) (old new : Table) (links later : L) (asked : List Request)
-    : Type 0 where
+    (t : Terms) (home : Home) (x : Seen) (over : Option Over) (old new : Table) (links later : L)
+    (asked : List Request) : Type 0 where
   pub left : Option ℕ
   pub says : due links old.time left
   pub ready : Ready
   pub more : List Request
   pub all : asked ≡ Waited (wait_by left (left_at old.own.ticker old.time)) ready ∷ more
-  pub follows : Follows t over old new (kept later) ready more
+  pub follows : Follows t home x over old new (kept later) ready more
 
 -- ---- serving from its first client to its end
 
--- what stands between two steps: the clients whose connections are open, and the links
+-- what stands between two steps: the clients whose connections are open, the links, and what is
+-- seen of the desk
 pub record Stand (L : Type 0) : Type 0 where
   pub table : Table
   pub links : L
+  pub seen : Seen
 
-abbrev pub stand : {L : Type 0} → Table → L → Stand L
-stand table links = record { table = table; links = links }
+abbrev pub stand : {L : Type 0} → Table → L → Seen → Stand L
+stand table links seen = record { table = table; links = links; seen = seen }
 
 -- steps after each of which serving goes on, with what was asked at each
 abbrev pub GoesOn : {L : Type 0} → (L → ℕ → Option ℕ → Type 0) → (L → Option (List ℕ)) → Terms
-    → Stand L → List (List Request) → Stand L → Type 0
-GoesOn due kept t a [] b = a ≡ b
-GoesOn {L} due kept t a (asked ∷ steps) b =
-    (m : Stand L) × Musts due kept t None a.table m.table a.links m.links asked
-    × GoesOn due kept t m steps b
+    → Home → Stand L → List (List Request) → Stand L → Type 0
+GoesOn due kept t home a [] b = a ≡ b
+GoesOn {L} due kept t home a (asked ∷ steps) b =
+    (m : Stand L) × Musts due kept t home m.seen None a.table m.table a.links m.links asked
+    × GoesOn due kept t home m steps b
 
 abbrev pub joined : List (List Request) → List Request
 joined [] = []
@@ -180,21 +210,21 @@ joined (asked ∷ steps) = asked ++ joined steps
 -- After so many steps serving is over: as many clients as were asked for came and left; or it took
 -- 2^64 - 1 steps; or a further step, at which this was asked, ended it.
 abbrev pub Ends : {L : Type 0} → (L → ℕ → Option ℕ → Type 0) → (L → Option (List ℕ)) → Terms
-    → Over → ℕ → Stand L → Stand L → List Request → Type 0
-Ends due kept t over count a b last =
+    → Home → Over → ℕ → Stand L → Stand L → List Request → Type 0
+Ends due kept t home over count a b last =
     ((over ≡ over_is.All) × (a.table.guests.items ≡ []) × (t.most ≤ a.table.next) × (b ≡ a)
     × (last ≡ []))
     ⊎ (((over ≡ over_is.Tired) × (count ≡ 18446744073709551615) × (b ≡ a) × (last ≡ []))
-    ⊎ Musts due kept t (Some over) a.table b.table a.links b.links last)
+    ⊎ Musts due kept t home b.seen (Some over) a.table b.table a.links b.links last)
 
 -- all that is asked while it is served
 pub record AsksUntil {L : Type 0} (due : L → ℕ → Option ℕ → Type 0) (kept : L → Option (List ℕ))
-    (t : Terms) (over : Over) (a b : Stand L) (asked : List Request) : Type 0 where
+    (t : Terms) (home : Home) (over : Over) (a b : Stand L) (asked : List Request) : Type 0 where
   pub steps : List (List Request)
   pub mid : Stand L
   pub last : List Request
-  pub goes : GoesOn due kept t a steps mid
-  pub ends : Ends due kept t over (length steps) mid b last
+  pub goes : GoesOn due kept t home a steps mid
+  pub ends : Ends due kept t home over (length steps) mid b last
   pub all : asked ≡ joined steps ++ last
 
 -- at the end all connections are ended, the last one first
@@ -205,20 +235,24 @@ ends_of guests = map (λ (g : Guest). Closing g.number) (reverse guests)
 abbrev pub IsFresh : OwnTicks → Table → Type 0
 IsFresh own t =
     (t.guests.items ≡ []) × (t.next ≡ 0) × (t.time ≡ 0) × (t.own ≡ own) × (t.dear ≡ fresh_dear)
+    × (t.differs ≡ None)
 
 -- from the first client to the last
 pub record ServesDuly {L : Type 0} (due : L → ℕ → Option ℕ → Type 0) (kept : L → Option (List ℕ))
-    (t : Terms) (over : Over) (own : OwnTicks) (first last : L) (asked : List Request)
-    : Type 0 where
+    (t : Terms) (home : Home) (over : Over) (own : OwnTicks) (first last : L) (before_it : Seen)
+    (asked : List Request) : Type 0 where
   pub before : Table
   pub fresh : IsFresh own before
   pub after : Table
   pub served : List Request
-  pub until : AsksUntil due kept t over (stand before first) (stand after last) served
+  pub seen : Seen
+  pub until : AsksUntil due kept t home over (stand before first before_it)
+      (stand after last seen) served
   pub all : asked ≡ served ++ ends_of after.guests.items
 
 -- nothing is asked where there was no memory to begin
 abbrev pub AsksDuly : {L : Type 0} → (L → ℕ → Option ℕ → Type 0) → (L → Option (List ℕ)) → Terms
-    → Over → OwnTicks → L → L → List Request → Type 0
-AsksDuly due kept t over own first last asked =
-    ((over ≡ over_is.NoMemory) × (asked ≡ [])) ⊎ ServesDuly due kept t over own first last asked
+    → Home → Over → OwnTicks → L → L → Seen → List Request → Type 0
+AsksDuly due kept t home over own first last x asked =
+    ((over ≡ over_is.NoMemory) × (asked ≡ []))
+    ⊎ ServesDuly due kept t home over own first last x asked

@@ -4,7 +4,7 @@ use Rattle.std.specs.Prelude.{Option, None, Some, suc, Bool, true, false, ◌||�
 use Rattle.std.specs.Prelude.{if◌then◌else◌}
 use Rattle.std.specs.List.{AllByRecursion}
 use Rattle.answers.specs.Seen.{Seen}
-use Rattle.guarded.specs.Guarding.{Guarding, IsDear, IsDone, WantsRead, fresh_guard}
+use Rattle.guarded.specs.Guarding.{Guarding, IsDear, IsDone, WantsRead, begun, fresh_guard}
 use Rattle.guarded.specs.GuardTurns.{Follow, Place}
 use Rattle.store.specs.declared.home.Home.{Home}
 use Rattle.serving.specs.declared.ends.End.{End}
@@ -23,6 +23,10 @@ use Rattle.multiplex.specs.declared.ends.Over.{Over}
 use Rattle.multiplex.specs.declared.ends.Over.TheVariants as over
 use Rattle.multiplex.specs.declared.ends.Why.{Why}
 use Rattle.multiplex.specs.declared.ends.Why.TheVariants as why
+use Rattle.wire.specs.declared.standing.Difference.{Difference}
+use Rattle.multiplex.specs.Noting.{AreDue, IsHeard, IsOff, ears, fresh_notes, hear_all}
+use Rattle.multiplex.specs.Silence.{ready_after, waited_for}
+use Rattle.multiplex.specs.declared.notes.Notes.{Notes}
 use Rattle.multiplex.specs.declared.table.Guest.{Guest}
 use Rattle.multiplex.specs.declared.own_ticks.OwnTicks.{OwnTicks}
 use Rattle.multiplex.specs.declared.table.Terms.{Terms}
@@ -60,32 +64,36 @@ ticks_after own l starved =
 
 -- the clients whose connections are open, in the order in which they came; the number of the next
 -- one; how many milliseconds after the first round it is; the desk's own Ticks; whether a sheet or
--- entries of the log were asked for and answered in this round; why serving is over, where it is
+-- entries of the log were asked for and answered in this round; how another desk differs, if one
+-- was heard to; why serving is over, where it is
 pub record Lobby : Type 0 where
   pub guests : List Guest
   pub next : ℕ
   pub time : ℕ
   pub own : OwnTicks
   pub spent : Bool
+  pub differs : Option Difference
   pub over : Option Over
 
-abbrev pub lobby : List Guest → ℕ → ℕ → OwnTicks → Bool → Option Over → Lobby
-lobby guests next time own spent over =
+abbrev pub lobby : List Guest → ℕ → ℕ → OwnTicks → Bool → Option Difference → Option Over → Lobby
+lobby guests next time own spent differs over =
     record {
       guests = guests;
       next = next;
       time = time;
       own = own;
       spent = spent;
+      differs = differs;
       over = over;
     }
 
 -- before the first client
 abbrev pub empty_lobby : OwnTicks → Lobby
-empty_lobby own = lobby [] 0 0 own false None
+empty_lobby own = lobby [] 0 0 own false None None
 
-abbrev pub guest : ℕ → Guarding → ℕ → Guest
-guest number talk ready = record { number = number; talk = talk; ready = ready }
+abbrev pub guest : ℕ → Guarding → Notes → ℕ → Guest
+guest number talk notes ready =
+    record { number = number; talk = talk; notes = notes; ready = ready }
 
 -- what is seen of the node beside that, and what is there beside
 pub record Room {V : Type 0} (way : Way V) : Type 0 where
@@ -100,12 +108,13 @@ with_node a talk = record { guard = talk; seen = a.seen; outside = a.outside }
 -- ---- steps
 
 -- a change of which the node knows nothing: a client came, with these random bytes, or came and was
--- turned away for want of memory; the system had no socket for one; a client was ready whose
--- connection is not open; a connection was ended; serving is over
+-- turned away for want of memory; the system had no socket for one; it refuses to name one; a
+-- client was ready whose connection is not open; a connection was ended; serving is over
 pub data Change : Type 0 where
   Comes : ℕ → List ℕ → Change
   TurnedAway : ℕ → List ℕ → Change
   NoSocket : Change
+  Unwatched : ℕ → Change
   Stray : ℕ → Change
   Shut : ℕ → Why → Change
   Stops : Over → Change
@@ -155,6 +164,7 @@ abbrev pub told_change : Change → List Happened
 told_change (Comes k random) = Came k random ∷ []
 told_change (TurnedAway k random) = Came k random ∷ Closed k ∷ []
 told_change NoSocket = Full ∷ []
+told_change (Unwatched k) = Broke k ∷ []
 told_change (Stray k) = Named k ∷ []
 told_change (Shut k w) = Closed k ∷ []
 told_change (Stops e) = told_over e
@@ -192,10 +202,11 @@ abbrev pub AreMessages : List Begun → Type 0
 AreMessages begun = AllByRecursion (λ (one : Begun). is_message one.frame.what ≡ true) begun
 
 -- where no frame was begun after the messages of desks, none is to be begun, or the next one was
--- put off, which asks for a sheet or for entries of the log
-abbrev pub IsLeft : List Begun → Guarding → Type 0
-IsLeft [] c = Settled c ⊎ IsDear c
-IsLeft (one ∷ more) c = Unit {0}
+-- put off, which asks for a sheet or for entries of the log, or is an Await that is not to be
+-- answered yet
+abbrev pub IsLeft : Seen → ℕ → List Begun → Guarding → Option ℕ → Type 0
+IsLeft x time [] c until = Settled c ⊎ (IsDear c ⊎ IsOff x time c until)
+IsLeft x time (one ∷ more) c until = Unit {0}
 
 -- a frame is begun, and whether one that asks for such was begun in this round: one alone may be
 abbrev pub SharesOne : Bool → Bool → Bool → Type 0
@@ -256,12 +267,18 @@ pub record Visits {V : Type 0} {way : Way V} (k : ℕ) (turns : List Turn) (fate
   pub follow : Follow (with_node a old.talk) turns (with_node b new.talk)
   pub once : pieces turns ≤ 1
   pub shares : Shares (begun_in turns) a.lobby.spent b.lobby.spent
-  pub served : fate ≡ None → IsLeft shares.last new.talk
+  pub served : fate ≡ None → IsLeft b.seen a.lobby.time shares.last new.talk new.notes.until
+  pub heard : IsHeard old.talk.talk.home (ears a.seen old.notes.known a.lobby.differs)
+      shares.messages new.notes.known b.lobby.differs
+  pub due : AreDue old.talk.talk.home
+      (hear_all old.talk.talk.home (ears a.seen old.notes.known a.lobby.differs)
+      shares.messages).seen a.lobby.time old.notes.until shares.last
   pub same : new.number ≡ k
-  pub ready : new.ready ≡ a.lobby.time
+  pub ready : new.ready
+      ≡ ready_after a.lobby.time (begun old.talk) (begun new.talk) old.ready
   pub stands : IsFate fate new.talk
   pub left : b.lobby ≡ lobby (before ++ (staying fate new ++ after)) a.lobby.next a.lobby.time
-      a.lobby.own b.lobby.spent (over_after fate new.talk)
+      a.lobby.own b.lobby.spent b.lobby.differs (over_after fate new.talk)
 
 -- ---- changes of which the node knows nothing
 
@@ -273,7 +290,8 @@ IsLongest g = AllByRecursion (λ (o : Guest). g.ready ≤ o.ready)
 -- for; for the longest time, where another client waits, and as many are open as may be, or the
 -- system has no socket for it; or serving is over
 abbrev pub IsCause : Terms → Why → Lobby → Guest → Type 0
-IsCause t why.Silent a g = (a.over ≡ None) × (t.patience < a.time - g.ready)
+IsCause t why.Silent a g =
+    (a.over ≡ None) × (waited_for t.patience (begun g.talk) < a.time - g.ready)
 IsCause t why.Crowded a g = (a.over ≡ None) × (512 ≤ length a.guests) × IsLongest g a.guests
 IsCause t why.NoSocket a g = (a.over ≡ None) × IsLongest g a.guests
 IsCause t why.Over a g = a.over ≢ None
@@ -292,7 +310,7 @@ pub record Shuts (t : Terms) (k : ℕ) (w : Why) (a b : Lobby) (before after : L
   pub found : a.guests ≡ before ++ old ∷ after
   pub number : old.number ≡ k
   pub cause : IsCause t w a old
-  pub left : b ≡ lobby (before ++ after) a.next a.time a.own a.spent
+  pub left : b ≡ lobby (before ++ after) a.next a.time a.own a.spent a.differs
       (first_of a.over (over_by old.talk.talk.end))
 
 -- another client came, with which these stay
@@ -301,7 +319,8 @@ pub record Enters (t : Terms) (k : ℕ) (more : List Guest) (a b : Lobby) : Type
   pub number : k ≡ a.next
   pub wanted : a.next < t.most
   pub room : length a.guests < 512
-  pub enters : b ≡ lobby (a.guests ++ more) (a.next + 1) a.time a.own a.spent None
+  pub enters : b ≡ lobby (a.guests ++ more) (a.next + 1) a.time a.own a.spent
+      a.differs None
 
 -- the ends that come of themselves
 abbrev pub IsStop : Terms → Over → Lobby → Type 0
@@ -314,16 +333,20 @@ IsStop t over.Down a = ⊥
 
 abbrev pub Changes : Home → Terms → Change → Lobby → Lobby → Type 0
 Changes home t (Comes k random) a b =
-    Enters t k (guest k (fresh_guard t.doors random home t.wire) a.time ∷ []) a b
+    (known : List ℕ)
+    × Enters t k
+    (guest k (fresh_guard t.doors random home t.wire) (fresh_notes known) a.time ∷ []) a b
 Changes home t (TurnedAway k random) a b = Enters t k [] a b
 Changes home t NoSocket a b = (a.over ≡ None) × (b ≡ a)
+Changes home t (Unwatched k) a b = (a.over ≡ None) × (b ≡ a)
 Changes home t (Stray k) a b =
     (a.over ≡ None) × AllByRecursion (λ (g : Guest). g.number ≢ k) a.guests × (b ≡ a)
 Changes home t (Shut k w) a b =
     (before : List Guest) × (after : List Guest) × (old : Guest)
     × Shuts t k w a b before after old
 Changes home t (Stops e) a b =
-    (a.over ≡ None) × IsStop t e a × (b ≡ lobby a.guests a.next a.time a.own a.spent (Some e))
+    (a.over ≡ None) × IsStop t e a
+    × (b ≡ lobby a.guests a.next a.time a.own a.spent a.differs (Some e))
 
 -- ---- rounds
 
@@ -339,7 +362,7 @@ pub record Rounds {V : Type 0} {way : Way V} (now : ℕ) (a b : Room way) : Type
   pub seen : b.seen ≡ a.seen
   pub outside : b.outside ≡ a.outside
   pub left : b.lobby ≡ lobby a.lobby.guests a.lobby.next now
-      (ticks_after a.lobby.own (look_in a now) false) false None
+      (ticks_after a.lobby.own (look_in a now) false) false a.lobby.differs None
 
 -- what is seen of the node, and what is there beside, where no answer is written
 abbrev pub alone : {V : Type 0} → {way : Way V} → Room way → Sides way
@@ -362,7 +385,8 @@ pub record TicksItself {V : Type 0} {way : Way V} (home : Home) (now : ℕ) (sta
   pub due : IsTrue (ticks_at a.lobby.own.ticker (look_in a now))
   pub tick : TicksBy starved home (alone a) (alone b)
   pub left : b.lobby ≡ lobby a.lobby.guests a.lobby.next now
-      (ticks_after a.lobby.own (look_in a now) starved) false (over_if b.seen.is_down)
+      (ticks_after a.lobby.own (look_in a now) starved) false a.lobby.differs
+      (over_if b.seen.is_down)
 
 -- ---- steps, one after the other
 

@@ -1,5 +1,5 @@
 -- A desk that serves, step after step.
-use Rattle.std.specs.Prelude.{◌≡◌, ℕ, [], Option}
+use Rattle.std.specs.Prelude.{◌≡◌, ℕ, [], Option, None}
 use Rattle.answers.specs.declared.desk.Desk.{Ghosts as DeskOf}
 use Rattle.multiplex.specs.Dear.{fresh_dear}
 use Rattle.multiplex.specs.Passing.{first_ticks}
@@ -25,3 +25,4 @@ pub record Begins {V : Type 0} (d : DeskOf V) (t : Terms) (period : Option ℕ) 
   pub time : r.table.time ≡ 0
   pub own : r.table.own ≡ first_ticks (d.home_of first) period (d.seen first)
   pub dear : r.table.dear ≡ fresh_dear
+  pub differs : r.table.differs ≡ None

@@ -38,7 +38,7 @@ impl<D: Desk + Drop> Model for Rounds<D> {
 
     ghost view = { λ r. rounds r.terms r.table r.desk };
 
-    ghost invariant = { λ r. AreKept (D.home_of r.desk) r.terms.wire r.table.guests.items
+    ghost invariant = { λ r. AreKept (D.home_of r.desk) r.terms.wire r.table
         × (length r.table.guests.items ≤ 512) };
 }
 
@@ -95,8 +95,8 @@ impl<D: Desk + Drop> Rounds<D> {
             (scene self.old.desk links.old clients.old)
             (scene self.new.desk links.new clients.new) }
         ensures asks { Asks C.requests clients.old clients.new
-            (Musts L.due L.kept self.old.terms result self.old.table self.new.table
-            links.old links.new) }
+            (Musts L.due L.kept self.old.terms (D.home_of self.old.desk) (D.seen self.new.desk)
+            result self.old.table self.new.table links.old links.new) }
         ensures terms { self.new.terms ≡ self.old.terms }
         ensures home { D.home_of self.new.desk ≡ D.home_of self.old.desk }
     {

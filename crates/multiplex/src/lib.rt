@@ -7,6 +7,7 @@ mod driven;
 mod ends;
 pub mod laws;
 mod links;
+mod notes;
 mod own_ticks;
 mod serving_each;
 mod steps;

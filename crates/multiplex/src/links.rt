@@ -4,6 +4,7 @@ ghost use Rattle.std.specs.Prelude.{◌≡◌, ◌∷◌, [], ℕ, List, Option}
 ghost use Rattle.polled.specs.Telling.{Tells};
 
 use serving::Peers;
+use wire::Difference;
 
 /// The links to the other desks of a hall. A frame that is pushed waits in its link until the link
 /// is kept. No call waits.
@@ -18,6 +19,11 @@ pub trait Links: Peers {
     fn keep(&mut self, now: u64)
         ensures handed { Self.handed self.new ≡ Self.handed self.old }
         ensures kept { Tells (kept self.old) (kept self.new) (now ∷ []) };
+
+    /// Says on standard error that another desk of the hall differs.
+    fn differs(&mut self, difference: Difference)
+        ensures handed { Self.handed self.new ≡ Self.handed self.old }
+        ensures kept { kept self.new ≡ kept self.old };
 
     /// In how many milliseconds at most the links are to be kept again, unless one of their sockets
     /// becomes ready before that. None: not until a frame is pushed.

@@ -5,7 +5,6 @@ ghost use Rattle.multiplex.specs.Musts.{AsksDuly, AsksUntil, EndsRound, Musts, l
 ghost use Rattle.multiplex.specs.Musts.{wait_by};
 ghost use Rattle.multiplex.specs.Passing.{first_ticks};
 ghost use Rattle.multiplex.specs.Requests.{Asks};
-ghost use Rattle.multiplex.specs.model.Asking.{AsksSome};
 ghost use Rattle.multiplex.specs.model.Tables.{AreKept, KeepsAll};
 ghost use Rattle.multiplex.specs.model.Scenes.{Does, DoesRound};
 ghost use Rattle.multiplex.specs.Scenes.{Serves, scene};
@@ -14,12 +13,13 @@ use crate::clients::Clients;
 use crate::ends::{Over, ServedEach};
 use crate::links::Links;
 use crate::own_ticks::OwnTicks;
-use crate::steps::{admit, let_all_go, let_go, visit};
+use crate::steps::{admit, let_all_go, let_go, visit, wake};
 use crate::table::{Table, Terms};
 use answers::Desk;
 use polled::Ready;
 use std::alloc::Global;
 use ticking::Period;
+use wire::Difference;
 
 /// How long nothing needs to become ready at most, in milliseconds.
 const LONGEST_WAIT: u64 = 1000;
@@ -37,8 +37,24 @@ pub(crate) fn wait_of<L: Links>(links: &L, own: &OwnTicks, now: u64) -> u64
     }
 }
 
-/// A round is over: a Tick is taken where one is due, the links are kept, and those clients are let
-/// go that weren't ready for longer than a client is waited for.
+/// Says once that another desk differs, where one does.
+fn say<L: Links>(differs: Option<Difference>, said: &mut bool, links: &mut L)
+    ensures handed { L.handed links.new ≡ L.handed links.old }
+    ensures kept { L.kept links.new ≡ L.kept links.old }
+{
+    if *said {
+        return;
+    }
+    if let Some(difference) = differs {
+        *said = true;
+        links.differs(difference);
+    }
+}
+
+/// A round is over: a Tick is taken where one is due, the links are kept, it is said once that
+/// another desk differs, where one does, those clients are to be named in the next round whose
+/// Await is to be answered now, and those are let go that weren't ready for longer than a client is
+/// waited for.
 fn end_round<D: Desk, C: Clients, L: Links>(
     alloc: Global,
     table: &mut Table,
@@ -51,8 +67,9 @@ fn end_round<D: Desk, C: Clients, L: Links>(
     ensures does { DoesRound D.Desk L.Peers C.happened (D.home_of node.old) terms now result
         table.old table.new
         (scene node.old links.old clients.old) (scene node.new links.new clients.new) }
-    ensures ends { EndsRound terms now result table.new (L.kept links.new) }
-    ensures asks { Asks C.requests clients.old clients.new AsksSome }
+    ensures ends { Asks C.requests clients.old clients.new
+        (EndsRound terms (D.home_of node.old) now result (D.seen node.new) table.new
+        (L.kept links.new)) }
     ensures kept { KeepsAll table.old table.new }
     ensures fewer { length table.new.guests.items ≤ length table.old.guests.items }
     ensures home { D.home_of node.new ≡ D.home_of node.old }
@@ -61,9 +78,11 @@ fn end_round<D: Desk, C: Clients, L: Links>(
     table.time = now;
     let over = table.own.tick_if_due(alloc, terms.wire, now, node, links);
     links.keep(now);
+    say(table.differs, &mut table.said, links);
     if over.is_some() {
         return over;
     }
+    wake(table, clients, node);
     let_go(table, terms.patience, clients)
 }
 
@@ -76,14 +95,15 @@ pub(crate) fn step<D: Desk, C: Clients, L: Links>(
     node: &mut D,
     links: &mut L,
 ) -> Option<Over>
-    requires kept { AreKept (D.home_of node.old) terms.wire table.old.guests.items }
+    requires kept { AreKept (D.home_of node.old) terms.wire table.old }
     requires few { length table.old.guests.items ≤ 512 }
     ensures does { Does D.Desk L.Peers C.happened (D.home_of node.old) terms result
         table.old table.new
         (scene node.old links.old clients.old) (scene node.new links.new clients.new) }
     ensures asks { Asks C.requests clients.old clients.new
-        (Musts L.due L.kept terms result table.old table.new links.old links.new) }
-    ensures kept { AreKept (D.home_of node.old) terms.wire table.new.guests.items }
+        (Musts L.due L.kept terms (D.home_of node.old) (D.seen node.new) result table.old
+        table.new links.old links.new) }
+    ensures kept { AreKept (D.home_of node.old) terms.wire table.new }
     ensures few { length table.new.guests.items ≤ 512 }
     ensures home { D.home_of node.new ≡ D.home_of node.old }
 {
@@ -104,14 +124,15 @@ fn serve_rounds<D: Desk, C: Clients, L: Links>(
     node: &mut D,
     links: &mut L,
 ) -> Over
-    requires kept { AreKept (D.home_of node.old) terms.wire table.old.guests.items }
+    requires kept { AreKept (D.home_of node.old) terms.wire table.old }
     requires few { length table.old.guests.items ≤ 512 }
     ensures does { Does D.Desk L.Peers C.happened (D.home_of node.old) terms (Some result)
         table.old table.new
         (scene node.old links.old clients.old) (scene node.new links.new clients.new) }
     ensures asks { Asks C.requests clients.old clients.new
-        (AsksUntil L.due L.kept terms result (stand table.old links.old)
-        (stand table.new links.new)) }
+        (AsksUntil L.due L.kept terms (D.home_of node.old) result
+        (stand table.old links.old (D.seen node.old))
+        (stand table.new links.new (D.seen node.new))) }
     ensures home { D.home_of node.new ≡ D.home_of node.old }
 {
     for _step in 0..u64::MAX {
@@ -157,8 +178,9 @@ pub fn serve_each<D: Desk, C: Clients, L: Links>(
     ensures served { Serves D.Desk L.Peers C.happened terms period result
         (scene node.old links.old clients.old) (scene node.new links.new clients.new) }
     ensures asks { Asks C.requests clients.old clients.new
-        (AsksDuly L.due L.kept terms result.over
-        (first_ticks (D.home_of node.old) period (D.seen node.old)) links.old links.new) }
+        (AsksDuly L.due L.kept terms (D.home_of node.old) result.over
+        (first_ticks (D.home_of node.old) period (D.seen node.old)) links.old links.new
+        (D.seen node.old)) }
     ensures home { D.home_of node.new ≡ D.home_of node.old }
 {
     let Ok(mut table) = Table::new(alloc, period, node) else {

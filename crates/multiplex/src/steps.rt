@@ -1,29 +1,39 @@
 //! The steps of serving many clients: one comes, one is ready, one is let go, and time passes.
 
-ghost use Rattle.std.specs.Prelude.{◌≡◌, ◌≤◌, ◌<◌, ◌-◌, [], length, None};
+ghost use Rattle.std.specs.Prelude.{◌≡◌, ◌≤◌, ◌<◌, ◌-◌, ◌↔◌, ◌&&◌, [], length, None, IsTrue};
+ghost use Rattle.std.specs.Prelude.{is_some};
+ghost use Rattle.std.specs.List.{AllByRecursion};
 ghost use Rattle.multiplex.specs.Passing.{over_by};
-ghost use Rattle.multiplex.specs.Musts.{Accepts, Admits, Attends, MakesPlace, NoneIsSilent};
+ghost use Rattle.multiplex.specs.Musts.{Accepts, Admits, Attends, IsWoken, MakesPlace};
+ghost use Rattle.multiplex.specs.Musts.{NoneIsSilent, WaitsToRead};
 ghost use Rattle.multiplex.specs.Requests.{Asks};
 ghost use Rattle.multiplex.specs.model.Asking.{AsksHosted, AsksSome, ClosesAt, IsEndsOf, MayClose};
 ghost use Rattle.multiplex.specs.model.Tables.{AreKept, IsKept, KeepsAll, KeepsKept, MakesRoom};
 ghost use Rattle.multiplex.specs.model.Scenes.{AltersSome, Answers, Empties, Hosts, IsShut};
 ghost use Rattle.multiplex.specs.Scenes.{scene};
-ghost use Rattle.multiplex.specs.model.Scenes.{Welcomes};
+ghost use Rattle.multiplex.specs.model.Scenes.{Welcomes, turned};
+ghost use Rattle.multiplex.specs.Noting.{awakes};
+ghost use Rattle.multiplex.specs.Noting.{AreNoted};
+ghost use Rattle.multiplex.specs.model.Asking.{KeepsWoken, WakesAll};
+ghost use Rattle.wire.specs.Ranges.{IsDifference};
 ghost use Rattle.multiplex.specs.declared.clients.Accepted.TheVariants as accepted_is;
 ghost use Rattle.multiplex.specs.declared.ends.Over.{Over as OverOf};
 ghost use Rattle.multiplex.specs.declared.ends.Why.{Why as WhyOf};
+ghost use Rattle.multiplex.specs.declared.table.Table.{Table as TableOf};
 ghost use Rattle.multiplex.specs.declared.table.Terms.{Terms as TermsOf};
 ghost use Rattle.store.specs.declared.home.Home.{Home};
 
 use crate::clients::{Accepted, Clients};
 use crate::dear::DearTurns;
 use crate::ends::{Over, Why};
-use crate::table::{Guest, MOST_OPEN, Table, Terms, longest_silent};
+use crate::notes::{Notes, awaited_next, is_due};
+use crate::table::{Guest, MOST_OPEN, Table, Terms, longest_silent, ready_after};
 use crate::turns::talk_on;
 use answers::Desk;
 use guarded::Guard;
 use serving::{End, Peers};
 use std::alloc::Global;
+use wire::Difference;
 
 /// Why serving is over once a connection that ended so was ended.
 fn over_by(end: Option<End>) -> Option<Over>
@@ -48,31 +58,70 @@ fn shut<C: Clients>(table: &mut Table, place: usize, clients: &mut C) -> Option<
     over_by(guest.talk.end())
 }
 
+/// Whether a client is to be named when it can be read from: all that came is served and all is
+/// sent, or an Await is put off.
+fn waits_to_read(guest: &Guest) -> bool
+    ensures { IsTrue result ↔ WaitsToRead guest.now }
+{
+    if guest.talk.wants_read() {
+        return true;
+    }
+    guest.notes.until.is_some()
+}
+
+/// Whether an Await that was put off still is.
+fn stays_off(was_off: bool, guest: &Guest) -> bool
+    ensures { result ≡ (was_off && is_some guest.now.notes.until) }
+{
+    was_off && guest.notes.until.is_some()
+}
+
 /// Lets a client that is ready have its turn. Where its connection is to be ended now, it says why.
-/// It is to be named again when it can be read from, where all that came is served and answered,
-/// and else when it can take bytes.
+/// It is to be named again when it can be read from, where all that came is served and answered, or
+/// an Await is put off, and else when it can take bytes. While that Await is put off nothing more
+/// is asked: so bytes that come meanwhile name it once, and not at each round.
 fn host<D: Desk, C: Clients, P: Peers>(
     guest: &mut Guest,
     time: u64,
     dear: &mut DearTurns,
+    differs: &mut Option<Difference>,
     clients: &mut C,
     node: &mut D,
     peers: &mut P,
 ) -> Option<Why>
     requires kept { IsKept (D.home_of node.old) guest.old.talk.talk.wire guest.old }
-    ensures hosts { Hosts D.Desk P.Peers C.happened time result dear.old.spent dear.new.spent
+    requires differs { IsDifference differs.old }
+    ensures hosts { Hosts D.Desk P.Peers C.happened time result
+        (turned dear.old.spent differs.old) (turned dear.new.spent differs.new)
         guest.old guest.new
         (scene node.old peers.old clients.old) (scene node.new peers.new clients.new) }
     ensures asks { Asks C.requests clients.old clients.new
-        (AsksHosted guest.old.number guest.old.talk guest.new.talk result) }
+        (AsksHosted guest.old.number guest.old guest.new result) }
+    ensures noted { AreNoted guest.new.notes.known differs.new }
     ensures home { D.home_of node.new ≡ D.home_of node.old }
 {
-    guest.ready = time;
     let number = guest.number;
-    if let Some(why) = talk_on(number, &mut guest.talk, dear, clients, node, peers) {
+    let before = guest.talk.begun();
+    let was_off = guest.notes.until.is_some();
+    if let Some(why) = talk_on(
+        number,
+        &mut guest.talk,
+        &mut guest.notes,
+        dear,
+        time,
+        differs,
+        clients,
+        node,
+        peers,
+    ) {
+        guest.ready = ready_after(time, before, guest.talk.begun(), guest.ready);
         return Some(why);
     }
-    if clients.watch(number, !guest.talk.wants_read()) {
+    guest.ready = ready_after(time, before, guest.talk.begun(), guest.ready);
+    if stays_off(was_off, guest) {
+        return None;
+    }
+    if clients.watch(number, !waits_to_read(guest)) {
         None
     } else {
         Some(Why::Broke)
@@ -89,13 +138,13 @@ pub(crate) fn visit<D: Desk, C: Clients, P: Peers>(
     node: &mut D,
     peers: &mut P,
 ) -> Option<Over>
-    requires kept { AreKept (D.home_of node.old) terms.wire table.old.guests.items }
+    requires kept { AreKept (D.home_of node.old) terms.wire table.old }
     ensures answers { Answers D.Desk P.Peers C.happened (D.home_of node.old) terms number result
         table.old table.new
         (scene node.old peers.old clients.old) (scene node.new peers.new clients.new) }
     ensures asks { Asks C.requests clients.old clients.new
         (Attends number table.old.guests.items table.new.guests.items) }
-    ensures kept { AreKept (D.home_of node.old) terms.wire table.new.guests.items }
+    ensures kept { AreKept (D.home_of node.old) terms.wire table.new }
     ensures fewer { length table.new.guests.items ≤ length table.old.guests.items }
     ensures home { D.home_of node.new ≡ D.home_of node.old }
 {
@@ -104,7 +153,15 @@ pub(crate) fn visit<D: Desk, C: Clients, P: Peers>(
     };
     let time = table.time;
     let guest = &mut table.guests[place];
-    match host(guest, time, &mut table.dear, clients, node, peers) {
+    match host(
+        guest,
+        time,
+        &mut table.dear,
+        &mut table.differs,
+        clients,
+        node,
+        peers,
+    ) {
         None => None,
         Some(_) => shut(table, place, clients),
     }
@@ -132,6 +189,7 @@ pub(crate) fn let_go<C: Clients>(table: &mut Table, patience: u64, clients: &mut
     ensures time { table.new.time ≡ table.old.time }
     ensures asks { Asks C.requests clients.old clients.new AsksSome }
     ensures kept { KeepsAll table.old table.new }
+    ensures woken { KeepsWoken table.old.guests.items table.new.guests.items }
     ensures fewer { length table.new.guests.items ≤ length table.old.guests.items }
 {
     while let Some(place) = table.place_of_silent(patience) {
@@ -140,6 +198,48 @@ pub(crate) fn let_go<C: Clients>(table: &mut Table, patience: u64, clients: &mut
         }
     }
     None
+}
+
+/// Whether an Await of a client is put off, and is to be answered now.
+fn is_awake<D: Desk>(guest: &Guest, node: &D, time: u64) -> bool
+    ensures { result ≡ awakes (D.home_of node.now) (D.seen node.now) time guest.now.talk
+        guest.now.notes }
+{
+    let Some(until) = guest.notes.until else {
+        return false;
+    };
+    match awaited_next(&guest.talk, node.home()) {
+        Some(awaited) => is_due(node, awaited, until, time),
+        None => true,
+    }
+}
+
+/// Has a client named in the next round, where an Await of it is put off that is to be answered
+/// now: it can take bytes. One that the system refuses to name is let go when it was silent for too
+/// long.
+fn wake_one<D: Desk, C: Clients>(guest: &Guest, time: u64, clients: &mut C, node: &D)
+    ensures told { (home : Home) (t : TermsOf) (table : TableOf)
+        → AltersSome C.happened home t None table table clients.old clients.new }
+    ensures asks { Asks C.requests clients.old clients.new (λ asked.
+        IsWoken (D.home_of node.now) (D.seen node.now) time asked guest.now) }
+{
+    if !is_awake(guest, node, time) {
+        return;
+    }
+    clients.watch(guest.number, true);
+}
+
+/// Has those clients named in the next round of which an Await is put off that is to be answered
+/// now.
+pub(crate) fn wake<D: Desk, C: Clients>(table: &Table, clients: &mut C, node: &D)
+    ensures told { (home : Home) (t : TermsOf)
+        → AltersSome C.happened home t None table.now table.now clients.old clients.new }
+    ensures asks { Asks C.requests clients.old clients.new (WakesAll (D.home_of node.now)
+        (D.seen node.now) table.now.time table.now.guests.items) }
+{
+    for guest in &table.guests {
+        wake_one(guest, table.time, clients, node);
+    }
 }
 
 /// Ends all connections that are open.
@@ -165,11 +265,13 @@ fn welcome<D: Desk, C: Clients>(
     node: &D,
 )
     requires { table.old.next < terms.most }
-    ensures welcomes { Welcomes C.happened (D.home_of node.now) terms random
+    ensures welcomes { Welcomes C.happened (D.home_of node.now) terms random (D.seen node.now)
         table.old table.new clients.old clients.new }
     ensures asks { Asks C.requests clients.old clients.new (MayClose table.old.next) }
+    ensures most { AllByRecursion (λ len. len ≤ 65536) (D.seen node.now).told }
 {
     let number = table.next;
+    let notes = Notes::new(node);
     let ready = table.time;
     table.next += 1;
     let Ok(talk) = Guard::new(alloc, node, terms.wire, terms.doors, random) else {
@@ -179,6 +281,7 @@ fn welcome<D: Desk, C: Clients>(
     let guest = Guest {
         number,
         talk,
+        notes,
         ready,
     };
     if table.guests.push(guest).is_err() {

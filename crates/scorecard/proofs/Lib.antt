@@ -1,6 +1,7 @@
 pub mod Apostrophes
 pub mod Begins
 pub mod DigitTexts
+pub mod Entered
 pub mod Letters
 pub mod MultiTexts
 pub mod Sheets

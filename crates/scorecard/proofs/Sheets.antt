@@ -39,12 +39,12 @@ use Rattle.scorecard.proofs.Starts.{is_start, moves-start, mended_first}
 
 -- ---- a text with no white space around stays as it is
 
-record HasEnds (text : List ℕ) : Type 0 where
-  first : is_ascii_whitespace (get_or text 0 0) ≡ false
-  front : List ℕ
-  last : ℕ
-  parts : text ≡ front ++ last ∷ []
-  end : is_ascii_whitespace last ≡ false
+pub record HasEnds (text : List ℕ) : Type 0 where
+  pub first : is_ascii_whitespace (get_or text 0 0) ≡ false
+  pub front : List ℕ
+  pub last : ℕ
+  pub parts : text ≡ front ++ last ∷ []
+  pub end : is_ascii_whitespace last ≡ false
 
 prefix_none : (text : List ℕ) → is_ascii_whitespace (get_or text 0 0) ≡ false
     → prefix_len is_ascii_whitespace text ≡ 0
@@ -58,7 +58,7 @@ suffix_none text front last parts h =
     ∙ ap (prefix_len is_ascii_whitespace) (reverse-append front (last ∷ []))
     ∙ rw h refl
 
-trimmed_same : (text : List ℕ) → HasEnds text → trimmed text ≡ text
+pub trimmed_same : (text : List ℕ) → HasEnds text → trimmed text ≡ text
 unfolding trimmed
 trimmed_same text h =
     let front : without_front text ≡ text =
@@ -138,7 +138,7 @@ long_text : (n : ℕ) → 6000 ≤ n
 long_text n long =
     let test : nat_lt n 6000 ≡ false = grind (arith, nat_tests) in rw test refl
 
-abbrev Spelled : List ℕ → ℕ → Type 0
+abbrev pub Spelled : List ℕ → ℕ → Type 0
 Spelled text n = HasEnds text × IsTime text n
 
 short_spelled : (n : ℕ) → 1 ≤ n → n < 6000
@@ -198,7 +198,7 @@ long_spelled n long most =
       },
     )
 
-time_spelled : (n : ℕ) → 1 ≤ n → n ≤ 999999 → Spelled (time_text n) n
+pub time_spelled : (n : ℕ) → 1 ≤ n → n ≤ 999999 → Spelled (time_text n) n
 time_spelled n some most = step (nat_lt n 6000) refl
   where
     step : (b : Bool) → nat_lt n 6000 ≡ b → Spelled (time_text n) n
@@ -261,7 +261,7 @@ dns_read Multi = (entered.Dns, refl, refl)
 
 -- ---- results of multi-blind
 
-multi_spelled : (s a t : ℕ) → 2 ≤ a → a ≤ 99 → s ≤ a → 1 ≤ t → t ≤ 5999
+pub multi_spelled : (s a t : ℕ) → 2 ≤ a → a ≤ 99 → s ≤ a → 1 ≤ t → t ≤ 5999
     → IsMulti (multi_text s a t) s a t
 multi_spelled s a t two few all some most = record {
   clock = clock_text t;
@@ -285,7 +285,7 @@ multi_spelled s a t two few all some most = record {
 abbrev cubes_text : ℕ → ℕ → List ℕ
 cubes_text s a = decimal s ++ codes "/" ++ decimal a ++ codes " "
 
-multi_ends : (s a t : ℕ) → BeginsWithDigit (multi_text s a t) → HasEnds (multi_text s a t)
+pub multi_ends : (s a t : ℕ) → BeginsWithDigit (multi_text s a t) → HasEnds (multi_text s a t)
 multi_ends s a t begins =
     let pair : EndsInPair (codes ":") (clock_text t) (decimal (t / 60)) (t % 60) =
     pair_after (codes ":") (decimal (t / 60)) 58 (t % 60) refl (omega arith) in
@@ -404,7 +404,7 @@ no_outcome text entered.Dns begins h = false≢true (sym (no_dns Moves text begi
 last_digit : (m : ℕ) → m < 10 → is_ascii_whitespace (48 + m) ≡ false
 last_digit m small = grind (arith, nat_tests)
 
-number_ends : (n : ℕ) → n ≤ 80 → HasEnds (decimal n)
+pub number_ends : (n : ℕ) → n ≤ 80 → HasEnds (decimal n)
 number_ends n few = step (nat_lt n 10) refl
   where
     step : (b : Bool) → nat_lt n 10 ≡ b → HasEnds (decimal n)

@@ -2,15 +2,17 @@
 use Rattle.std.proofs.Common.{◌≡◌, ◌⊎◌, inl, inr, ℕ, ◌+◌, ◌*◌, ◌/◌, ◌%◌, ◌≤◌, Bool, true}
 use Rattle.std.proofs.Common.{false, ◌&&◌, ◌||◌, cond, nat_le, List, [], ◌∷◌, ◌++◌, codes}
 use Rattle.std.proofs.Common.{bytes_eq, Option, Some, None, Result, Ok, Err, refl, sym, ap, ◌∙◌}
-use Rattle.std.proofs.Common.{arith, not, ◌==◌, eqb-true}
+use Rattle.std.proofs.Common.{arith, not, ◌==◌, ◌<◌, eqb-true, decimal, length}
 use Rattle.std.specs.Char.{is_ascii_digit}
 use Rattle.std.specs.List.{list_all}
 use Rattle.std.proofs.lemmas.Bool.{false≢true}
 use Rattle.std.proofs.lemmas.Bool.Decides.{nat_tests}
+use Rattle.std.proofs.lemmas.Fmt.{decimal_nonempty}
 use Rattle.std.proofs.lemmas.List.Folds.{list_all-append}
 use Rattle.texts.proofs.Cuts.{and-true, lacks, behind, cut_spelled, cut-behind}
 use Rattle.texts.proofs.Spelled.{bytes_eq-equal}
-use Rattle.texts.specs.Fields.{cut}
+use Rattle.texts.specs.Fields.{cut, number_between}
+use Rattle.texts.proofs.FieldSpellings.{decimal_digits, number_spelled}
 use Rattle.texts.specs.declared.command.Entered.{Entered}
 use Rattle.texts.specs.declared.command.Entered.TheVariants as entered
 use Rattle.scorecard.specs.declared.fault.CardFault.{CardFault}
@@ -19,7 +21,7 @@ use Rattle.scorecard.specs.Spelling.{EndsInPair, is_among, points, colons, IsFil
 use Rattle.scorecard.specs.Spelling.{IsSeconds, IsMinutes, IsTime, IsPenalty, IsTimed}
 use Rattle.scorecard.specs.Reading.{number_of, pair_of, filled, seconds_with, minutes_with}
 use Rattle.scorecard.specs.Reading.{before_point, clock_with, clock_of, within_limits, time_of}
-use Rattle.scorecard.specs.Reading.{penalties_of, timed_of, ◌>>=◌}
+use Rattle.scorecard.specs.Reading.{halved, penalties_of, timed_of, ◌>>=◌}
 use Rattle.scorecard.proofs.DigitTexts.{digits-read, digits-found, pair-read, pair-found, pair-none}
 
 abbrev IsClock : List ℕ → ℕ → Type 0
@@ -162,35 +164,40 @@ time-found text time h =
 penalty-read : (rest : List ℕ) (penalties : ℕ) → penalties_of (Some rest) ≡ Ok penalties
     → IsPenalty (43 ∷ rest) penalties
 penalty-read rest penalties h =
-    one (bytes_eq rest (codes "")) (bytes_eq rest (codes "2")) (bytes_eq rest (codes "+"))
-    (bytes_eq rest (codes "4")) refl refl refl refl h
+    signs (bytes_eq rest (codes "")) (bytes_eq rest (codes "+")) refl refl h
   where
-    two : (c d : Bool) → bytes_eq rest (codes "+") ≡ c → bytes_eq rest (codes "4") ≡ d
-        → cond (c || d) (Ok 2) (Err fault.BadPenalty) ≡ Ok penalties
+    even : (n : ℕ) → number_between 2 18 rest ≡ Some n → (b : Bool) → (n % 2 == 0) ≡ b
+        → cond b (Ok (n / 2)) (Err fault.BadPenalty) ≡ Ok penalties
         → IsPenalty (43 ∷ rest) penalties
-    two true d x y r =
-        let mark : 43 ∷ rest ≡ 43 ∷ codes "+" =
-        ap (λ z. 43 ∷ z) (bytes_eq-equal rest (codes "+") x) in
-        inr (inr (inl mark, let v : Ok 2 ≡ Ok penalties = r in cc))
-    two false true x y r =
-        let mark : 43 ∷ rest ≡ 43 ∷ codes "4" =
-        ap (λ z. 43 ∷ z) (bytes_eq-equal rest (codes "4") y) in
-        inr (inr (inr mark, let v : Ok 2 ≡ Ok penalties = r in cc))
-    two false false x y r = absurd (let bad : Err fault.BadPenalty ≡ Ok penalties = r in cc)
+    even n is false e r = absurd (let bad : Err fault.BadPenalty ≡ Ok penalties = r in cc)
+    even n is true e r =
+        let half : n / 2 ≡ penalties = cc in
+        let rest_none : n % 2 ≡ 0 = grind (arith, nat_tests) in
+        let spelled = (number_spelled 2 18 (omega arith)).only rest n is in
+        let low : 2 ≤ n = spelled.0.0 in
+        let high : n ≤ 18 = spelled.0.1 in
+        let twice : n ≡ 2 * penalties = omega (arith, half, rest_none) in
+        let mark : 43 ∷ rest ≡ 43 ∷ decimal (2 * penalties) =
+        ap (λ z. 43 ∷ z) (spelled.1 ∙ ap decimal twice) in
+        inr (inr (inr (mark, omega (arith, twice, low), omega (arith, twice, high))))
 
-    one : (a b c d : Bool) → bytes_eq rest (codes "") ≡ a → bytes_eq rest (codes "2") ≡ b
-        → bytes_eq rest (codes "+") ≡ c → bytes_eq rest (codes "4") ≡ d
-        → cond (a || b) (Ok 1) (cond (c || d) (Ok 2) (Err fault.BadPenalty)) ≡ Ok penalties
+    seconds : (o : Option ℕ) → number_between 2 18 rest ≡ o → halved o ≡ Ok penalties
         → IsPenalty (43 ∷ rest) penalties
-    one true b c d x y z w r =
+    seconds None is r = absurd (let bad : Err fault.BadPenalty ≡ Ok penalties = r in cc)
+    seconds (Some n) is r = even n is (n % 2 == 0) refl r
+
+    signs : (a b : Bool) → bytes_eq rest (codes "") ≡ a → bytes_eq rest (codes "+") ≡ b
+        → cond a (Ok 1) (cond b (Ok 2) (halved (number_between 2 18 rest))) ≡ Ok penalties
+        → IsPenalty (43 ∷ rest) penalties
+    signs true b x y r =
         let mark : 43 ∷ rest ≡ 43 ∷ codes "" =
-        ap (λ u. 43 ∷ u) (bytes_eq-equal rest (codes "") x) in
-        inr (inl (inl mark, let v : Ok 1 ≡ Ok penalties = r in cc))
-    one false true c d x y z w r =
-        let mark : 43 ∷ rest ≡ 43 ∷ codes "2" =
-        ap (λ u. 43 ∷ u) (bytes_eq-equal rest (codes "2") y) in
-        inr (inl (inr mark, let v : Ok 1 ≡ Ok penalties = r in cc))
-    one false false c d x y z w r = two c d z w r
+        ap (λ z. 43 ∷ z) (bytes_eq-equal rest (codes "") x) in
+        inr (inl (mark, let v : Ok 1 ≡ Ok penalties = r in cc))
+    signs false true x y r =
+        let mark : 43 ∷ rest ≡ 43 ∷ codes "+" =
+        ap (λ z. 43 ∷ z) (bytes_eq-equal rest (codes "+") y) in
+        inr (inr (inl (mark, let v : Ok 2 ≡ Ok penalties = r in cc)))
+    signs false false x y r = seconds (number_between 2 18 rest) refl r
 
 penalties-read : (o : Option (List ℕ)) (penalties : ℕ) → penalties_of o ≡ Ok penalties
     → IsPenalty (behind 43 o) penalties
@@ -202,17 +209,49 @@ record Marked (mark : List ℕ) (penalties : ℕ) : Type 0 where
   is : mark ≡ behind 43 rest
   found : penalties_of rest ≡ Ok penalties
 
+-- a number is no text without digits
+digits_differ : (n : ℕ) (text : List ℕ) → n < 10000000000000000000
+    → list_all is_ascii_digit text ≡ false → (b : Bool) → bytes_eq (decimal n) text ≡ b → b ≡ false
+digits_differ n text small none false is = refl
+digits_differ n text small none true is =
+    absurd (false≢true (sym none
+    ∙ ap (list_all is_ascii_digit) (sym (bytes_eq-equal (decimal n) text is))
+    ∙ decimal_digits n small))
+
+seconds_found : (p : ℕ) → 1 ≤ p → p ≤ 9 → penalties_of (Some (decimal (2 * p))) ≡ Ok p
+seconds_found p some few =
+    let n : ℕ = 2 * p in
+    let filled : bytes_eq (decimal (2 * p)) (codes "") ≡ false =
+    not_empty (bytes_eq (decimal (2 * p)) (codes "")) refl in
+    let plus : bytes_eq (decimal (2 * p)) (codes "+") ≡ false =
+    digits_differ (2 * p) (codes "+") (omega arith) refl
+    (bytes_eq (decimal (2 * p)) (codes "+")) refl in
+    let between : number_between 2 18 (decimal (2 * p)) ≡ Some (2 * p) =
+    (number_spelled 2 18 (omega arith)).found (2 * p) (omega arith, omega arith) in
+    let even : (2 * p % 2 == 0) ≡ true =
+    let e : 2 * p % 2 ≡ 0 = omega arith in grind (arith, nat_tests) in
+    let half : 2 * p / 2 ≡ p = omega arith in
+    rw (filled, plus, between, even) (ap Ok half)
+  where
+    not_empty : (b : Bool) → bytes_eq (decimal (2 * p)) (codes "") ≡ b → b ≡ false
+    not_empty false is = refl
+    not_empty true is =
+        let some = decimal_nonempty (2 * p) (omega arith) in
+        let none = ap length (bytes_eq-equal (decimal (2 * p)) (codes "") is) in
+        absurd (omega (arith, some, none))
+
 marked : (mark : List ℕ) (penalties : ℕ) → IsPenalty mark penalties → Marked mark penalties
 marked mark penalties (inl h) =
     record { rest = None; is = h.0; found = ap Ok (sym h.1) }
-marked mark penalties (inr (inl (inl e, n))) =
+marked mark penalties (inr (inl (e, n))) =
     record { rest = Some []; is = e; found = ap Ok (sym n) }
-marked mark penalties (inr (inl (inr e, n))) =
-    record { rest = Some (codes "2"); is = e; found = ap Ok (sym n) }
-marked mark penalties (inr (inr (inl e, n))) =
+marked mark penalties (inr (inr (inl (e, n)))) =
     record { rest = Some (codes "+"); is = e; found = ap Ok (sym n) }
-marked mark penalties (inr (inr (inr e, n))) =
-    record { rest = Some (codes "4"); is = e; found = ap Ok (sym n) }
+marked mark penalties (inr (inr (inr (e, some, few)))) = record {
+  rest = Some (decimal (2 * penalties));
+  is = e;
+  found = seconds_found penalties some few;
+}
 
 -- ---- no plus stands in a time, and it begins with a digit
 

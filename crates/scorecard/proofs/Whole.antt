@@ -357,7 +357,8 @@ some_moves text (m ∷ ms) h = omega arith
 penalty_few : (mark : List ℕ) (p : ℕ) → IsPenalty mark p → p ≤ 9
 penalty_few mark p (inl h) = let e = h.1 in omega arith
 penalty_few mark p (inr (inl h)) = let e = h.1 in omega arith
-penalty_few mark p (inr (inr h)) = let e = h.1 in omega arith
+penalty_few mark p (inr (inr (inl h))) = let e = h.1 in omega arith
+penalty_few mark p (inr (inr (inr h))) = h.2
 
 pub spelled-fits : (unit : Measure) (text : List ℕ) (x : Entered) → SpellsBare unit text x
     → IsEntered x

@@ -12,7 +12,9 @@ use Rattle.formats.specs.declared.events.Event.{Event}
 use Rattle.formats.specs.Events.{unit_of}
 use Rattle.texts.specs.declared.command.Entered.{Entered}
 use Rattle.texts.specs.declared.command.Entered.TheVariants as entered
+use Rattle.texts.specs.Spelling.{IsEntered}
 use Rattle.scorecard.specs.Spelling.{Spells}
+use Rattle.scorecard.specs.Typed.{entered_typed}
 
 -- a text spells one outcome at most
 abbrev pub SpellsOnce : Type 0
@@ -57,6 +59,22 @@ SheetReadsBack =
     (event : Event) (limit : Option ℕ) (x : Outcome) → IsOutcome x → IsOutcomeIn (unit_of event) x
     → IsReadable (unit_of event) (value_of limit x)
     → IsReadBack (unit_of event) (value_of limit x)
+
+-- what may be entered for an attempt of the event: a time, a solution or a result of multi-blind,
+-- and no result
+abbrev pub IsEnteredIn : Measure → Entered → Type 0
+IsEnteredIn Time (entered.Time time penalties) = Unit {0}
+IsEnteredIn Moves (entered.Solution moves) = Unit {0}
+IsEnteredIn Multi (entered.Multi solved attempted seconds) = Unit {0}
+IsEnteredIn unit entered.Dnf = Unit {0}
+IsEnteredIn unit entered.Dns = Unit {0}
+IsEnteredIn _ _ = ⊥
+
+-- what was entered, as a page fills a field in with it, spells just that
+abbrev pub EnteredReadsBack : Type 0
+EnteredReadsBack =
+    (unit : Measure) (x : Entered) → IsEntered x → IsEnteredIn unit x
+    → Spells unit (entered_typed x) x
 
 -- a number of moves, as a sheet prints it, spells nothing
 abbrev pub SpellsNoMoves : Type 0

@@ -92,13 +92,19 @@ time_of bytes = do
   time ← clock_of bytes
   within_limits time
 
+-- the penalties of so many seconds, two for each
+abbrev pub halved : Option ℕ → Result ℕ CardFault
+halved None = Err fault.BadPenalty
+halved (Some seconds) =
+    if seconds % 2 == 0 then Ok (seconds / 2) else Err fault.BadPenalty
+
 -- the penalties that are marked after the first plus
 abbrev pub penalties_of : Option (List ℕ) → Result ℕ CardFault
 penalties_of None = Ok 0
 penalties_of (Some mark) =
-    if bytes_eq mark (codes "") || bytes_eq mark (codes "2") then Ok 1
-    else if bytes_eq mark (codes "+") || bytes_eq mark (codes "4") then Ok 2
-    else Err fault.BadPenalty
+    if bytes_eq mark (codes "") then Ok 1
+    else if bytes_eq mark (codes "+") then Ok 2
+    else halved (number_between 2 18 mark)
 
 -- a time and its penalties
 unfoldable pub timed_of : List ℕ → Result Entered CardFault

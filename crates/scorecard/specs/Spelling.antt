@@ -83,12 +83,14 @@ pub record IsTime (text : List ℕ) (time : ℕ) : Type 0 where
   pub some : 1 ≤ time
   pub most : time ≤ 999999
 
--- what stands after a time for its penalties: nothing; `+` or `+2` for one, `++` or `+4` for two
+-- what stands after a time for its penalties: nothing; `+` for one and `++` for two; or a plus and
+-- their seconds, two for each of one to nine
 abbrev pub IsPenalty : List ℕ → ℕ → Type 0
 IsPenalty mark penalties =
     ((mark ≡ []) × (penalties ≡ 0))
-    ⊎ (((mark ≡ codes "+") ⊎ (mark ≡ codes "+2")) × (penalties ≡ 1))
-    ⊎ (((mark ≡ codes "++") ⊎ (mark ≡ codes "+4")) × (penalties ≡ 2))
+    ⊎ ((mark ≡ codes "+") × (penalties ≡ 1))
+    ⊎ ((mark ≡ codes "++") × (penalties ≡ 2))
+    ⊎ ((mark ≡ codes "+" ++ decimal (2 * penalties)) × (1 ≤ penalties) × (penalties ≤ 9))
 
 -- a time and its penalties
 pub record IsTimed (text : List ℕ) (time penalties : ℕ) : Type 0 where

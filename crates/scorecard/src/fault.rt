@@ -19,8 +19,8 @@ pub enum CardFault {
     /// A time is none, or above 999,999 hundredths of a second.
     #[error("a time is 0.01 to 166:39.99")]
     OutOfRange,
-    /// After a plus stands something else than what marks one or two penalties.
-    #[error("the penalty is +2 or +4")]
+    /// After a plus stands something else than what marks one to nine penalties.
+    #[error("penalties are +2, +4 to +18")]
     BadPenalty,
     /// A slash, a space or a number is missing or misspelt.
     #[error("a result is like 11/13 58:20")]

@@ -1,6 +1,7 @@
 //! What holds of all readings.
 
-ghost use Rattle.scorecard.specs.Laws.{SpellsOnce, SheetReadsBack, SpellsNoMoves};
+ghost use Rattle.scorecard.specs.Laws.{EnteredReadsBack, SheetReadsBack, SpellsNoMoves};
+ghost use Rattle.scorecard.specs.Laws.{SpellsOnce};
 
 /// A law: a text spells one outcome of an event at most.
 pub fn spelled_once()
@@ -12,6 +13,13 @@ pub fn spelled_once()
 /// event, with whatever penalties and under whatever time limit.
 pub fn sheet_reads_back()
     ensures { SheetReadsBack }
+{}
+
+/// A law: what was entered for an attempt, as a page fills a field in with it, is read as just that,
+/// so that it is worth the same: each time with its penalties, each solution, each result of
+/// multi-blind, DNF and DNS.
+pub fn entered_reads_back()
+    ensures { EnteredReadsBack }
 {}
 
 /// A law: a number of moves, as a sheet prints it, spells nothing, since it is no solution.

@@ -15,5 +15,7 @@ mod times;
 mod words;
 
 pub use fault::CardFault;
-pub use laws::{number_of_moves_is_no_solution, sheet_reads_back, spelled_once};
+pub use laws::{
+    entered_reads_back, number_of_moves_is_no_solution, sheet_reads_back, spelled_once,
+};
 pub use reading::read;

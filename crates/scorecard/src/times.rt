@@ -4,12 +4,13 @@ ghost use Rattle.std.specs.Prelude.{◌≡◌, ◌<◌, ◌≤◌, IfOk, option_
 ghost use Rattle.std.specs.Option.{option_copied};
 ghost use Rattle.scorecard.specs.Reading.{filled, number_of, seconds_with, minutes_with};
 ghost use Rattle.scorecard.specs.Reading.{before_point, pair_of, clock_of, within_limits, time_of};
-ghost use Rattle.scorecard.specs.Reading.{penalties_of, timed_of};
+ghost use Rattle.scorecard.specs.Reading.{halved, penalties_of, timed_of};
 ghost use Rattle.scorecard.specs.Spelling.{colons};
+ghost use Rattle.texts.specs.Fields.{number_between as between};
 
 use crate::digits::{number_of, pair_of};
 use crate::fault::CardFault;
-use texts::{Entered, cut};
+use texts::{Entered, cut, number_between};
 
 /// What stands before hundredths. A comma is a point.
 const POINTS: &[u8] = b".,";
@@ -83,15 +84,27 @@ fn time_of(bytes: &[u8]) -> Result<u32, CardFault>
     }
 }
 
+/// The penalties of so many seconds, two for each.
+fn halved(mark: &[u8]) -> Result<u8, CardFault>
+    ensures { result ≡ halved (between 2 18 mark.now) }
+{
+    let seconds = number_between(2, 18, mark).ok_or(CardFault::BadPenalty)?;
+    if seconds % 2 == 0 {
+        Ok((seconds / 2) as u8)
+    } else {
+        Err(CardFault::BadPenalty)
+    }
+}
+
 /// The penalties that are marked after a plus.
 fn penalties_of(mark: Option<&[u8]>) -> Result<u8, CardFault>
     ensures { result ≡ penalties_of (option_copied mark.entry) }
 {
     match mark {
         None => Ok(0),
-        Some(mark) if mark == b"".as_slice() || mark == b"2".as_slice() => Ok(1),
-        Some(mark) if mark == b"+".as_slice() || mark == b"4".as_slice() => Ok(2),
-        Some(_) => Err(CardFault::BadPenalty),
+        Some(mark) if mark == b"".as_slice() => Ok(1),
+        Some(mark) if mark == b"+".as_slice() => Ok(2),
+        Some(mark) => halved(mark),
     }
 }
 

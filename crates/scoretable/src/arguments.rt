@@ -49,7 +49,8 @@ keeps with each card who entered it and when: the name of --name and the machine
 
 The desks are those of --hall and --to, or without these all desks of the hall that FILE describes.
 Where they have a key, it is in the file of --key, or in the one that FILE names. Standard error
-gets a line where a desk has another key, has no key, or has a key and the score table has none.
+gets a line where a desk has another key, has no key, has a key and the score table has none, or is
+of another hall, and where no majority of the desks answers.
 Whoever reaches ADDR can enter results, so it has to be an address of this machine alone, as
 127.0.0.1:8081, unless --open-network is given.
 

@@ -1,6 +1,6 @@
 -- What a sealed stream holds, and what an opener of it keeps.
-use Rattle.std.specs.Prelude.{◌≡◌, ◌⊎◌, ℕ, ◌+◌, ◌<◌, ◌≤◌, List, [], ◌++◌, length, take, Option}
-use Rattle.std.specs.Prelude.{Some, None, IsSome}
+use Rattle.std.specs.Prelude.{◌≡◌, ◌⊎◌, ℕ, ◌+◌, ◌<◌, ◌≤◌, List, [], ◌∷◌, ◌++◌, length, take}
+use Rattle.std.specs.Prelude.{Option, Some, None}
 use Rattle.std.specs.Global.{Vec}
 use Rattle.std.specs.List.{flat_map}
 use Rattle.std.specs.Int.{w16, from_be_bytes}
@@ -93,11 +93,13 @@ FedAt (Some e) piece old new handed = (handed ≡ []) × (new ≡ old)
 abbrev pub Fed : List ℕ → Opening → Opening → List ℕ → Type 0
 Fed piece old new handed = FedAt old.fault piece old new handed
 
--- what is held is less than one record
-pub record IsHeld (opener : Opening) (held : ℕ) : Type 0 where
-  pub counted : held ≡ length opener.held
-  pub most : held ≤ 16417
-  pub broken : IsSome opener.fault → held ≡ 0
+-- which record has begun to come and is not whole, if one has
+abbrev pub begun_at : List ℕ → ℕ → Option ℕ
+begun_at [] number = None
+begun_at (b ∷ more) number = Some number
+
+abbrev pub begun : Opening → Option ℕ
+begun o = begun_at o.held o.number
 
 -- the stream that comes in these pieces
 abbrev pub stream_of : List (Vec ℕ) → List ℕ

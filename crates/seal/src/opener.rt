@@ -2,7 +2,7 @@
 
 ghost use Rattle.std.specs.Prelude.{◌≡◌, ◌≤◌, ◌+◌, [], IfOk, OnErr, Option, None, length};
 ghost use Rattle.std.specs.Prelude.{vec_capacity, vec_len};
-ghost use Rattle.seal.specs.Streams.{Fed, IsHeld, HandsOn, HandsOnOnly, stream_of};
+ghost use Rattle.seal.specs.Streams.{Fed, HandsOn, HandsOnOnly, begun, stream_of};
 ghost use Rattle.seal.specs.model.Steps.{Takes};
 
 use crate::NoMemory;
@@ -59,12 +59,15 @@ impl Opener {
         })
     }
 
-    /// How many bytes it holds: those of the unfinished record, at most 16,417, and 0 after a
-    /// fault.
-    pub fn held(&self) -> u32
-        ensures { IsHeld self.now result }
+    /// The number of the record that has begun to come and is not whole, if one has.
+    pub fn begun(&self) -> Option<u64>
+        ensures { result ≡ begun self.now }
     {
-        self.bytes.len() as u32
+        if self.bytes.is_empty() {
+            None
+        } else {
+            Some(self.number)
+        }
     }
 
     /// The fault that ended the stream, if one did.

@@ -1,21 +1,32 @@
 -- A connection over which one body was asked, and another answered.
-use Rattle.std.proofs.Common.{◌≡◌, ◌≢◌, ℕ, ◌==◌, not, false, List, [], ◌∷◌, ◌++◌, length, take}
-use Rattle.std.proofs.Common.{Some, None, refl, sym, arith, inl}
-use Rattle.std.proofs.lemmas.List.{append-nil}
+use Rattle.std.proofs.Common.{◌≡◌, ◌≢◌, ℕ, ◌==◌, ◌<◌, ◌^◌, not, false, List, [], ◌∷◌, ◌++◌}
+use Rattle.std.proofs.Common.{length, take, replicate, Some, None, refl, sym, ap, subst}
+use Rattle.std.proofs.Common.{◌∙◌, arith, inl}
+use Rattle.std.proofs.lemmas.List.{append-nil, append_cancel_left}
+use Rattle.sha2.specs.Sha256.{sha256, first_words, schedule, rounds, compress, hash_after}
+use Rattle.sha2.specs.Sha256.{digest_bytes}
 use Rattle.seal.specs.declared.channel.Channel.{Channel}
-use Rattle.seal.specs.Records.{IsBody, preface_of, records}
+use Rattle.seal.specs.declared.fault.OpenFault.TheVariants.{BadTag}
+use Rattle.seal.specs.Hmac.{hmac, key_block}
+use Rattle.seal.specs.Records.{IsBody, key_of, preface_of, record_of, records, tag}
+use Rattle.seal.specs.Streams.{BeginsRecord, IsWhole}
+use Rattle.seal.proofs.Whole.{length-record, length_at-record, same_parts, short}
 use Rattle.sealed.specs.declared.callers.Doors.TheVariants.{Locked}
-use Rattle.sealed.specs.declared.callers.Holder.TheVariants.{Hall}
+use Rattle.sealed.specs.declared.callers.Holder.{Holder}
+use Rattle.sealed.specs.declared.callers.Holder.TheVariants.{Hall, Entry}
+use Rattle.sealed.specs.declared.callers.Locks.{Locks}
 use Rattle.sealed.specs.Admitting.{comes_under, goes_under}
-use Rattle.sealed.specs.Calls.{CalledOf}
+use Rattle.sealed.specs.Calls.{CalledOf, IsOfLocks}
 use Rattle.sealed.specs.Callings.{CallingOf}
 use Rattle.sealed.specs.Fronts.{IsPrefaced}
-use Rattle.sealed.specs.Sent.{SentOver}
-use Rattle.sealed.specs.Trials.{ReadsAll, TrialOf, entry_of}
+use Rattle.sealed.specs.Sent.{SentAs, SentOver, key_for}
+use Rattle.sealed.specs.Trials.{ReadsAll, TrialOf, Tries, entry_of}
 use Rattle.sealed.specs.Tunnels.{TunnelOf}
 use Rattle.sealed.specs.ends.Calls.{CallOf}
 use Rattle.sealed.proofs.Fresh.{fresh_of_locks}
-use Rattle.seal_laws.specs.BothSides.{SidesAreConnected}
+use Rattle.seal_laws.specs.BothSides.{AreConnected, EntryIsConnected, IsNotTheHalls}
+use Rattle.seal_laws.specs.BothSides.{SidesAreConnected, fours, threes, two_locks}
+use Rattle.seal_laws.specs.Keys.{AreRandom}
 
 -- a side that has opened one record, and sealed one
 unfoldable one_each : Channel → Channel → TunnelOf
@@ -58,16 +69,32 @@ prefaced : (random stream : List ℕ) → length random ≡ 16
     → IsPrefaced (preface_of random ++ stream) random stream
 prefaced random stream sixteen = record { sixteen = sixteen; whole = refl }
 
-pub connected : SidesAreConnected
+-- where the desk has tried what came so, under its keys
+record IsTried (locks : Locks) (who : Holder) (key client server question answer : List ℕ)
+    (trial : TrialOf) : Type 0 where
+  held : key_for locks who ≡ Some key
+  keys : IsOfLocks locks client server trial
+  tries : Tries (records (comes_under client server key) 0 (question ∷ [])) question trial
+  gone :
+      SentAs trial.holder trial answer (records (goes_under client server key) 0 (answer ∷ []))
+  apart :
+      IsNotTheHalls who locks client server
+      (preface_of client ++ records (comes_under client server key) 0 (question ∷ []))
+
+connected_by : (locks : Locks) (who : Holder) (key client server question answer : List ℕ)
+    (trial : TrialOf) → AreRandom client server → IsBody 0 question → IsBody 0 answer
+    → IsTried locks who key client server question answer trial
+    → (caller : CallOf) × (desk : CalledOf)
+    × (m : AreConnected caller desk question question answer answer) × (m.who ≡ who)
 unfolding one_each
-connected locks client server question answer random good fine =
-    let comes = comes_under client server locks.hall in
-    let goes = goes_under client server locks.hall in
+connected_by locks who key client server question answer trial random good fine tried =
+    let comes = comes_under client server key in
+    let goes = goes_under client server key in
     let there = records comes 0 (question ∷ []) in
     let back = records goes 0 (answer ∷ []) in
     let sent = preface_of client ++ there in
     let side : CallingOf = record {
-      key = locks.hall;
+      key = key;
       random = client;
       held = [];
       tunnel = Some (one_each goes comes);
@@ -79,11 +106,6 @@ connected locks client server question answer random good fine =
       heard = not (length answer == 0);
       output = [];
     } in
-    let trial : TrialOf = record {
-      hall = one_each comes goes;
-      entry = entry_of locks.entry client server;
-      holder = Some Hall;
-    } in
     let desk : CalledOf = record {
       doors = Locked locks;
       random = server;
@@ -91,19 +113,18 @@ connected locks client server question answer random good fine =
       passing = None;
       trial = Some trial;
       refusal = None;
-    } in
-    let fresh = fresh_of_locks locks client server in (
+    } in (
       caller,
       desk,
       record {
         locks = locks;
-        who = Hall;
-        key = locks.hall;
+        who = who;
+        key = key;
         client = client;
         server = server;
         sent = sent;
         back = back;
-        held = refl;
+        held = tried.held;
         random = random;
         calls =
             record {
@@ -142,16 +163,145 @@ connected locks client server question answer random good fine =
               stream = there;
               doors = refl;
               prefaced = prefaced client there random.of_client;
-              keys =
-                  record {
-                    hall = refl;
-                    entry = fresh.entry;
-                    hall_sends = refl;
-                    entry_sends = fresh.entry_sends;
-                  };
-              tries = (some_body question good, opened comes goes question good);
+              keys = tried.keys;
+              tries = tried.tries;
             };
-        gone = sealed comes goes answer fine;
-        apart = tt;
+        gone = tried.gone;
+        apart = tried.apart;
       },
+      refl,
     )
+
+pub connected : SidesAreConnected
+unfolding one_each
+connected locks client server question answer random good fine =
+    let comes = comes_under client server locks.hall in
+    let goes = goes_under client server locks.hall in
+    let fresh = fresh_of_locks locks client server in
+    let trial : TrialOf = record {
+      hall = one_each comes goes;
+      entry = entry_of locks.entry client server;
+      holder = Some Hall;
+    } in
+    let all =
+    connected_by locks Hall locks.hall client server question answer trial random good fine
+    (record {
+      held = refl;
+      keys =
+          record {
+            hall = refl;
+            entry = fresh.entry;
+            hall_sends = refl;
+            entry_sends = fresh.entry_sends;
+          };
+      tries = (some_body question good, opened comes goes question good);
+      gone = sealed comes goes answer fine;
+      apart = tt;
+    }) in
+    (all.0, all.1, all.2)
+
+-- ---- under the entry key
+
+first_byte : List ℕ → ℕ
+first_byte [] = 0
+first_byte (x ∷ xs) = x
+
+under_hall : first_byte (tag (comes_under threes fours (replicate 32 1)) 0 (7 ∷ [])) ≡ 185
+unfolding first_byte tag key_of hmac key_block sha256 first_words schedule rounds compress
+    hash_after digest_bytes
+under_hall = refl
+
+under_entry : first_byte (tag (comes_under threes fours (replicate 32 2)) 0 (7 ∷ [])) ≡ 188
+unfolding first_byte tag key_of hmac key_block sha256 first_words schedule rounds compress
+    hash_after digest_bytes
+under_entry = refl
+
+-- the record is not one under the hall's key
+not_the_halls : ¬ BeginsRecord (comes_under threes fours (replicate 32 1)) 0
+    (records (comes_under threes fours (replicate 32 2)) 0 ((7 ∷ []) ∷ []))
+not_the_halls (body, more, good, is) =
+    let hall = comes_under threes fours (replicate 32 1) in
+    let entry = comes_under threes fours (replicate 32 2) in
+    let few : length {A = ℕ} (7 ∷ []) < 2 ^ 16 = omega arith in
+    let parts = same_parts entry hall 0 0 (7 ∷ []) body [] more few (short 0 body good) is in
+    let tags : tag entry 0 (7 ∷ []) ≡ tag hall 0 (7 ∷ []) =
+    parts.1 ∙ ap (λ (b : List ℕ). tag hall 0 b) (sym parts.0) in
+    let bytes : 188 ≡ 185 =
+    sym under_entry ∙ ap (λ (t : List ℕ). first_byte t) tags ∙ under_hall in
+    omega (arith, bytes)
+
+-- a side that has opened nothing, since a record did not fit
+abbrev refused : Channel → Channel → TunnelOf
+refused comes goes = record {
+  opener = record { channel = comes; number = 0; held = []; fault = Some BadTag };
+  sealer = record { channel = goes; number = 0 };
+}
+
+whole_record : (c : Channel) (body : List ℕ) → IsBody 0 body → IsWhole (records c 0 (body ∷ []))
+whole_record c body good =
+    let at = length_at-record c 0 body [] (short 0 body good) in
+    let long = length-record c 0 body in
+    let all = ap (λ (s : List ℕ). length s) (append-nil (record_of c 0 body)) in
+    record {
+      counted = (omega (arith, at, good.0.0), omega (arith, at, good.0.1));
+      there = omega (arith, at, long, all);
+    }
+
+nothing_opened : (comes goes other : Channel) (body : List ℕ) → IsBody 0 body
+    → ¬ BeginsRecord comes 0 (records other 0 (body ∷ []))
+    → ReadsAll (refused comes goes) (records other 0 (body ∷ [])) []
+nothing_opened comes goes other body good apart = record {
+  bodies = [];
+  rest = records other 0 (body ∷ []);
+  whole = refl;
+  each = tt;
+  gives = refl;
+  channel_kept = refl;
+  counted = refl;
+  ends = (whole_record other body good, apart);
+  held = refl;
+}
+
+seven : IsBody 0 (7 ∷ [])
+seven = ((omega arith, omega arith), omega arith)
+
+-- what the caller sent has one stream after its preface
+one_stream : (s : List ℕ)
+    → preface_of threes ++ records (comes_under threes fours (replicate 32 2)) 0 ((7 ∷ []) ∷ [])
+    ≡ preface_of threes ++ s
+    → records (comes_under threes fours (replicate 32 2)) 0 ((7 ∷ []) ∷ []) ≡ s
+one_stream s is =
+    append_cancel_left (preface_of threes)
+    (records (comes_under threes fours (replicate 32 2)) 0 ((7 ∷ []) ∷ [])) s is
+
+pub entry_connected : EntryIsConnected
+unfolding one_each
+entry_connected answer fine =
+    let hall = comes_under threes fours (replicate 32 1) in
+    let comes = comes_under threes fours (replicate 32 2) in
+    let goes = goes_under threes fours (replicate 32 2) in
+    let trial : TrialOf = record {
+      hall = refused hall (goes_under threes fours (replicate 32 1));
+      entry = Some (one_each comes goes);
+      holder = Some Entry;
+    } in
+    connected_by two_locks Entry (replicate 32 2) threes fours (7 ∷ []) answer trial
+    (record { of_client = refl; of_server = refl }) seven fine
+    (record {
+      held = refl;
+      keys =
+          record { hall = refl; entry = refl; hall_sends = refl; entry_sends = refl };
+      tries = (
+        one_each comes goes,
+        refl,
+        some_body (7 ∷ []) seven,
+        opened comes goes (7 ∷ []) seven,
+        nothing_opened hall (goes_under threes fours (replicate 32 1)) comes (7 ∷ []) seven
+            not_the_halls,
+        λ is. cc,
+      );
+      gone = sealed comes goes answer fine;
+      apart = λ s is begins.
+          not_the_halls
+          (subst (λ (x : List ℕ). BeginsRecord hall 0 x) (sym (one_stream s is)) begins);
+    })

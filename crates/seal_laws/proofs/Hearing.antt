@@ -41,7 +41,7 @@ length_preface : (r : List ℕ) → length r ≡ 16 → length (preface_of r) �
 length_preface r h = omega (arith, h, length-append mark r)
 
 -- bytes begin with one preface
-one_preface : (r q x y : List ℕ) → length r ≡ 16 → length q ≡ 16
+pub one_preface : (r q x y : List ℕ) → length r ≡ 16 → length q ≡ 16
     → preface_of r ++ x ≡ preface_of q ++ y → (r ≡ q) × (x ≡ y)
 one_preface r q x y h k e =
     let both = parted (preface_of r) (preface_of q) x y
@@ -89,13 +89,13 @@ nothing_begun c stream handed (b ∷ more) rest not each whole gives =
 -- ---- what the caller sent
 
 -- after its preface the records of what it was given
-record Went (key client server asked sent : List ℕ) : Type 0 where
-  bodies : List (List ℕ)
-  each : AreBodies 0 bodies
-  gives : joined bodies ≡ asked
-  whole : sent ≡ preface_of client ++ records (comes_under client server key) 0 bodies
+pub record Went (key client server asked sent : List ℕ) : Type 0 where
+  pub bodies : List (List ℕ)
+  pub each : AreBodies 0 bodies
+  pub gives : joined bodies ≡ asked
+  pub whole : sent ≡ preface_of client ++ records (comes_under client server key) 0 bodies
 
-went : (key client server asked sent more : List ℕ) → length server ≡ 16
+pub went : (key client server asked sent more : List ℕ) → length server ≡ 16
     → ends.IsSent (Some key) client (preface_of server ++ more) asked sent
     → Went key client server asked sent
 went key client server asked sent more sixteen (inl h) = record {

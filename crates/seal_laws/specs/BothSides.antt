@@ -1,5 +1,5 @@
 -- The two sides of a sealed connection: a caller that has one of a desk's keys, and the desk.
-use Rattle.std.specs.Prelude.{◌≡◌, ◌≢◌, ℕ, List, [], ◌++◌, Some, None}
+use Rattle.std.specs.Prelude.{◌≡◌, ◌≢◌, ℕ, false, List, [], ◌∷◌, ◌++◌, Some, None, replicate}
 use Rattle.seal.specs.Records.{IsBody, preface_of}
 use Rattle.seal.specs.Streams.{BeginsRecord}
 use Rattle.sealed.specs.declared.callers.Doors.TheVariants.{Locked}
@@ -66,3 +66,20 @@ SidesAreConnected =
     → IsBody 0 question → IsBody 0 answer
     → (caller : CallOf) × (desk : CalledOf)
     × AreConnected caller desk question question answer answer
+
+-- a desk with two keys, and the random bytes of a connection
+abbrev pub two_locks : Locks
+two_locks = record { hall = replicate 32 1; entry = Some (replicate 32 2); sheets = false }
+
+abbrev pub threes : List ℕ
+threes = replicate 16 3
+
+abbrev pub fours : List ℕ
+fours = replicate 16 4
+
+-- and there is one under the entry key, over which one byte is asked, whatever is answered
+abbrev pub EntryIsConnected : Type 0
+EntryIsConnected =
+    (answer : List ℕ) → IsBody 0 answer
+    → (caller : CallOf) × (desk : CalledOf)
+    × (m : AreConnected caller desk (7 ∷ []) (7 ∷ []) answer answer) × (m.who ≡ Entry)

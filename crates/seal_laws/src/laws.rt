@@ -1,6 +1,6 @@
 //! The laws.
 
-ghost use Rattle.seal_laws.specs.BothSides.{BothSidesHear, SidesAreConnected};
+ghost use Rattle.seal_laws.specs.BothSides.{BothSidesHear, EntryIsConnected, SidesAreConnected};
 ghost use Rattle.seal_laws.specs.Collisions.{BackIsElsewhere, KeysTell, MacsTell};
 ghost use Rattle.seal_laws.specs.Collisions.{StopsUnlessTheyCollide};
 ghost use Rattle.seal_laws.specs.Keys.{KeysAreOfBothSides};
@@ -26,10 +26,12 @@ pub fn keys_are_of_both_sides()
 
 /// Where a caller has a key of a desk, and all that either sent came to the other, each was handed
 /// on just what the other was given to send, nothing is wrong, and the desk knows whose key it is:
-/// a law. There is such a connection for whatever is asked and answered.
+/// a law. There is such a connection under the hall's key for whatever is asked and answered, and
+/// under an entry key.
 pub fn both_sides_hear()
     ensures hear { BothSidesHear }
     ensures example { SidesAreConnected }
+    ensures entry_example { EntryIsConnected }
 {}
 
 /// What is sent again elsewhere ends a stream, or SHA-256 gives two texts one digest: a law. Under

@@ -1,6 +1,6 @@
 -- A desk's side of a connection: what it keeps, and what it has read.
-use Rattle.std.specs.Prelude.{◌≡◌, ℕ, Bool, true, false, List, [], ◌++◌, Option, None, Some}
-use Rattle.std.specs.Prelude.{IsSome, option_map}
+use Rattle.std.specs.Prelude.{◌≡◌, ℕ, Bool, true, false, List, [], ◌∷◌, ◌++◌, Option, None}
+use Rattle.std.specs.Prelude.{Some, IsSome, option_map}
 use Rattle.seal.specs.declared.fault.SealFault.{SealFault}
 use Rattle.seal.specs.declared.fault.SealFault.TheVariants.{NoMemory as Starved}
 use Rattle.sealed.specs.declared.callers.Caller.{Caller}
@@ -15,7 +15,7 @@ use Rattle.sealed.specs.declared.callers.Refusal.TheVariants.{Unsealed, NoMemory
 use Rattle.sealed.specs.Admitting.{comes_under, goes_under}
 use Rattle.sealed.specs.Fronts.{IsPrefaced, IsShort, IsUnsealed}
 use Rattle.sealed.specs.Trials.{FailsFor, SealsFor, TrialOf, Tries, comes_by, entry_by, goes_by}
-use Rattle.sealed.specs.Trials.{over}
+use Rattle.sealed.specs.Trials.{begun_in, over}
 
 -- what the desk asks for, its random bytes, the bytes that are held until it is known what the
 -- stream is, who is let pass without a key, the keys that a sealed stream is tried with, and why
@@ -50,6 +50,20 @@ over_by (Some why) trial = true
 
 abbrev pub is_over : CalledOf → Bool
 is_over c = over_by c.refusal c.trial
+
+-- which record of a sealed stream has begun to come and is not whole, where the preface counts as
+-- the beginning of the first one
+abbrev pub begun_front : Option Caller → List ℕ → Option ℕ
+begun_front None [] = None
+begun_front None (b ∷ more) = Some 0
+begun_front (Some who) held = None
+
+abbrev pub begun_by : Option TrialOf → Option Caller → List ℕ → Option ℕ
+begun_by None passing held = begun_front passing held
+begun_by (Some t) passing held = begun_in t
+
+abbrev pub begun : CalledOf → Option ℕ
+begun c = begun_by c.trial c.passing c.held
 
 -- whether the client's preface came whole, so that its stream is tried with the desk's keys
 abbrev pub is_tried : Option TrialOf → Bool

@@ -1,13 +1,14 @@
 -- A sealed stream at a desk that has one key or two.
 use Rattle.std.specs.Prelude.{◌≡◌, ◌≢◌, ℕ, ◌&&◌, Bool, true, false, List, []}
 use Rattle.std.specs.Prelude.{Option, None, Some, IfSome, IsSome, option_map}
+use Rattle.std.specs.Option.{option_or}
 use Rattle.seal.specs.declared.channel.Channel.{Channel}
 use Rattle.seal.specs.declared.channel.Direction.TheVariants.{ToServer}
 use Rattle.seal.specs.declared.fault.OpenFault.{OpenFault}
 use Rattle.seal.specs.declared.fault.SealFault.{SealFault}
 use Rattle.seal.specs.Records.{key_of}
 use Rattle.seal.specs.Sealing.{Sealing}
-use Rattle.seal.specs.Streams.{HandsOn, Reads}
+use Rattle.seal.specs.Streams.{HandsOn, Reads, begun}
 use Rattle.sealed.specs.declared.callers.Holder.{Holder}
 use Rattle.sealed.specs.declared.callers.Holder.TheVariants.{Hall, Entry}
 use Rattle.sealed.specs.declared.callers.Locks.{Locks}
@@ -105,6 +106,19 @@ over_as (Some Entry) t = entry_over t.entry
 
 abbrev pub over : TrialOf → Bool
 over t = over_as t.holder t
+
+-- which record has begun to come and is not whole, under the stream's key, or under one of both
+abbrev pub entry_begun : Option TunnelOf → Option ℕ
+entry_begun None = None
+entry_begun (Some e) = begun e.opener
+
+abbrev pub begun_as : Option Holder → TrialOf → Option ℕ
+begun_as None t = option_or (begun t.hall.opener) (entry_begun t.entry)
+begun_as (Some Hall) t = begun t.hall.opener
+begun_as (Some Entry) t = entry_begun t.entry
+
+abbrev pub begun_in : TrialOf → Option ℕ
+begun_in t = begun_as t.holder t
 
 -- ---- what is sent
 

@@ -3,7 +3,7 @@
 ghost use Rattle.std.specs.Prelude.{◌≡◌, ◌≢◌, [], None, Some, IfErr, IfOk, IsSome, OnErr, OnOk};
 ghost use Rattle.seal.specs.Records.{preface_of};
 ghost use Rattle.sealed.specs.Calls.{Fails, IsSameDesk, KeepsCaller, Receives, Sends, caller_of};
-ghost use Rattle.sealed.specs.Calls.{first_passing, fresh_called, is_over, is_sealed};
+ghost use Rattle.sealed.specs.Calls.{begun, first_passing, fresh_called, is_over, is_sealed};
 ghost use Rattle.sealed.specs.Sent.{KeepsSent};
 ghost use Rattle.sealed.specs.model.Steps.{OpensAfter, Passes};
 ghost use Rattle.sealed.specs.declared.callers.Refusal.TheVariants.{NoMemory as Starved};
@@ -106,6 +106,21 @@ impl Called {
             None => false,
         };
         self.refusal.is_some() || misfits
+    }
+
+    /// The number of the record of a sealed stream that has begun to come and is not whole, if one
+    /// has. The client's preface counts as the beginning of the first one, 0.
+    pub fn begun(&self) -> Option<u64>
+        ensures { result ≡ begun self.now }
+    {
+        if let Some(trial) = &self.trial {
+            return trial.begun();
+        }
+        if self.passing.is_some() || self.front.is_empty() {
+            None
+        } else {
+            Some(0)
+        }
     }
 
     /// Whether the client's preface came whole, so that its stream is tried with the desk's keys.

@@ -1,7 +1,7 @@
 //! A sealed stream at a desk, whose first record tells under which of two keys it is.
 
 ghost use Rattle.std.specs.Prelude.{◌≡◌, ◌++◌, ℕ, List, IfErr, IfOk, None};
-ghost use Rattle.sealed.specs.Trials.{FailsFor, IsSameTrial, SealsFor, Tries, entry_of};
+ghost use Rattle.sealed.specs.Trials.{FailsFor, IsSameTrial, SealsFor, Tries, begun_in, entry_of};
 ghost use Rattle.sealed.specs.Trials.{fresh_trial, over};
 
 use crate::callers::{Holder, Locks};
@@ -90,6 +90,22 @@ impl Trial {
             Some(Holder::Hall) => hall,
             Some(Holder::Entry) => entry,
             None => hall && entry,
+        }
+    }
+
+    /// The number of the record that has begun to come and is not whole, if one has.
+    pub fn begun(&self) -> Option<u64>
+        ensures { result ≡ begun_in self.now }
+    {
+        let hall = self.hall.begun();
+        let entry = match &self.entry {
+            Some(entry) => entry.begun(),
+            None => None,
+        };
+        match self.holder {
+            Some(Holder::Hall) => hall,
+            Some(Holder::Entry) => entry,
+            None => hall.or(entry),
         }
     }
 

@@ -1,7 +1,7 @@
 //! A sealed connection under one key, as one of its sides has it.
 
 ghost use Rattle.std.specs.Prelude.{◌≡◌, IfErr, IfOk, OnErr, OnOk, Option};
-ghost use Rattle.seal.specs.Streams.{Fed};
+ghost use Rattle.seal.specs.Streams.{Fed, begun};
 ghost use Rattle.sealed.specs.Tunnels.{AreFew, FailsAll, SealsAll, fresh_tunnel, opposite};
 
 use seal::{Channel, Direction, NoMemory, OpenFault, Opener, SealFault, Sealer};
@@ -64,6 +64,13 @@ impl Tunnel {
         ensures { result ≡ self.now.opener.fault }
     {
         self.opener.fault()
+    }
+
+    /// The number of the record that has begun to come and is not whole, if one has.
+    pub fn begun(&self) -> Option<u64>
+        ensures { result ≡ begun self.now.opener }
+    {
+        self.opener.begun()
     }
 
     /// Takes the next piece of what comes, and hands on the bytes of the records that are whole now

@@ -1,10 +1,12 @@
 -- The desk that is opened on its files.
-use Rattle.std.specs.Prelude.{◌≡◌, false, List, []}
+use Rattle.std.specs.Prelude.{◌≡◌, false, ℕ, List, []}
 use Rattle.acceptor.specs.Storing.{first_stored}
 use Rattle.acceptor.specs.declared.entry.Entry.{Entry}
 use Rattle.acceptor.specs.declared.stored.Stored.{Stored}
 use Rattle.sqlite.specs.Recovery.{Image}
+use Rattle.sqlite_disk.specs.declared.Disk as disk
 use Rattle.desk_file.specs.Files.{HeldAs, HeldBy, StandsIn}
+use Rattle.desk_file.specs.Uses.{IsPutInUse}
 use Rattle.replica.specs.Nodes.{NodeValue}
 use Rattle.replica.specs.roles.Opening.{opened}
 use Rattle.store.specs.declared.home.Home.{Home}
@@ -35,6 +37,13 @@ pub record KeepsFor {K : Type 0} (k : Ghosts K) (how : Making) (files : Image) (
   pub place : k.home_of keeper ≡ home
   pub held : k.is_honest keeper
       → (s : Stored) × (log : List Entry) × k.keeps keeper s log × HeldFor how files home s log
+
+-- A keeper of this desk, which kept what the files held so, was closed with all in its file, and
+-- then the file was put into use: so many uses of it were begun with this one.
+abbrev pub IsUsedFor : {D K : Type 0} → disk.Ghosts D → Ghosts K → Making → Image → Home → ℕ
+    → Type 0
+IsUsedFor {D} {K} g k how files home uses =
+    (kept : K) × KeepsFor k how files home kept × IsPutInUse g k kept uses
 
 -- The desk that is opened on two files that held this: it is up and idle, nothing waits in its
 -- queue, and, where the files have given back what was written to them, its state and its log are

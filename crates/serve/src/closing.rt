@@ -17,7 +17,7 @@ impl<S: Start> Close for SqlKeeper<FileStore<FileFrom<S>>> {
     /// has everything, and says in the file that it is in use no more. Where the device refuses
     /// that, the log beside the file still has it.
     fn close(self) {
-        put_away(self);
+        let _ = put_away(self);
     }
 }
 

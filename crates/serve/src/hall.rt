@@ -11,12 +11,14 @@ use crate::fault::ServeFault;
 use crate::twins::twins_in;
 use hall_file::service::Service;
 use mio_sockets::{DeskLinks, SocketClients, SocketLinks, SocketWires};
+use multiplex::Links;
 use prompt_lines::PromptLines;
 use sealed::Doors;
 use std::alloc::{AllocError, Global};
-use std::io;
 use std::io::{ErrorKind, Write};
 use std::net::{Net, SocketAddr, ToSocketAddrs};
+use std::time::Duration;
+use std::{io, thread};
 
 /// The first address of a text, an IP address or a host's name and a port.
 fn address_of<R: Net>(net: &R, text: &str) -> Option<SocketAddr>
@@ -85,7 +87,8 @@ pub fn listen<'r>(
     let Some(address) = found else {
         return Err(ServeFault::CannotListen);
     };
-    match SocketClients::listen(rt, rt.alloc(), address, start) {
+    let lines = PromptLines::new(rt.stderr(), rt.alloc());
+    match SocketClients::listen(rt, rt.alloc(), address, start, lines) {
         Ok(clients) => Ok(clients),
         Err(error) => Err(no_listener(&error)),
     }
@@ -118,6 +121,25 @@ fn tell_missing<W: Write>(
     lines.flush()
 }
 
+/// How often it is looked at the end whether something is still to be sent to the other desks.
+const LAST_LOOKS: u32 = 100;
+
+/// How many milliseconds lie between two of these looks.
+const BETWEEN_LOOKS: u64 = 10;
+
+/// Sends what waits for the other desks, once a desk has served, for a second at most.
+pub fn send_rest(rt: &HostRuntime, links: &mut SocketLinks<'_, HostRuntime, PromptLines>) {
+    let mut now = links.time();
+    for _look in 0..LAST_LOOKS {
+        now = now.saturating_add(BETWEEN_LOOKS);
+        links.keep(now);
+        if !links.is_busy(now) {
+            return;
+        }
+        thread::sleep(rt, Duration::from_millis(BETWEEN_LOOKS));
+    }
+}
+
 /// The links to the other desks, at the desk's start of this number, whose sockets the poll of the
 /// clients tells of. Where the desk has keys, they speak under the hall's. Where lines about other
 /// desks are wanted, it says which two have one address, and of which no address was found.
@@ -140,14 +162,11 @@ pub fn links_to<'r>(
     let Ok(addresses) = addresses_of(rt, rt.alloc(), service.addresses) else {
         return Err(ServeFault::NoMemory);
     };
-    let lines = if service.quiet {
-        None
-    } else {
-        let mut lines = PromptLines::new(rt.stderr(), rt.alloc());
+    let mut lines = PromptLines::new(rt.stderr(), rt.alloc());
+    if !service.quiet {
         let _ = tell_twins(&mut lines, service.addresses);
         let _ = tell_missing(&mut lines, service.addresses, &addresses);
-        Some(lines)
-    };
+    }
     match DeskLinks::new(
         rt.alloc(),
         &addresses,
@@ -160,6 +179,7 @@ pub fn links_to<'r>(
             start,
         ),
         lines,
+        service.quiet,
     ) {
         Ok(links) => Ok(links),
         Err(_) => Err(ServeFault::NoMemory),

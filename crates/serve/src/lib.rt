@@ -14,4 +14,5 @@ mod twins;
 
 pub use fault::ServeFault;
 pub use hall_file::service::{Making, Service};
+pub use opening::has_bytes;
 pub use running::{serve, serve_node};

@@ -6,7 +6,7 @@ ghost use Rattle.sqlite.specs.Recovery.{Image};
 ghost use Rattle.sqlite.specs.WalFiles.{image_at};
 ghost use Rattle.store.specs.Ranges.{IsHome};
 ghost use Rattle.store.specs.declared.home.Home.{Home as Place};
-ghost use Rattle.serve.specs.Files.{KeepsFor, opening_of};
+ghost use Rattle.serve.specs.Files.{IsUsedFor, KeepsFor, opening_of};
 ghost use Rattle.serve.specs.Printing.{IsOfOpening, IsOfStore, refusal_of};
 
 use crate::fault::{ServeFault, fault_of_open};
@@ -16,6 +16,7 @@ use desk_file::{check_use, fault_of_load, make_file, open_keeper, open_keeper_th
 use hall_file::service::{Making, Service};
 use learner::log::Log;
 use sqlite::{FileFrom, FileStore, Start, Unknown};
+use sqlite_disk::Disk;
 use std::alloc::Global;
 use std::fs;
 use std::io::ErrorKind;
@@ -45,7 +46,7 @@ fn refusal_of(making: Making, there: bool) -> Option<ServeFault>
 }
 
 /// Whether the file is there and has something in it.
-fn has_bytes<R: Files>(rt: &R, path: &str) -> Result<bool, ServeFault>
+pub fn has_bytes<R: Files>(rt: &R, path: &str) -> Result<bool, ServeFault>
     ensures { IfErr result IsOfStore }
 {
     match fs::metadata(rt, path) {
@@ -93,7 +94,7 @@ fn make_as_asked(rt: &HostRuntime, service: Service<'_>, home: Home) -> Result<(
 {
     match service.making {
         Making::AsNeeded | Making::Open => Ok(()),
-        Making::New => match make_file(rt, home, service.store) {
+        Making::New => match make_file(rt, home, service.store, Unknown) {
             Ok(()) => Ok(()),
             Err(fault) => Err(fault_of_open(fault)),
         },
@@ -132,14 +133,22 @@ fn open_as_asked<S: Start>(
 
 /// Opens the file of a desk as its store, closes it with all that it has, and puts it into its next
 /// use. So a file that is no desk's store is never marked.
-fn put_file_in_use(rt: &HostRuntime, service: Service<'_>, home: Home) -> Result<u32, ServeFault>
+fn put_file_in_use<S: Start>(
+    rt: &HostRuntime,
+    service: Service<'_>,
+    home: Home,
+    start: S,
+) -> Result<u32, ServeFault>
     requires { IsHome home }
-    ensures { IfErr result (λ f. IsOfOpening f service.entry) }
+    ensures used { IfOk result (IsUsedFor ⟦<FileFrom<S> as Disk>⟧
+        ⟦<SqlKeeper<FileStore<FileFrom<S>>> as Keeper>⟧ (opening_of service.entry.making)
+        (image_at S.Start) home) }
+    ensures err { IfErr result (λ f. IsOfOpening f service.entry) }
 {
-    if let Err(fault) = check_use(rt, service.store) {
+    if let Err(fault) = check_use(rt, service.store, Unknown) {
         return Err(fault_of_open(fault));
     }
-    let keeper = match open_as_asked(rt, service, home, Unknown) {
+    let keeper = match open_as_asked(rt, service, home, start) {
         Ok(keeper) => keeper,
         Err(fault) => return Err(fault),
     };
@@ -224,6 +233,9 @@ pub fn open_store<S: Start>(
     requires { IsHome home }
     ensures opened { IfOk result (λ it. KeepsFor ⟦<SqlKeeper<FileStore<FileFrom<S>>> as Keeper>⟧
         service.entry.making (image_at S.Start) home it.keeper) }
+    ensures used { IfOk result (λ it. IsUsedFor ⟦<FileFrom<Unknown> as Disk>⟧
+        ⟦<SqlKeeper<FileStore<FileFrom<Unknown>>> as Keeper>⟧ (opening_of service.entry.making)
+        (image_at ⟦<Unknown as Start>⟧) home it.start) }
     ensures err { IfErr result (λ f. IsOfOpening f service.entry) }
 {
     if let Err(fault) = may_open(rt, service) {
@@ -232,7 +244,7 @@ pub fn open_store<S: Start>(
     if let Err(fault) = make_as_asked(rt, service, home) {
         return Err(fault);
     }
-    let number = match put_file_in_use(rt, service, home) {
+    let number = match put_file_in_use(rt, service, home, Unknown) {
         Ok(number) => number,
         Err(fault) => return Err(fault),
     };

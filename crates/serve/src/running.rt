@@ -11,7 +11,7 @@ ghost use Rattle.serve.specs.Serves.{terms_of};
 use crate::closing::{Close, close_node};
 use crate::doors::doors_of;
 use crate::fault::{ServeFault, fault_of_open};
-use crate::hall::{links_to, listen};
+use crate::hall::{links_to, listen, send_rest};
 use crate::home::home_of;
 use crate::opening::open_store;
 use crate::telling::{tell_first, tell_last};
@@ -132,7 +132,7 @@ fn serve_there<K: Keeper + Drop, W: Write>(
         Ok(links) => links,
         Err(fault) => return Err(fault),
     };
-    serve_node(
+    let ended = serve_node(
         rt.alloc(),
         terms_of(service, doors),
         period_of(service),
@@ -140,7 +140,9 @@ fn serve_there<K: Keeper + Drop, W: Write>(
         node,
         &mut links,
         writer,
-    )
+    );
+    send_rest(rt, &mut links);
+    ended
 }
 
 /// Opens the desk that a keeper keeps, which listens at its address and serves, at its start of

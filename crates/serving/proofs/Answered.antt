@@ -20,7 +20,8 @@ use Rattle.serving.specs.declared.calls.Answer.{Answer}
 use Rattle.serving.specs.declared.request.Request.{Request}
 use Rattle.serving.specs.declared.request.Request.TheVariants.{Heard, Ticked, Asked, Printed}
 use Rattle.serving.specs.declared.request.Request.TheVariants.{Inspected, Copied, Stopped, Strange}
-use Rattle.serving.specs.declared.request.Request.TheVariants.{Ignored, Denied}
+use Rattle.serving.specs.declared.request.Request.TheVariants.{Ignored, Denied, Withheld}
+use Rattle.wire.specs.declared.standing.Difference.{Difference}
 use Rattle.wire.specs.declared.values.ClientRefusal.TheVariants as refusal
 use Rattle.formats.specs.declared.events.Event.{Event as EventOf}
 use Rattle.wire.specs.declared.values.SheetStyle.{SheetStyle as Style}
@@ -170,10 +171,11 @@ prints home r event round position style x w a is h =
     )
 
 -- how the desk stands, and entries of its log: so it is too
-pub inspects : {V : Type 0} {way : Way V} (home : Home) (r : Request) (x : Seen) (w : What)
-    (a : Outside way)
-    → r ≡ Inspected → w ≡ what.Standing (standing home x) → AnswersSome home x x r (Some w) a a
-inspects home r x w a is h =
+pub inspects : {V : Type 0} {way : Way V} (home : Home) (r : Request)
+    (differs : Option Difference) (x : Seen) (w : What) (a : Outside way)
+    → r ≡ Inspected differs → w ≡ what.Standing (standing home x differs)
+    → AnswersSome home x x r (Some w) a a
+inspects home r differs x w a is h =
     subst (λ z. AnswersSome home x x z (Some w) a a) (sym is) (
       [],
       record {
@@ -220,6 +222,14 @@ pub denies : {V : Type 0} {way : Way V} (home : Home) (r : Request) (x : Seen) (
     → r ≡ Denied → AnswersSome home x x r (Some (what.Refused refusal.NotAllowed)) a a
 denies home r x a is =
     subst (λ z. AnswersSome home x x z (Some (what.Refused refusal.NotAllowed)) a a) (sym is) (
+      [],
+      record { answer_is = refl; made = Makes-nil home.hall a; node = refl; calls = refl },
+    )
+
+pub withholds : {V : Type 0} {way : Way V} (home : Home) (r : Request) (x : Seen) (a : Outside way)
+    → r ≡ Withheld → AnswersSome home x x r (Some (what.Refused refusal.HallDiffers)) a a
+withholds home r x a is =
+    subst (λ z. AnswersSome home x x z (Some (what.Refused refusal.HallDiffers)) a a) (sym is) (
       [],
       record { answer_is = refl; made = Makes-nil home.hall a; node = refl; calls = refl },
     )

@@ -5,6 +5,7 @@ use Rattle.std.proofs.lemmas.List.{append-nil, append_assoc}
 use Rattle.std.proofs.KnownBytes.{Appends-nil, Appends-trans}
 use Rattle.std.specs.Io.KnownBytes.{Appends}
 use Rattle.wire.specs.declared.frame.Frame.{Frame}
+use Rattle.wire.specs.declared.standing.Difference.{Difference}
 use Rattle.wire.specs.Spelling.{spelling}
 use Rattle.serving.specs.Making.{Way, Makes}
 use Rattle.store.specs.declared.home.Home.{Home}
@@ -231,16 +232,18 @@ ends_then (end.Fault e) home a m b bs cs count h k = absurd k
 ends_then end.Read home a m b bs cs count h k = absurd k
 
 -- one frame more was begun
-pub begun_more : (all rest after : List Frame) (f : Frame) (may : Permission) (fates : List Fate)
-    (begun : List Begun)
+pub begun_more : (all rest after : List Frame) (f : Frame) (may : Permission)
+    (differs : Option Difference) (fates : List Fate) (begun : List Begun)
     → all ≡ frames_of begun ++ rest → rest ≡ f ∷ after
-    → all ≡ frames_of (begun ++ record { frame = f; may = may; fates = fates } ∷ []) ++ after
-begun_more all rest after f may fates begun parts first =
+    → all ≡
+    frames_of (begun ++ record { frame = f; may = may; differs = differs; fates = fates } ∷ [])
+    ++ after
+begun_more all rest after f may differs fates begun parts first =
     parts
     ∙ ap (λ z. frames_of begun ++ z) first
     ∙ sym (append_assoc (frames_of begun) (f ∷ []) after)
     ∙ ap (λ z. z ++ after) (sym (frames_of_both begun
-    (record { frame = f; may = may; fates = fates } ∷ [])))
+    (record { frame = f; may = may; differs = differs; fates = fates } ∷ [])))
 
 -- under one permission, and so is what comes after
 pub under_both : (may : Permission) (xs ys : List Begun) → AreUnder may xs → AreUnder may ys

@@ -10,7 +10,7 @@ use Rattle.acceptor.specs.declared.message.Message.{Message}
 use Rattle.learner.specs.Ranges.{IsInRange}
 use Rattle.learner.specs.Steps.{is_real, is_in_range}
 use Rattle.wire.specs.declared.values.Version.{Version}
-use Rattle.wire.specs.declared.values.Version.TheVariants.{One, Two, Three, Four}
+use Rattle.wire.specs.declared.values.Version.TheVariants.{One, Two, Three, Four, Five}
 use Rattle.wire.specs.Ranges.{IsCount, IsFrame, IsBody, IsBallot, IsPosition, IsDesk, Goes, way_of}
 use Rattle.serving.specs.model.Framing.{IsTyped}
 use Rattle.serving.specs.Serving.{what_of, framed}
@@ -34,6 +34,7 @@ one_is One = refl
 one_is Two = (omega arith, omega arith)
 one_is Three = (omega arith, omega arith)
 one_is Four = (omega arith, omega arith)
+one_is Five = (omega arith, omega arith)
 
 is_body : (v : Version) (n : ℕ) (b : Body) → n ≤ 5 → is_in_range n b ≡ true → IsTyped b
     → IsBody v (what_of b)

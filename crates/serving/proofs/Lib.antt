@@ -23,3 +23,4 @@ pub mod Outside
 pub mod Sheets
 pub mod Prefixes
 pub mod Standings
+pub mod Refusing

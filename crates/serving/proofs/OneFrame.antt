@@ -6,12 +6,14 @@ use Rattle.std.specs.Io.KnownBytes.{Appends}
 use Rattle.store.specs.declared.home.Home.{Home}
 use Rattle.learner.specs.Steps.{IsDesk}
 use Rattle.wire.specs.Ranges.{IsFrame, Goes, Way as Direction}
+use Rattle.wire.specs.declared.standing.Difference.{Difference}
 use Rattle.wire.specs.declared.values.Version.{Version}
 use Rattle.wire.specs.declared.frame.Frame.{Frame}
 use Rattle.wire.specs.declared.frame.What.{What}
 use Rattle.serving.specs.Making.{Way, Outside}
 use Rattle.serving.specs.Answering.{said_in, IsAnswer, IsAnswerIn}
 use Rattle.serving.specs.Asking.{request, ending, close_by}
+use Rattle.serving.specs.Differing.{withheld}
 use Rattle.serving.specs.Permissions.{permitted}
 use Rattle.serving.specs.declared.permission.Permission.{Permission}
 use Rattle.lines.specs.Bytes.{AppendsPart}
@@ -49,24 +51,25 @@ answer_is_frame v home w small ours few h = record {
 
 -- the frame was served whole
 pub serves : {V : Type 0} {way : Way V} (home : Home) (f : Frame) (may : Permission)
-    (r : Request) (x y : Seen)
+    (differs : Option Difference) (r : Request) (x y : Seen)
     (w : Option What)
     (close : Option Close) (o n : Option (List ℕ)) (a b : Outside way)
-    → r ≡ permitted may (request home f) → AnswersSome home x y r w a b
+    → r ≡ withheld differs (permitted may (request home f)) → AnswersSome home x y r w a b
     → Appends o n (answer_bytes (framed_answer f.version home w)) → close ≡ close_by
     (ending r) y.is_down
     → (fates : List Fate)
-    × ServesOne home (sides x o a) (sides y n b) (record { frame = f; may = may; fates = fates })
-    close
+    × ServesOne home (sides x o a) (sides y n b)
+    (record { frame = f; may = may; differs = differs; fates = fates }) close
 unfolding serve_frame close_of
-serves home f may r x y w close o n a b is h written c =
+serves home f may differs r x y w close o n a b is h written c =
     let g = subst (λ z. Answers home x y h.0 z w a b) is h.1 in (
       h.0,
       record {
         close =
             c ∙ ap (λ z. close_by (ending z) y.is_down) is
-            ∙ ap (λ (z : Seen). close_by (ending (permitted may (request home f))) z.is_down)
-            g.node;
+            ∙ ap
+            (λ (z : Seen).
+            close_by (ending (withheld differs (permitted may (request home f)))) z.is_down) g.node;
         answered =
             subst (λ z. Appends o n (answer_bytes (framed_answer f.version home z))) g.answer_is
             written;
@@ -82,20 +85,23 @@ answer_is_due v home (Some w) some none = absurd cc
 
 -- the answer could not be written whole
 pub answer_fails : {V : Type 0} {way : Way V} (home : Home) (f : Frame) (may : Permission)
-    (r : Request) (x y : Seen)
+    (differs : Option Difference) (r : Request) (x y : Seen)
     (w : Option What)
     (why : FrameFault) (o n : Option (List ℕ)) (a b : Outside way)
-    → r ≡ permitted may (request home f) → AnswersSome home x y r w a b → w ≢ None
+    → r ≡ withheld differs (permitted may (request home f)) → AnswersSome home x y r w a b
+    → w ≢ None
     → WriteEnds why o n (answer_bytes (framed_answer f.version home w))
     → (fates : List Fate)
-    × FailsIn why home (sides x o a) (sides y n b) (record { frame = f; may = may; fates = fates })
+    × FailsIn why home (sides x o a) (sides y n b)
+    (record { frame = f; may = may; differs = differs; fates = fates })
 unfolding serve_frame
-answer_fails home f may r x y w fault.Write o n a b is h some part =
+answer_fails home f may differs r x y w fault.Write o n a b is h some part =
     let g = subst (λ z. Answers home x y h.0 z w a b) is h.1 in (
       h.0,
       record {
         due =
-            answer_is_due f.version home (answer home x h.0 (permitted may (request home f)))
+            answer_is_due f.version home
+            (answer home x h.0 (withheld differs (permitted may (request home f))))
             (λ none. some (g.answer_is ∙ none));
         answered =
             subst (λ z. AppendsPart o n (answer_bytes (framed_answer f.version home z))) g.answer_is
@@ -104,14 +110,17 @@ answer_fails home f may r x y w fault.Write o n a b is h some part =
         node = g.node;
       },
     )
-answer_fails home f may r x y w fault.NoMemory o n a b is h some none =
+answer_fails home f may differs r x y w fault.NoMemory o n a b is h some none =
     let g = subst (λ z. Answers home x y h.0 z w a b) is h.1 in (
       h.0,
       (
-        (served home x h.0 (permitted may (request home f))).done,
+        (served home x h.0 (withheld differs (permitted may (request home f)))).done,
         [],
         record {
-          parts = sym (append-nil (served home x h.0 (permitted may (request home f))).done);
+          parts =
+              sym
+              (append-nil
+              (served home x h.0 (withheld differs (permitted may (request home f)))).done);
           silent = none;
           made = g.made;
           node = g.calls;
@@ -121,14 +130,15 @@ answer_fails home f may r x y w fault.NoMemory o n a b is h some none =
 
 -- memory was refused in its calls and pushes
 pub request_fails : {V : Type 0} {way : Way V} (home : Home) (f : Frame) (may : Permission)
-    (r : Request) (x y : Seen)
+    (differs : Option Difference) (r : Request) (x y : Seen)
     (o n : Option (List ℕ))
     (a b : Outside way)
-    → r ≡ permitted may (request home f) → FailsToAnswer home x y r a b → Appends o n []
+    → r ≡ withheld differs (permitted may (request home f)) → FailsToAnswer home x y r a b
+    → Appends o n []
     → (fates : List Fate)
     × FailsIn fault.NoMemory home (sides x o a) (sides y n b)
-    (record { frame = f; may = may; fates = fates })
+    (record { frame = f; may = may; differs = differs; fates = fates })
 unfolding serve_frame
-request_fails home f may r x y o n a b is h none =
+request_fails home f may differs r x y o n a b is h none =
     let g = subst (λ z. AnswersPart home x y h.0 z h.1 h.2 a b) is h.3 in
     (h.0, (h.1, h.2, record { parts = g.parts; silent = none; made = g.made; node = g.node }))

@@ -27,7 +27,7 @@ pub ticks : {V : Type 0} {way : Way V} (home : Home) (x y : Seen) (w : Option Wh
     → AnswersSome home x y Ticked w a b → Ticks home (unanswered x a) (unanswered y b)
 ticks {V} {way} home x y w a b h =
     let one =
-    serves home (tick_frame way.wire home) permission.All Ticked x y w
+    serves home (tick_frame way.wire home) permission.All None Ticked x y w
     (close_by (ending Ticked) y.is_down) None
     None a b (asks way.wire home) h tt refl in
     (one.0, close_by (ending Ticked) y.is_down, one.1)
@@ -35,5 +35,5 @@ ticks {V} {way} home x y w a b h =
 pub ticks_in_part : {V : Type 0} {way : Way V} (home : Home) (x y : Seen) (a b : Outside way)
     → FailsToAnswer home x y Ticked a b → TicksInPart home (unanswered x a) (unanswered y b)
 ticks_in_part {V} {way} home x y a b h =
-    request_fails home (tick_frame way.wire home) permission.All Ticked x y None None a b
+    request_fails home (tick_frame way.wire home) permission.All None Ticked x y None None a b
     (asks way.wire home) h tt

@@ -15,7 +15,7 @@ use Rattle.learner.specs.declared.event.DeskEvent.TheVariants.{Deliver}
 use Rattle.store.specs.declared.home.Home.{Home}
 use Rattle.wire.specs.declared.frame.Frame.{Frame}
 use Rattle.wire.specs.declared.values.Version.{Version}
-use Rattle.wire.specs.declared.values.Version.TheVariants.{One, Two, Three, Four}
+use Rattle.wire.specs.declared.values.Version.TheVariants.{One, Two, Three, Four, Five}
 use Rattle.wire.specs.Ranges.{IsCount, IsEntry, IsFrame}
 use Rattle.wire.specs.Spelling.{spelling}
 use Rattle.serving.specs.Adding.{Push, Hands}
@@ -162,6 +162,7 @@ said_counts One (e ∷ es) some few = refl
 said_counts Two es some few = (some, few)
 said_counts Three es some few = (some, few)
 said_counts Four es some few = (some, few)
+said_counts Five es some few = (some, few)
 
 said_fits : (v : Version) (es : List Entry) → length (entries_said v es) ≤ length es
 said_fits One [] = omega arith
@@ -169,6 +170,7 @@ said_fits One (e ∷ es) = omega arith
 said_fits Two es = omega arith
 said_fits Three es = omega arith
 said_fits Four es = omega arith
+said_fits Five es = omega arith
 
 pub run_is_frame : (v : Version) (hall n : ℕ) (run : Run) → hall < 2 ^ 32 → n ≤ 5 → IsRun n run
     → AllByRecursion IsEntry (entries_said v run.entries) → IsFrame (run_frame v hall run)

@@ -10,6 +10,7 @@ use Rattle.answers.specs.declared.desk.Desk.{Ghosts as DeskOf}
 use Rattle.store.specs.declared.home.Home.{Home}
 use Rattle.wire.specs.declared.fault.WireFault.{WireFault}
 use Rattle.wire.specs.declared.frame.Frame.{Frame}
+use Rattle.wire.specs.declared.standing.Difference.{Difference}
 use Rattle.wire.specs.Stream.{Feeds, IsKept, Reader}
 use Rattle.serving.specs.declared.ends.Close.{Close}
 use Rattle.serving.specs.declared.ends.Close.TheVariants as close
@@ -56,11 +57,11 @@ left_at {V} {way} home x y p q o n one c e count none is few h =
 
 -- the same turn, of the connection that is seen so
 pub advances_as : {V U : Type 0} (d : DeskOf V) (p : PeersOf U) (node next : V) (peers later : U)
-    (may : Permission) (view old new : Talk)
-    → view ≡ old → Advances d p may true (moment node peers view) (moment next later new)
-    → Advances d p may true (moment node peers old) (moment next later new)
-advances_as d p node next peers later may view old new is h =
-    subst (λ z. Advances d p may true (moment node peers z) (moment next later new)) is h
+    (may : Permission) (differs : Option Difference) (view old new : Talk)
+    → view ≡ old → Advances d p may differs true (moment node peers view) (moment next later new)
+    → Advances d p may differs true (moment node peers old) (moment next later new)
+advances_as d p node next peers later may differs view old new is h =
+    subst (λ z. Advances d p may differs true (moment node peers z) (moment next later new)) is h
 
 -- ---- an answer is written at once
 

@@ -101,9 +101,9 @@ waiting_more {V} {U} {X} {may} d p w first c later written start m b begun one h
       stream = next.stream ∙ h.stream;
       taken = drop_all (length later.pending) later.pending (omega arith);
       allowed = under_both may begun (one ∷ []) h.allowed (under, tt);
-      parts = begun_more first.waiting c.waiting later.waiting one.frame one.may one.fates begun
-          h.parts
-          next.next;
+      parts =
+          begun_more first.waiting c.waiting later.waiting one.frame one.may one.differs
+          one.fates begun h.parts next.next;
       counted = next.counted ∙ counts_more first.frames c.frames begun one h.counted;
       few = next.few;
       leaves =
@@ -139,9 +139,9 @@ waiting_cut {V} {U} {X} {may} d p w first c later kept start m b begun one h nex
       later.waiting,
       record {
         allowed = under_both may begun (one ∷ []) h.allowed (under, tt);
-        parts = begun_more first.waiting c.waiting later.waiting one.frame one.may one.fates begun
-            h.parts
-            next.next;
+        parts =
+            begun_more first.waiting c.waiting later.waiting one.frame one.may one.differs
+            one.fates begun h.parts next.next;
         counted = next.counted ∙ counts_more first.frames c.frames begun one h.counted;
         few = next.few;
         ends =

@@ -16,7 +16,7 @@ use Rattle.replica.specs.declared.roles.fault.NodeFault.{NodeFault}
 use Rattle.replica.specs.declared.roles.fault.NodeFault.TheVariants as fault
 use Rattle.sheets.specs.declared.Style.{Style as SheetStyle}
 use Rattle.sheets.specs.declared.Style.TheVariants as layout
-use Rattle.wire.specs.Numbers.{state_in}
+use Rattle.wire.specs.Numbers.{state_in, refusal_in, standing_in}
 use Rattle.wire.specs.Ranges.{IsBody, ToClient, way_of}
 use Rattle.wire.specs.declared.values.ClientRefusal.{ClientRefusal as Refusal}
 use Rattle.wire.specs.declared.values.ClientRefusal.TheVariants as refusal
@@ -27,6 +27,7 @@ use Rattle.wire.specs.declared.values.SheetStyle.{SheetStyle as Style}
 use Rattle.wire.specs.declared.values.SheetStyle.TheVariants as asked
 use Rattle.wire.specs.declared.values.DeskRole.{DeskRole}
 use Rattle.wire.specs.declared.values.DeskRole.TheVariants as role
+use Rattle.wire.specs.declared.standing.Difference.{Difference}
 use Rattle.wire.specs.declared.standing.Standing.{Standing}
 use Rattle.wire.specs.declared.standing.Lengths.{Lengths}
 use Rattle.wire.specs.declared.standing.Lengths.TheVariants.{OfThree, OfFive}
@@ -103,14 +104,15 @@ promised_of b = if b.number == 0 then None else Some b
 abbrev pub lengths_of_hall : ℕ → List ℕ → Lengths
 lengths_of_hall desks told = if desks == 3 then OfThree (take 3 told) else OfFive told
 
-abbrev pub standing : Home → Seen → Standing
-standing home x =
+abbrev pub standing : Home → Seen → Option Difference → Standing
+standing home x differs =
     record {
       length = length x.desk.log;
       waiting = length x.desk.queue;
       role = role_of x.desk.role;
       promised = promised_of x.desk.stored.promised;
       told = lengths_of_hall home.desks x.told;
+      differs = differs;
     }
 
 -- the log's entries from a position on, as many as an answer has
@@ -125,9 +127,12 @@ copied x Breaks position = what.Refused refusal.NoMemory
 
 -- ---- versions
 
--- what a version tells of an answer: of a command's code that it does not have, that it is Unread
+-- what a version tells of an answer: of a command's code that it does not have, that it is Unread;
+-- of a refusal that it does not have, that the desk is down; before version 5 of no difference
 abbrev pub said_in : Version → What → What
 said_in version (what.Told id s) = what.Told id (state_in version s)
+said_in version (what.Refused r) = what.Refused (refusal_in version r)
+said_in version (what.Standing s) = what.Standing (standing_in version s)
 said_in version w = w
 
 -- ---- ranges

@@ -4,7 +4,7 @@ use Rattle.std.specs.Prelude.{Option, None, Some}
 use Rattle.acceptor.specs.declared.message.Body.{Body}
 use Rattle.acceptor.specs.declared.message.Body.TheVariants as body
 use Rattle.wire.specs.Numbers.{IsFromThree}
-use Rattle.wire.specs.Ranges.{IsEntry, IsId, IsLogLength}
+use Rattle.wire.specs.Ranges.{IsDifference, IsEntry, IsId, IsLogLength}
 use Rattle.wire.specs.declared.frame.Frame.{Frame}
 use Rattle.wire.specs.declared.values.Version.{Version}
 use Rattle.wire.specs.declared.frame.What.{What}
@@ -17,7 +17,7 @@ use Rattle.serving.specs.declared.request.Request.{Request}
 use Rattle.serving.specs.declared.request.Request.TheVariants.{Heard, Lagging, Learned, Entered}
 use Rattle.serving.specs.declared.request.Request.TheVariants.{Asked, Printed, Ticked, Stopped}
 use Rattle.serving.specs.declared.request.Request.TheVariants.{Inspected, Copied, Strange, Ignored}
-use Rattle.serving.specs.declared.request.Request.TheVariants.{Denied}
+use Rattle.serving.specs.declared.request.Request.TheVariants.{Denied, Withheld}
 use Rattle.answers.specs.Seen.{Seen}
 use Rattle.store.specs.declared.home.Home.{Home}
 
@@ -42,6 +42,7 @@ body_of (what.Refused refusal) = None
 body_of what.Fine = None
 body_of what.Status = None
 body_of (what.Log position) = None
+body_of (what.Await id seconds) = None
 body_of (what.Standing standing) = None
 body_of (what.Entries position length entries) = None
 
@@ -53,10 +54,11 @@ heard from to (Some b) = Heard (record { from = from; to = to; body = b })
 abbrev pub ours : ℕ → ℕ → What → Request
 ours from to (what.Submit e) = Entered e
 ours from to (what.Ask id) = Asked id
+ours from to (what.Await id seconds) = Asked id
 ours from to (what.Sheet event round position style) = Printed event round position style
 ours from to what.Tick = Ticked
 ours from to what.Stop = Stopped
-ours from to what.Status = Inspected
+ours from to what.Status = Inspected None
 ours from to (what.Log position) = Copied position
 ours from to (what.Prepare b pos) = heard from to (body_of (what.Prepare b pos))
 ours from to (what.Promise b pos vote) = heard from to (body_of (what.Promise b pos vote))
@@ -84,6 +86,7 @@ strange what.Tick = Strange
 strange what.Stop = Strange
 strange what.Status = Strange
 strange (what.Log position) = Strange
+strange (what.Await id seconds) = Strange
 strange (what.Prepare b pos) = Ignored
 strange (what.Promise b pos vote) = Ignored
 strange (what.Accept b pos e) = Ignored
@@ -113,20 +116,21 @@ AsksInRange (Printed event round position style) = position < 2 ^ 32
 AsksInRange (Heard m) = Unit {0}
 AsksInRange (Lagging m) = Unit {0}
 AsksInRange (Learned run) = run.pos + length run.entries ≤ 65536
-AsksInRange Inspected = Unit {0}
+AsksInRange (Inspected differs) = IsDifference differs
 AsksInRange (Copied position) = IsLogLength position
 AsksInRange Ticked = Unit {0}
 AsksInRange Stopped = Unit {0}
 AsksInRange Strange = Unit {0}
 AsksInRange Ignored = Unit {0}
 AsksInRange Denied = Unit {0}
+AsksInRange Withheld = Unit {0}
 
 -- what can be asked in a version: how the desk stands, and entries of its log, from version 3 on
 abbrev pub IsAskedIn : Version → Request → Type 0
 IsAskedIn version (Entered e) = Unit {0}
 IsAskedIn version (Asked id) = Unit {0}
 IsAskedIn version (Printed event round position style) = Unit {0}
-IsAskedIn version Inspected = IsFromThree version
+IsAskedIn version (Inspected differs) = IsFromThree version
 IsAskedIn version (Copied position) = IsFromThree version
 IsAskedIn version (Heard m) = Unit {0}
 IsAskedIn version (Lagging m) = Unit {0}
@@ -136,6 +140,7 @@ IsAskedIn version Stopped = Unit {0}
 IsAskedIn version Strange = Unit {0}
 IsAskedIn version Ignored = Unit {0}
 IsAskedIn version Denied = Unit {0}
+IsAskedIn version Withheld = Unit {0}
 
 -- how a request ends the connection of itself: where the desk is down after it, or at a Stop
 abbrev pub ending : Request → Ending
@@ -147,11 +152,12 @@ ending Ticked = ends.IfDown
 ending Stopped = ends.AtStop
 ending (Asked id) = ends.Never
 ending (Printed event round position style) = ends.Never
-ending Inspected = ends.Never
+ending (Inspected differs) = ends.Never
 ending (Copied position) = ends.Never
 ending Strange = ends.Never
 ending Ignored = ends.Never
 ending Denied = ends.Never
+ending Withheld = ends.Never
 
 abbrev pub close_by : Ending → Bool → Option Close
 close_by ends.Never is_down = None

@@ -6,6 +6,7 @@ use Rattle.std.specs.Io.KnownBytes.{Appends, Consumes, IsAtEnd}
 use Rattle.wire.specs.declared.values.Version.{Version}
 use Rattle.wire.specs.declared.frame.Frame.{Frame}
 use Rattle.wire.specs.declared.frame.What.{What}
+use Rattle.wire.specs.declared.standing.Difference.{Difference}
 use Rattle.wire.specs.Ranges.{IsFrame}
 use Rattle.wire.specs.Spelling.{spelling}
 use Rattle.wire.specs.Stream.{Waits, Breaks, front, IsOfStream}
@@ -23,15 +24,18 @@ use Rattle.answers.specs.Seen.{Seen}
 use Rattle.serving.specs.Nodes.{Fate}
 use Rattle.serving.specs.Answering.{said_in}
 use Rattle.serving.specs.Asking.{request, closes}
+use Rattle.serving.specs.Differing.{withheld}
 use Rattle.serving.specs.Permissions.{permitted}
 use Rattle.serving.specs.declared.permission.Permission.{Permission}
 use Rattle.serving.specs.declared.request.Request.{Request}
 use Rattle.serving.specs.Serving.{Act, served, answer, seen_after}
 
--- a frame that was begun, with what its connection may ask, and the fates of its calls
+-- a frame that was begun, with what its connection may ask, how another desk of the hall differed
+-- by then, if one did, and the fates of its calls
 pub record Begun : Type 0 where
   pub frame : Frame
   pub may : Permission
+  pub differs : Option Difference
   pub fates : List Fate
 
 abbrev pub frames_of : List Begun → List Frame
@@ -65,9 +69,9 @@ serve_request version home x fates r =
       seen = (served home x fates r).seen;
     }
 
--- what it asks of the desk, as far as its connection may
+-- what it asks of the desk, as far as its connection may, and no command where a desk differs
 abbrev pub asked : Home → Begun → Request
-asked home b = permitted b.may (request home b.frame)
+asked home b = withheld b.differs (permitted b.may (request home b.frame))
 
 unfoldable pub serve_frame : Home → Seen → Begun → Outcome
 serve_frame home x b = serve_request b.frame.version home x b.fates (asked home b)

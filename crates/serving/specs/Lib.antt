@@ -3,6 +3,7 @@ pub mod Nodes
 pub mod Answering
 pub mod Asking
 pub mod Permissions
+pub mod Differing
 pub mod Telling
 pub mod Serving
 pub mod Making

@@ -4,7 +4,7 @@ use Rattle.acceptor.specs.declared.message.Message.{Message}
 use Rattle.learner.specs.declared.event.DeskEvent.{DeskEvent}
 use Rattle.replica.specs.declared.roles.fault.NodeFault.{NodeFault}
 use Rattle.wire.specs.declared.values.Version.{Version}
-use Rattle.wire.specs.declared.values.Version.TheVariants.{One, Two, Three, Four}
+use Rattle.wire.specs.declared.values.Version.TheVariants.{One, Two, Three, Four, Five}
 use Rattle.serving.specs.Adding.{Push, Hands}
 use Rattle.serving.specs.Serving.{Act, Called, Pushed, Answered, pushes_of}
 
@@ -22,10 +22,11 @@ pub record Way (V : Type 0) : Type 1 where
 abbrev pub speaking : {V : Type 0} → Handling V → Version → Way V
 speaking handles wire = record { handles = handles; wire = wire }
 
--- the version that has this number, 1 to 4
+-- the version that has this number, 1 to 5
 abbrev pub spoken : ℕ → Version
 spoken n =
-    if n == 4 then Four
+    if n == 5 then Five
+    else if n == 4 then Four
     else if n == 3 then Three
     else if n == 2 then Two
     else One

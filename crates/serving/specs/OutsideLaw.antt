@@ -9,7 +9,7 @@ use Rattle.serving.specs.declared.request.Request.{Request}
 use Rattle.serving.specs.declared.request.Request.TheVariants.{Heard, Lagging, Learned, Entered}
 use Rattle.serving.specs.declared.request.Request.TheVariants.{Asked, Printed, Ticked, Stopped}
 use Rattle.serving.specs.declared.request.Request.TheVariants.{Inspected, Copied, Strange, Ignored}
-use Rattle.serving.specs.declared.request.Request.TheVariants.{Denied}
+use Rattle.serving.specs.declared.request.Request.TheVariants.{Denied, Withheld}
 use Rattle.serving.specs.Asking.{request}
 use Rattle.serving.specs.Connection.{Begun, answer_frame, serve_frame}
 use Rattle.serving.specs.Permissions.{admits}
@@ -27,13 +27,14 @@ turned_away_by home b (Learned run) = []
 turned_away_by home b (Entered e) = not_allowed home b
 turned_away_by home b (Asked id) = not_allowed home b
 turned_away_by home b (Printed event round position style) = not_allowed home b
-turned_away_by home b Inspected = not_allowed home b
+turned_away_by home b (Inspected differs) = not_allowed home b
 turned_away_by home b (Copied position) = not_allowed home b
 turned_away_by home b Ticked = not_allowed home b
 turned_away_by home b Stopped = not_allowed home b
 turned_away_by home b Strange = not_allowed home b
 turned_away_by home b Ignored = not_allowed home b
 turned_away_by home b Denied = not_allowed home b
+turned_away_by home b Withheld = not_allowed home b
 
 -- The node is not called, nothing is pushed, and the node is as it was.
 pub record TurnsAway (home : Home) (x : Seen) (b : Begun) : Type 0 where

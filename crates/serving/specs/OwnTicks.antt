@@ -24,7 +24,12 @@ tick_frame version home =
 -- the same, begun as one that is allowed, with these fates of its calls
 abbrev pub tick_begun : Version → Home → List Fate → Begun
 tick_begun version home fates =
-    record { frame = tick_frame version home; may = permission.All; fates = fates }
+    record {
+      frame = tick_frame version home;
+      may = permission.All;
+      differs = None;
+      fates = fates;
+    }
 
 -- what serving changes, where no answer is written
 abbrev pub unanswered : {V : Type 0} → {way : Way V} → Seen → Outside way → Sides way

@@ -6,17 +6,18 @@ use Rattle.serving.specs.declared.request.Request.{Request}
 use Rattle.serving.specs.declared.request.Request.TheVariants.{Heard, Lagging, Learned, Entered}
 use Rattle.serving.specs.declared.request.Request.TheVariants.{Asked, Printed, Ticked, Stopped}
 use Rattle.serving.specs.declared.request.Request.TheVariants.{Inspected, Copied, Strange, Ignored}
-use Rattle.serving.specs.declared.request.Request.TheVariants.{Denied}
+use Rattle.serving.specs.declared.request.Request.TheVariants.{Denied, Withheld}
 
 -- nothing of the desk is changed: it tells what its log says or how it stands, or is asked nothing
 abbrev pub reads : Request → Bool
 reads (Asked id) = true
 reads (Printed event round position style) = true
-reads Inspected = true
+reads (Inspected differs) = true
 reads (Copied position) = true
 reads Strange = true
 reads Ignored = true
 reads Denied = true
+reads Withheld = true
 reads (Heard m) = false
 reads (Lagging m) = false
 reads (Learned run) = false
@@ -30,11 +31,12 @@ enters (Entered e) = true
 enters Ticked = true
 enters (Asked id) = false
 enters (Printed event round position style) = false
-enters Inspected = false
+enters (Inspected differs) = false
 enters (Copied position) = false
 enters Strange = false
 enters Ignored = false
 enters Denied = false
+enters Withheld = false
 enters (Heard m) = false
 enters (Lagging m) = false
 enters (Learned run) = false
@@ -53,13 +55,14 @@ turned_away (Learned run) = Ignored
 turned_away (Entered e) = Denied
 turned_away (Asked id) = Denied
 turned_away (Printed event round position style) = Denied
-turned_away Inspected = Denied
+turned_away (Inspected differs) = Denied
 turned_away (Copied position) = Denied
 turned_away Ticked = Denied
 turned_away Stopped = Denied
 turned_away Strange = Denied
 turned_away Ignored = Denied
 turned_away Denied = Denied
+turned_away Withheld = Denied
 
 abbrev pub permitted : Permission → Request → Request
 permitted may r = if admits may r then r else turned_away r

@@ -27,7 +27,7 @@ use Rattle.serving.specs.declared.request.Request.{Request}
 use Rattle.serving.specs.declared.request.Request.TheVariants.{Heard, Lagging, Learned, Entered}
 use Rattle.serving.specs.declared.request.Request.TheVariants.{Asked, Printed, Ticked, Stopped}
 use Rattle.serving.specs.declared.request.Request.TheVariants.{Inspected, Copied, Strange, Ignored}
-use Rattle.serving.specs.declared.request.Request.TheVariants.{Denied}
+use Rattle.serving.specs.declared.request.Request.TheVariants.{Denied, Withheld}
 
 -- ---- messages as frames
 
@@ -264,7 +264,7 @@ answer home x fates (Entered e) =
 answer home x fates (Asked id) = Some (told_what id (first_fate fates) (state x id))
 answer home x fates (Printed event round position style) =
     Some (printed x (first_fate fates) event round position style)
-answer home x fates Inspected = Some (what.Standing (standing home x))
+answer home x fates (Inspected differs) = Some (what.Standing (standing home x differs))
 answer home x fates (Copied position) = Some (copied x (first_fate fates) position)
 answer home x fates Ticked =
     Some (answer_first what.Fine
@@ -273,3 +273,4 @@ answer home x fates Stopped = Some what.Fine
 answer home x fates Strange = Some (what.Refused refusal.Foreign)
 answer home x fates Ignored = None
 answer home x fates Denied = Some (what.Refused refusal.NotAllowed)
+answer home x fates Withheld = Some (what.Refused refusal.HallDiffers)

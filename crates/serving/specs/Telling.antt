@@ -8,7 +8,7 @@ use Rattle.acceptor.specs.declared.message.Message.{Message}
 use Rattle.wire.specs.declared.frame.Frame.{Frame}
 use Rattle.wire.specs.declared.frame.What.TheVariants as what
 use Rattle.wire.specs.declared.values.Version.{Version}
-use Rattle.wire.specs.declared.values.Version.TheVariants.{One, Two, Three, Four}
+use Rattle.wire.specs.declared.values.Version.TheVariants.{One, Two, Three, Four, Five}
 use Rattle.wire.specs.Spelling.{spelling}
 use Rattle.serving.specs.Adding.{Push}
 use Rattle.serving.specs.declared.request.Run.{Run}
@@ -68,6 +68,7 @@ entries_said One es = take 1 es
 entries_said Two es = es
 entries_said Three es = es
 entries_said Four es = es
+entries_said Five es = es
 
 abbrev pub run_frame : Version → ℕ → Run → Frame
 run_frame version hall run =

@@ -4,6 +4,7 @@ use Rattle.std.specs.Prelude.{drop, Option, None, Some}
 use Rattle.answers.specs.declared.desk.Desk.{Ghosts as DeskOf}
 use Rattle.wire.specs.declared.fault.WireFault.{WireFault}
 use Rattle.wire.specs.declared.frame.Frame.{Frame}
+use Rattle.wire.specs.declared.standing.Difference.{Difference}
 use Rattle.wire.specs.declared.values.Version.{Version}
 use Rattle.wire.specs.Stream.{Breaks, front, IsBegun, IsKept, IsOfStream, Feeds, Reader, holding}
 use Rattle.store.specs.declared.home.Home.{Home}
@@ -155,14 +156,15 @@ pub record RunsOut (old new : Talk) : Type 0 where
 abbrev pub Rests : Talk → Talk → Type 0
 Rests old new = ((IsFree old → ⊥) × (new ≡ old)) ⊎ RunsOut old new
 
--- a turn of a connection that may ask so much, in which a frame is begun or none is
-abbrev pub Advances : {V U : Type 0} → DeskOf V → PeersOf U → Permission → Bool → Moment V U
-    → Moment V U → Type 0
-Advances d p may true a b =
+-- a turn of a connection that may ask so much, where another desk differs so or none does, in which
+-- a frame is begun or none is
+abbrev pub Advances : {V U : Type 0} → DeskOf V → PeersOf U → Permission → Option Difference → Bool
+    → Moment V U → Moment V U → Type 0
+Advances d p may differs true a b =
     (one : Begun) × BeginsNext a.talk b.talk one.frame
     × LeavesAt b.talk.end a.talk.home (sides_at d p a.talk.wire a) (sides_at d p a.talk.wire b) one
-    b.talk.frames × (one.may ≡ may)
-Advances d p may false a b = (b.node ≡ a.node) × (b.peers ≡ a.peers) × Rests a.talk b.talk
+    b.talk.frames × (one.may ≡ may) × (one.differs ≡ differs)
+Advances d p may differs false a b = (b.node ≡ a.node) × (b.peers ≡ a.peers) × Rests a.talk b.talk
 
 -- ---- answers are taken
 

@@ -1,9 +1,12 @@
 //! A connection that is served by turns, and neither reads nor writes of itself.
 
-ghost use Rattle.std.specs.Prelude.{◌≡◌, ◌≢◌, ◌≤◌, ◌↔◌, [], length, IfOk, OnOk, OnErr, IsTrue};
+ghost use Rattle.std.specs.Prelude.{◌≡◌, ◌≢◌, ◌≤◌, ◌↔◌, [], length, IfOk, IfSome, OnOk, OnErr};
+ghost use Rattle.std.specs.Prelude.{IsTrue, option_map};
 ghost use Rattle.lines.specs.Bytes.{AppendsPart};
 ghost use Rattle.std.specs.Io.KnownBytes.{Appends};
 ghost use Rattle.serving.specs.Kinds.{dear_next, is_dear, is_message, message_next};
+ghost use Rattle.wire.specs.Ranges.{IsDifference, IsFrame};
+ghost use Rattle.serving.specs.Differing.{first_frame};
 ghost use Rattle.serving.specs.Turns.{Advances, IsFree, Receives, WantsRead, after_sent, moment};
 ghost use Rattle.serving.specs.Turns.{new_talk};
 ghost use Rattle.serving.specs.model.Turning.{end_after};
@@ -20,7 +23,7 @@ use std::collections::VecDeque;
 use std::io::Write;
 use std::marker::Model;
 use std::mem;
-use wire::{Frame, FrameReader, Version, What, WireFault};
+use wire::{Difference, Frame, FrameReader, Version, What, WireFault};
 
 /// The most frames of a connection.
 const MOST_FRAMES: u32 = 64;
@@ -175,6 +178,14 @@ impl Connection {
         }
     }
 
+    /// The frame that is begun next, if one waits.
+    pub fn next(&self) -> Option<&Frame>
+        ensures first { option_map (λ f. f.now) result ≡ first_frame self.now.waiting }
+        ensures spelled { IfSome result (λ f. IsFrame f.now) }
+    {
+        self.waiting.front()
+    }
+
     /// Takes the next piece of the stream. The frames that are whole with it wait for their turns.
     /// Where a fault stands at the front, or memory is refused, that is the connection's end.
     pub fn receive(&mut self, piece: &[u8])
@@ -191,17 +202,20 @@ impl Connection {
     /// Serves the next frame, if one waits, the connection is open, and nothing of an answer is
     /// still to be taken, and returns whether it did: its calls and pushes are made, and its answer
     /// is to be sent. A frame that asks for more than `may` makes no call and no push: a message of
-    /// a desk is dropped, and a client is refused. Once all that came is served, a fault that
-    /// stands after it ends the connection. Call it after each piece, and each time that an answer
-    /// was taken whole, until it returns false.
+    /// a desk is dropped, and a client is refused. Where another desk `differs`, no command is
+    /// taken, and a Standing says it. Once all that came is served, a fault that stands after it
+    /// ends the connection. Call it after each piece, and each time that an answer was taken whole,
+    /// until it returns false.
     pub fn advance<D: Desk, P: Peers>(
         &mut self,
         node: &mut D,
         peers: &mut P,
         may: Permission,
+        differs: Option<Difference>,
     ) -> bool
         requires home { D.home_of node.old ≡ self.old.home }
-        ensures turn { Advances D.Desk P.Peers may result
+        requires differs { IsDifference differs }
+        ensures turn { Advances D.Desk P.Peers may differs result
             (moment node.old peers.old self.old) (moment node.new peers.new self.new) }
         ensures home { D.home_of node.new ≡ D.home_of node.old }
     {
@@ -215,7 +229,7 @@ impl Connection {
             return false;
         };
         self.frames += 1;
-        match self.session.serve_frame(node, peers, may, frame) {
+        match self.session.serve_frame(node, peers, may, differs, frame) {
             Ok(reply) => {
                 self.answer = reply.bytes;
                 self.taken = 0;

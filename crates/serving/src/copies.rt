@@ -32,6 +32,7 @@ fn entries_from(alloc: Global, log: &Log, position: u32) -> Result<Entries, NoMe
 
 /// The entries of the desk's log from a position on, with its length. Where memory is refused, the
 /// desk says so.
+#[tactic(auto, using(crate::proofs::Refusing::refuses_in))]
 pub fn copied<D: Desk>(alloc: Global, node: &D, position: u32) -> What
     requires { IsLogLength position }
     ensures what { (fate : Fate) × (result ≡ copied (D.seen node.now) fate position) }

@@ -7,6 +7,7 @@
 mod calls;
 mod connection;
 mod copies;
+mod differing;
 mod ends;
 mod events;
 mod frames;
@@ -26,6 +27,7 @@ mod streams;
 
 pub use answers::Desk;
 pub use connection::Connection;
+pub use differing::{Awaited, awaited_by, differs_by, first_difference, known_after};
 pub use ends::{End, Served};
 pub use own_ticks::tick;
 pub use peers::Peers;

@@ -34,6 +34,7 @@ fn refusal_of(fault: NodeFault) -> Refusal
 }
 
 /// The answer to what the desk said of the first call.
+#[tactic(auto, using(crate::proofs::Refusing::refuses))]
 pub fn answer_first<D: Desk>(good: What, answer: Answer, node: &D) -> What
     requires { IsAnswer good }
     ensures what { result ≡ answer_first good answer (D.seen node.now) }
@@ -63,6 +64,7 @@ fn state_of(told: Told) -> CommandState
 }
 
 /// What became of the command with this id.
+#[tactic(auto, using(crate::proofs::Refusing::refuses))]
 pub fn asked<D: Desk>(node: &D, id: u64) -> What
     requires { IsId id }
     ensures what { (fate : Fate) × (result ≡ told_what id fate (state (D.seen node.now) id)) }
@@ -91,6 +93,7 @@ fn style_of(style: Style) -> sheets::Style
 }
 
 /// The sheet of a round after the log's first entries.
+#[tactic(auto, using(crate::proofs::Refusing::refuses))]
 pub fn printed<D: Desk>(node: &D, event: Event, round: u8, position: u32, style: Style) -> What
     ensures what { (fate : Fate)
         × (result ≡ printed (D.seen node.now) fate event round position style) }
@@ -118,6 +121,12 @@ fn said_in(version: Version, what: What) -> What
         What::Told { id, state } => What::Told {
             id,
             state: state.in_version(version),
+        },
+        What::Refused { refusal } => What::Refused {
+            refusal: version.refusal(refusal),
+        },
+        What::Standing { standing } => What::Standing {
+            standing: standing.in_version(version),
         },
         other => other,
     }

@@ -1,9 +1,10 @@
 //! What a frame asks of a desk.
 
 ghost use Rattle.std.specs.Prelude.{◌≡◌};
-ghost use Rattle.wire.specs.Ranges.{IsFrame, IsBody};
+ghost use Rattle.wire.specs.Ranges.{IsFrame, IsBody, IsDifference};
 ghost use Rattle.wire.specs.declared.values.Version.{Version};
 ghost use Rattle.serving.specs.Asking.{AsksInRange, IsAskedIn, ending, ours, request, strange};
+ghost use Rattle.serving.specs.Differing.{withheld};
 ghost use Rattle.serving.specs.Permissions.{enters, permitted, reads, turned_away};
 
 use crate::permission::Permission;
@@ -11,7 +12,7 @@ use acceptor::entry::Entry;
 use acceptor::message::{Body, Message};
 use formats::Event;
 use store::home::Home;
-use wire::{Entries, Frame, SheetStyle as Style, Version, What};
+use wire::{Difference, Entries, Frame, SheetStyle as Style, Version, What};
 
 /// What a desk says was decided, from a position on.
 #[derive(Debug, Drop)]
@@ -44,7 +45,8 @@ pub enum Request {
     Entered {
         entry: Entry,
     },
-    /// A client asks what became of a command.
+    /// A client asks what became of a command: now, or once that is known, which whoever takes its
+    /// turn sees to.
     Asked {
         id: u64,
     },
@@ -55,8 +57,10 @@ pub enum Request {
         position: u32,
         style: Style,
     },
-    /// A client asks how the desk stands.
-    Inspected,
+    /// A client asks how the desk stands, and how another desk differs, if that was heard.
+    Inspected {
+        differs: Option<Difference>,
+    },
     /// A client asks for entries of the desk's log, from a position on.
     Copied {
         position: u32,
@@ -71,6 +75,8 @@ pub enum Request {
     Ignored,
     /// A client asks for what its connection may not.
     Denied,
+    /// A client enters a command at a desk that takes none, since another desk differs.
+    Withheld,
 }
 
 /// How a frame ends the connection of itself.
@@ -98,11 +104,12 @@ impl Request {
             Request::Stopped => Ending::AtStop,
             Request::Asked { .. }
             | Request::Printed { .. }
-            | Request::Inspected
+            | Request::Inspected { .. }
             | Request::Copied { .. }
             | Request::Strange
             | Request::Ignored
-            | Request::Denied => Ending::Never,
+            | Request::Denied
+            | Request::Withheld => Ending::Never,
         }
     }
 
@@ -114,11 +121,12 @@ impl Request {
         match self {
             Request::Asked { .. }
             | Request::Printed { .. }
-            | Request::Inspected
+            | Request::Inspected { .. }
             | Request::Copied { .. }
             | Request::Strange
             | Request::Ignored
-            | Request::Denied => true,
+            | Request::Denied
+            | Request::Withheld => true,
             Request::Heard { .. }
             | Request::Lagging { .. }
             | Request::Learned { .. }
@@ -136,11 +144,12 @@ impl Request {
             Request::Entered { .. } | Request::Ticked => true,
             Request::Asked { .. }
             | Request::Printed { .. }
-            | Request::Inspected
+            | Request::Inspected { .. }
             | Request::Copied { .. }
             | Request::Strange
             | Request::Ignored
             | Request::Denied
+            | Request::Withheld
             | Request::Heard { .. }
             | Request::Lagging { .. }
             | Request::Learned { .. }
@@ -162,13 +171,14 @@ impl Request {
             Request::Entered { .. }
             | Request::Asked { .. }
             | Request::Printed { .. }
-            | Request::Inspected
+            | Request::Inspected { .. }
             | Request::Copied { .. }
             | Request::Ticked
             | Request::Stopped
             | Request::Strange
             | Request::Ignored
-            | Request::Denied => Request::Denied,
+            | Request::Denied
+            | Request::Withheld => Request::Denied,
         }
     }
 
@@ -183,6 +193,27 @@ impl Request {
             self
         } else {
             self.turned_away()
+        }
+    }
+
+    /// What is served of the request where another desk of the hall differs so, or none does: a
+    /// command is not taken where one does, and whoever asks how the desk stands is told.
+    pub fn withheld(self, differs: Option<Difference>) -> Request
+        requires asks { AsksInRange self }
+        requires differs { IsDifference differs }
+        ensures withheld { result ≡ withheld differs self }
+        ensures in_range { AsksInRange result }
+        ensures asked { (version : Version) → IsAskedIn version self → IsAskedIn version result }
+    {
+        let Some(difference) = differs else {
+            return self;
+        };
+        match self {
+            Request::Entered { .. } => Request::Withheld,
+            Request::Inspected { .. } => Request::Inspected {
+                differs: Some(difference),
+            },
+            other => other,
         }
     }
 }
@@ -200,7 +231,8 @@ fn strange(what: What) -> Request
         | What::Tick
         | What::Stop
         | What::Status
-        | What::Log { .. } => Request::Strange,
+        | What::Log { .. }
+        | What::Await { .. } => Request::Strange,
         What::Prepare { .. }
         | What::Promise { .. }
         | What::Accept { .. }
@@ -236,7 +268,7 @@ fn ours(version: Version, from: u8, to: u8, what: What) -> Request
 {
     match what {
         What::Submit { entry } => Request::Entered { entry },
-        What::Ask { id } => Request::Asked { id },
+        What::Ask { id } | What::Await { id, .. } => Request::Asked { id },
         What::Sheet {
             event,
             round,
@@ -250,7 +282,7 @@ fn ours(version: Version, from: u8, to: u8, what: What) -> Request
         },
         What::Tick => Request::Ticked,
         What::Stop => Request::Stopped,
-        What::Status => Request::Inspected,
+        What::Status => Request::Inspected { differs: None },
         What::Log { position } => Request::Copied { position },
         What::Prepare { ballot, pos } => heard(from, to, Body::Prepare { ballot, pos }),
         What::Promise { ballot, pos, vote } => heard(from, to, Body::Promise { ballot, pos, vote }),

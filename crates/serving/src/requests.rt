@@ -109,6 +109,7 @@ impl Session {
     }
 
     /// Makes the calls and pushes of a request, and gives its answer, where it has one.
+    #[tactic(auto, using(crate::proofs::Refusing::refuses_in))]
     pub fn serve_request<D: Desk, P: Peers>(
         self,
         node: &mut D,
@@ -147,7 +148,7 @@ impl Session {
                 position,
                 style,
             } => Ok(Some(printed(node, event, round, position, style))),
-            Request::Inspected => Ok(Some(inspected(node))),
+            Request::Inspected { differs } => Ok(Some(inspected(node, differs))),
             Request::Copied { position } => Ok(Some(copied(self.alloc, node, position))),
             Request::Stopped => Ok(Some(What::Fine)),
             Request::Strange => Ok(Some(What::Refused {
@@ -156,6 +157,9 @@ impl Session {
             Request::Ignored => Ok(None),
             Request::Denied => Ok(Some(What::Refused {
                 refusal: Refusal::NotAllowed,
+            })),
+            Request::Withheld => Ok(Some(What::Refused {
+                refusal: Refusal::HallDiffers,
             })),
         }
     }

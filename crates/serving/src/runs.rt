@@ -109,7 +109,7 @@ fn said(alloc: Global, version: Version, entries: Entries) -> Result<Entries, No
     ensures { IfOk result (λ es. es ≡ entries_said version entries) }
 {
     match version {
-        Version::Two | Version::Three | Version::Four => Ok(entries),
+        Version::Two | Version::Three | Version::Four | Version::Five => Ok(entries),
         Version::One => {
             let first = match entries.as_slice() {
                 [] => return Ok(Entries::none(alloc)),

@@ -3,7 +3,7 @@
 ghost use Rattle.std.specs.Prelude.{◌≡◌, ◌≤◌};
 ghost use Rattle.std.specs.List.{AllByRecursion};
 ghost use Rattle.wire.specs.Numbers.{IsFromThree};
-ghost use Rattle.wire.specs.Ranges.{AreLengths};
+ghost use Rattle.wire.specs.Ranges.{AreLengths, IsDifference};
 ghost use Rattle.wire.specs.declared.values.Version.{Version};
 ghost use Rattle.wire.specs.declared.frame.What.TheVariants.{Standing as StandingOf};
 ghost use Rattle.serving.specs.Answering.{IsAnswerIn, lengths_of_hall, promised_of, role_of};
@@ -12,7 +12,7 @@ ghost use Rattle.serving.specs.Answering.{standing};
 use acceptor::ballot::Ballot;
 use answers::Desk;
 use proposer::role::Role;
-use wire::{DeskRole, Lengths, Standing, What};
+use wire::{DeskRole, Difference, Lengths, Standing, What};
 
 /// What a desk does for a ballot of its own, in a frame's words.
 fn role_of(role: &Role) -> DeskRole
@@ -51,9 +51,10 @@ fn lengths_of_hall(desks: u8, told: [u32; 5]) -> Lengths
     }
 }
 
-/// How the desk stands.
-pub fn inspected<D: Desk>(node: &D) -> What
-    ensures what { result ≡ StandingOf (standing (D.home_of node.now) (D.seen node.now)) }
+/// How the desk stands, where another one differs so, or none does.
+pub fn inspected<D: Desk>(node: &D, differs: Option<Difference>) -> What
+    requires { IsDifference differs }
+    ensures what { result ≡ StandingOf (standing (D.home_of node.now) (D.seen node.now) differs) }
     ensures in_range { (version : Version) → IsFromThree version → IsAnswerIn version result }
 {
     let promised = promised_of(node.promised());
@@ -64,6 +65,7 @@ pub fn inspected<D: Desk>(node: &D) -> What
             role: role_of(node.role()),
             promised,
             told: lengths_of_hall(node.home().desks, node.told()),
+            differs,
         },
     }
 }

@@ -34,7 +34,7 @@ fn serve_waiting<D: Desk, W: Write, P: Peers>(
         (line node.old peers.old writer.old) (line node.new peers.new writer.new) }
     ensures home { D.home_of node.new ≡ D.home_of node.old }
 {
-    while connection.advance(node, peers, may) {
+    while connection.advance(node, peers, may, None) {
         if connection.write_out(writer).is_err() {
             return Some(End::Write);
         }
@@ -118,6 +118,7 @@ fn spoken(wire: u8) -> Version
     ensures { result ≡ spoken wire }
 {
     match wire {
+        5 => Version::Five,
         4 => Version::Four,
         3 => Version::Three,
         2 => Version::Two,
@@ -128,8 +129,9 @@ fn spoken(wire: u8) -> Version
 /// Serves a connection of a desk, frame by frame, until one of its ends: the stream's end, a Stop,
 /// 64 frames, 19,200,256 reads, a fault of the stream, a read or a write that fails, a store that
 /// fails, or want of memory. Each frame's answer is written before the next frame is begun, in the
-/// version of that frame. What is said to other desks is pushed in the version `wire`, 1 to 4; all
-/// are read. No frame is served beyond what the connection `may` ask.
+/// version of that frame. What is said to other desks is pushed in the version `wire`, 1 to 5; all
+/// are read. No frame is served beyond what the connection `may` ask, and an Await is answered as
+/// an Ask, since no time is known here.
 pub fn serve_connection<D: Desk, R: Read + Drop, W: Write, P: Peers>(
     alloc: Global,
     reader: R,

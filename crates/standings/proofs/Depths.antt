@@ -12,15 +12,17 @@ use Rattle.json.specs.Tree.{depth, items_depth, json_tokens, members_depth}
 use Rattle.json.specs.Value.{items_of}
 use Rattle.json.specs.Written.{Written}
 use Rattle.json.proofs.Printed.Trees.{value-json_tokens}
-use Rattle.standings.specs.AsJson.{hall_json, lag_json, lag_of, natural, polled_json, promised_json}
-use Rattle.standings.specs.AsJson.{reply_members}
+use Rattle.standings.specs.AsJson.{difference_json, hall_json, lag_json, lag_of, natural}
+use Rattle.standings.specs.AsJson.{polled_json, promised_json, reply_members}
 use Rattle.standings.specs.Reports.{ReadsBack}
-use Rattle.standings.specs.Standings.{behind_by, every_desk}
+use Rattle.standings.specs.Standings.{behind_by, difference, every_desk}
 use Rattle.standings.specs.Written.{Adds}
 use Rattle.standings.specs.declared.polled.Polled.{Polled}
 use Rattle.standings.specs.declared.polled.Reply.{Reply}
 use Rattle.standings.specs.declared.polled.Reply.TheVariants as reply
 use Rattle.wire.specs.Spelling.{lengths_of}
+use Rattle.wire.specs.declared.standing.Difference.{Difference}
+use Rattle.wire.specs.declared.standing.Difference.TheVariants.{OtherEntry, Shorter}
 
 both : (n a b : ℕ) → a ≤ n → b ≤ n → max a b ≤ n
 both n a b h k = grind (arith, nat_tests)
@@ -77,16 +79,22 @@ lags_depth polled (desk ∷ desks) =
     one_or_none (behind_by polled desk == 0) (lag_json desk (behind_by polled desk))
     (flat_map (lag_of polled) desks) (omega arith) (lags_depth polled desks)
 
+difference_depth : (d : Option Difference) → depth (difference_json d) ≤ 1
+difference_depth None = omega arith
+difference_depth (Some (OtherEntry desk position)) = omega arith
+difference_depth (Some (Shorter desk len)) = omega arith
+
 hall_depth : (hall : ℕ) (polled : List Polled) → depth (hall_json hall polled) ≤ max_depth
 hall_depth hall polled =
     go (items_depth (items_of (map polled_json polled)))
     (items_depth (items_of (flat_map (lag_of polled) every_desk)))
-    (desks_depth polled) (lags_depth polled every_desk)
+    (depth (difference_json (difference polled)))
+    (desks_depth polled) (lags_depth polled every_desk) (difference_depth (difference polled))
   where
-    go : (d l : ℕ) → d ≤ 2 → l ≤ 1
+    go : (d l x : ℕ) → d ≤ 2 → l ≤ 1 → x ≤ 1
         → suc (max 0 (max (suc d)
-        (max 0 (max 0 (max 0 (max 0 (max (suc l) (max 0 0)))))))) ≤ 128
-    go d l h k = grind (arith, nat_tests)
+        (max 0 (max 0 (max 0 (max 0 (max (suc l) (max x (max 0 0))))))))) ≤ 128
+    go d l x h k j = grind (arith, nat_tests)
 
 reads_back : (hall : ℕ) (polled : List Polled)
     → tokens (print (json_tokens (hall_json hall polled))) ≡ json_tokens (hall_json hall polled)

@@ -1,13 +1,16 @@
 -- The tokens of what the answers come to.
 use Rattle.std.proofs.Common.{◌≡◌, ◌<◌, ◌≤◌, ap, ◌∙◌, ℕ, Bool, List, ◌∷◌, codes, flat_map}
-use Rattle.std.proofs.Common.{length, subst, sym}
+use Rattle.std.proofs.Common.{Option, length, subst, sym}
 use Rattle.json.specs.Json.{boolean, member, no_members}
 use Rattle.json.specs.Token.{Token, begin_array}
 use Rattle.json.specs.Tree.{items_tokens, json_tokens, members_tokens}
 use Rattle.json.specs.Value.{items_of}
-use Rattle.standings.specs.AsJson.{lag_of, lags_json, meaning_members, natural}
+use Rattle.standings.specs.AsJson.{difference_json, lag_of, lags_json, meaning_members}
+use Rattle.standings.specs.AsJson.{natural}
 use Rattle.standings.specs.AsText.{in_order as is_in_order}
-use Rattle.standings.specs.Standings.{answered, every_desk, is_majority, size_of, status_of}
+use Rattle.standings.specs.Standings.{answered, difference, every_desk, is_majority, size_of}
+use Rattle.standings.specs.Standings.{status_of}
+use Rattle.wire.specs.declared.standing.Difference.{Difference}
 use Rattle.standings.specs.declared.polled.Polled.{Polled}
 
 pub lags_tokens : (polled : List Polled) (desks : List ℕ) → desks ≡ every_desk
@@ -24,24 +27,31 @@ pub past_five : (desks : List ℕ) (i : ℕ) → desks ≡ every_desk → 5 ≤ 
 past_five desks i is h = subst (λ ds. length ds ≤ i) (sym is) h
 
 -- the tokens of the members with these values
-abbrev pub tokens_with : List Polled → (size n : ℕ) (majority in_order : Bool) (status : ℕ)
-    → List Token
-tokens_with polled size n majority in_order status =
+abbrev pub tokens_with : List Polled → (size n : ℕ) (majority in_order : Bool)
+    → Option Difference → (status : ℕ) → List Token
+tokens_with polled size n majority in_order differs status =
     members_tokens (member (codes "size") (natural size) (member (codes "answered") (natural n)
     (member (codes "majority") (boolean majority) (member (codes "in_order") (boolean in_order)
-    (member (codes "behind") (lags_json polled) (member (codes "status") (natural status)
-    no_members))))))
+    (member (codes "behind") (lags_json polled)
+    (member (codes "differs") (difference_json differs) (member (codes "status") (natural status)
+    no_members)))))))
 
-pub meaning_tokens : (polled : List Polled) (size n : ℕ) (majority in_order : Bool) (status : ℕ)
+pub meaning_tokens : (polled : List Polled) (size n : ℕ) (majority in_order : Bool)
+    (differs : Option Difference) (status : ℕ)
     → size ≡ size_of polled → n ≡ answered polled → majority ≡ is_majority polled
-    → in_order ≡ is_in_order polled → status ≡ status_of polled
-    → tokens_with polled size n majority in_order status ≡ members_tokens (meaning_members polled)
-meaning_tokens polled size n majority in_order status hs hn hm ho ht =
-    ap (λ k. tokens_with polled k n majority in_order status) hs
-    ∙ ap (λ k. tokens_with polled (size_of polled) k majority in_order status) hn
-    ∙ ap (λ b. tokens_with polled (size_of polled) (answered polled) b in_order status) hm
+    → in_order ≡ is_in_order polled → differs ≡ difference polled → status ≡ status_of polled
+    → tokens_with polled size n majority in_order differs status
+    ≡ members_tokens (meaning_members polled)
+meaning_tokens polled size n majority in_order differs status hs hn hm ho hd ht =
+    ap (λ k. tokens_with polled k n majority in_order differs status) hs
+    ∙ ap (λ k. tokens_with polled (size_of polled) k majority in_order differs status) hn
+    ∙ ap (λ b. tokens_with polled (size_of polled) (answered polled) b in_order differs status) hm
     ∙ ap
-    (λ b. tokens_with polled (size_of polled) (answered polled) (is_majority polled) b status) ho
+    (λ b. tokens_with polled (size_of polled) (answered polled) (is_majority polled) b differs
+    status) ho
+    ∙ ap
+    (λ d. tokens_with polled (size_of polled) (answered polled) (is_majority polled)
+    (is_in_order polled) d status) hd
     ∙ ap
     (λ k. tokens_with polled (size_of polled) (answered polled) (is_majority polled)
-    (is_in_order polled) k) ht
+    (is_in_order polled) (difference polled) k) ht

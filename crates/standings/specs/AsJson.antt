@@ -7,9 +7,11 @@ use Rattle.json.specs.Value.{items_of}
 use Rattle.acceptor.specs.declared.ballot.Ballot.{Ballot}
 use Rattle.client.specs.Printing.{refusal_name}
 use Rattle.wire.specs.Spelling.{lengths_of}
+use Rattle.wire.specs.declared.standing.Difference.{Difference}
+use Rattle.wire.specs.declared.standing.Difference.TheVariants.{OtherEntry, Shorter}
 use Rattle.standings.specs.AsText.{in_order, role_name}
 use Rattle.standings.specs.Standings.{answered, behind_by, every_desk, is_majority}
-use Rattle.standings.specs.Standings.{size_of, status_of}
+use Rattle.standings.specs.Standings.{difference, size_of, status_of}
 use Rattle.standings.specs.declared.polled.Polled.{Polled}
 use Rattle.standings.specs.declared.polled.Reply.{Reply}
 use Rattle.standings.specs.declared.polled.Reply.TheVariants as reply
@@ -74,6 +76,21 @@ lag_of polled desk =
 abbrev pub lags_json : List Polled → Json
 lags_json polled = array (items_of (flat_map (lag_of polled) every_desk))
 
+-- how a desk differs: where it has another command, or how many it has now
+abbrev pub other_json : (desk position : ℕ) → Json
+other_json desk position =
+    object (member (codes "desk") (natural desk)
+    (member (codes "position") (natural position) no_members))
+
+abbrev pub differs_json : Difference → Json
+differs_json (OtherEntry desk position) = other_json desk position
+differs_json (Shorter desk len) = lag_json desk len
+
+-- or null where none does
+abbrev pub difference_json : Option Difference → Json
+difference_json None = null
+difference_json (Some d) = differs_json d
+
 -- what they come to
 abbrev pub meaning_members : List Polled → Members
 meaning_members polled =
@@ -82,7 +99,8 @@ meaning_members polled =
     (member (codes "majority") (boolean (is_majority polled))
     (member (codes "in_order") (boolean (in_order polled))
     (member (codes "behind") (lags_json polled)
-    (member (codes "status") (natural (status_of polled)) no_members)))))
+    (member (codes "differs") (difference_json (difference polled))
+    (member (codes "status") (natural (status_of polled)) no_members))))))
 
 abbrev pub hall_json : (hall : ℕ) → List Polled → Json
 hall_json hall polled =

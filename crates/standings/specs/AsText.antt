@@ -1,11 +1,14 @@
 -- What is printed of the answers of a hall's desks.
 use Rattle.std.specs.Prelude.{ℕ, ◌==◌, Bool, true, false, not, List, [], ◌∷◌, ◌++◌}
-use Rattle.std.specs.Prelude.{codes, decimal, flat_map, if◌then◌else◌}
+use Rattle.std.specs.Prelude.{codes, decimal, flat_map, if◌then◌else◌, Option, None, Some}
 use Rattle.std.specs.List.{list_any}
 use Rattle.client.specs.Printing.{refusal_name}
 use Rattle.wire.specs.declared.values.DeskRole.{DeskRole}
 use Rattle.wire.specs.declared.values.DeskRole.TheVariants.{Idle, Gathering, Proposing, Leading}
+use Rattle.wire.specs.declared.standing.Difference.{Difference}
+use Rattle.wire.specs.declared.standing.Difference.TheVariants.{OtherEntry, Shorter}
 use Rattle.standings.specs.Standings.{answered, behind_by, every_desk, is_majority, missing, newest}
+use Rattle.standings.specs.Standings.{difference}
 use Rattle.standings.specs.Standings.{size_of, some_behind, standing_count, unasked}
 use Rattle.standings.specs.declared.polled.Polled.{Polled}
 use Rattle.standings.specs.declared.polled.Reply.{Reply}
@@ -139,8 +142,33 @@ wanted_text polled =
 abbrev pub waiting_text : List Polled → List ℕ
 waiting_text polled = count_text (answered polled) (size_of polled) ++ wanted_text polled
 
+-- a desk differs: how, and what to do
+abbrev pub other_text : (desk position : ℕ) → List ℕ
+other_text desk position =
+    decimal desk ++ codes " has another command at " ++ decimal position
+
+abbrev pub shorter_text : (desk len : ℕ) → List ℕ
+shorter_text desk len =
+    decimal desk ++ codes " has " ++ commands_text len ++ codes " and had more"
+
+abbrev pub differs_text : Difference → List ℕ
+differs_text (OtherEntry desk position) = other_text desk position
+differs_text (Shorter desk len) = shorter_text desk len
+
+abbrev pub difference_text : Difference → List ℕ
+difference_text d =
+    codes "desk " ++ differs_text d
+    ++ codes ": enter nothing more; see HALL, 'Two desks differ'"
+
+abbrev pub majority_text : List Polled → List ℕ
+majority_text polled = if is_majority polled then going_text polled else waiting_text polled
+
+abbrev pub state_by : Option Difference → List Polled → List ℕ
+state_by None polled = majority_text polled
+state_by (Some d) polled = difference_text d
+
 abbrev pub state_text : List Polled → List ℕ
-state_text polled = if is_majority polled then going_text polled else waiting_text polled
+state_text polled = state_by (difference polled) polled
 
 -- a line for each desk that was asked, and what they mean
 abbrev pub text_of : List Polled → List ℕ

@@ -1,7 +1,10 @@
 -- What the answers of a hall's desks come to.
 use Rattle.std.specs.Prelude.{ℕ, ◌+◌, ◌-◌, ◌*◌, ◌/◌, ◌==◌, Bool, false, not, List, [], ◌∷◌}
-use Rattle.std.specs.Prelude.{count_by, fold, if◌then◌else◌, length, map, max, nat_lt}
+use Rattle.std.specs.Prelude.{count_by, fold, if◌then◌else◌, length, map, max, nat_lt, ◌||◌}
+use Rattle.std.specs.Prelude.{Option, None, Some, is_some}
 use Rattle.std.specs.List.{list_any}
+use Rattle.wire.specs.declared.standing.Difference.{Difference}
+use Rattle.wire.specs.declared.standing.Difference.TheVariants.{OtherEntry}
 use Rattle.wire.specs.declared.standing.Lengths.{Lengths}
 use Rattle.wire.specs.declared.standing.Lengths.TheVariants.{OfThree, OfFive}
 use Rattle.wire.specs.Spelling.{lengths_of}
@@ -106,8 +109,27 @@ missing polled = size_of polled / 2 + 1 - answered polled
 abbrev pub unasked : List Polled → ℕ
 unasked polled = size_of polled - length polled
 
--- the exit status: 0 where a majority answered and no desk is known to lack commands, 1 where a
--- majority answered, else 3
+-- how a desk differs: by its own entries, or as it has heard of another one
+abbrev pub by_entries : ℕ → Option ℕ → Option Difference → Option Difference
+by_entries desk None heard = heard
+by_entries desk (Some position) heard = Some (OtherEntry desk position)
+
+abbrev pub difference_by : Reply → Option ℕ → Option Difference
+difference_by (Stands desk standing) other = by_entries desk other standing.differs
+difference_by _ other = None
+
+abbrev pub first_of : Option Difference → Option Difference → Option Difference
+first_of None later = later
+first_of (Some d) later = Some d
+
+-- how a desk differs from others, if one does: the first that is known of
+abbrev pub difference : List Polled → Option Difference
+difference [] = None
+difference (p ∷ ps) = first_of (difference_by p.reply p.other) (difference ps)
+
+-- the exit status: 0 where a majority answered, no desk is known to lack commands and none differs,
+-- 1 where a majority answered and none differs, else 3
 abbrev pub status_of : List Polled → ℕ
 status_of polled =
-    if is_majority polled then (if some_behind polled then 1 else 0) else 3
+    if is_some (difference polled) || not (is_majority polled) then 3
+    else (if some_behind polled then 1 else 0)

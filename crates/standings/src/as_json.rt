@@ -5,6 +5,7 @@ ghost use Rattle.json.specs.Json.{string};
 ghost use Rattle.json.specs.Tree.{json_tokens, members_tokens};
 ghost use Rattle.client.specs.Printing.{refusal_name};
 ghost use Rattle.wire.specs.Spelling.{lengths_of};
+ghost use Rattle.standings.specs.AsJson.{difference_json, differs_json, other_json};
 ghost use Rattle.standings.specs.AsJson.{fault_members, hall_json, lag_json, lag_of, lags_json};
 ghost use Rattle.standings.specs.AsJson.{list_of, meaning_members, natural, polled_json};
 ghost use Rattle.standings.specs.AsJson.{promised_json, reply_members};
@@ -14,13 +15,15 @@ ghost use Rattle.standings.specs.Written.{Adds};
 ghost use Rattle.standings.specs.declared.polled.Reply.TheVariants as reply;
 
 use crate::as_text::{in_order, role_name};
-use crate::meaning::{answered, behind_by, every_desk, is_majority, size_of, status_of};
+use crate::meaning::{
+    answered, behind_by, difference, every_desk, is_majority, size_of, status_of,
+};
 use crate::polled::{Polled, Reply};
 use acceptor::ballot::Ballot;
 use client::refusal_name;
 use json::Writer;
 use std::alloc::{AllocError, Global};
-use wire::{ClientRefusal, DeskRole, Lengths, Standing};
+use wire::{ClientRefusal, DeskRole, Difference, Lengths, Standing};
 
 fn write_natural(out: &mut Writer, number: u32) -> Result<(), AllocError>
     ensures { OnOk result (Adds out.old out.new (json_tokens (natural number))) }
@@ -202,6 +205,38 @@ fn write_lags(out: &mut Writer, polled: &[Polled<'_>]) -> Result<(), AllocError>
     out.end_array()
 }
 
+/// Writes which desk has another command, and where.
+fn write_other(out: &mut Writer, desk: u8, position: u32) -> Result<(), AllocError>
+    ensures { OnOk result (Adds out.old out.new (json_tokens (other_json desk position))) }
+{
+    out.begin_object()?;
+    out.key("desk")?;
+    write_byte(out, desk)?;
+    out.key("position")?;
+    write_natural(out, position)?;
+    out.end_object()
+}
+
+/// Writes how a desk differs.
+fn write_differs(out: &mut Writer, difference: Difference) -> Result<(), AllocError>
+    ensures { OnOk result (Adds out.old out.new (json_tokens (differs_json difference))) }
+{
+    match difference {
+        Difference::OtherEntry { desk, position } => write_other(out, desk, position),
+        Difference::Shorter { desk, length } => write_lag(out, desk, length),
+    }
+}
+
+/// Writes how a desk differs, or null.
+fn write_difference(out: &mut Writer, differs: Option<Difference>) -> Result<(), AllocError>
+    ensures { OnOk result (Adds out.old out.new (json_tokens (difference_json differs))) }
+{
+    match differs {
+        Some(difference) => write_differs(out, difference),
+        None => out.null(),
+    }
+}
+
 /// Writes what the answers come to, and the end of the object.
 fn write_meaning(out: &mut Writer, polled: &[Polled<'_>]) -> Result<(), AllocError>
     requires { length polled.now ≤ 5 }
@@ -217,6 +252,8 @@ fn write_meaning(out: &mut Writer, polled: &[Polled<'_>]) -> Result<(), AllocErr
     out.boolean(in_order(polled))?;
     out.key("behind")?;
     write_lags(out, polled)?;
+    out.key("differs")?;
+    write_difference(out, difference(polled))?;
     out.key("status")?;
     write_byte(out, status_of(polled))?;
     out.end_object()

@@ -8,18 +8,19 @@ ghost use Rattle.standings.specs.AsText.{lags_text, line_text};
 ghost use Rattle.standings.specs.AsText.{more_text, name_text, order_text, place_text, reply_text};
 ghost use Rattle.standings.specs.AsText.{text_of, role_name, some_elsewhere, some_stand_text};
 ghost use Rattle.standings.specs.AsText.{state_text, unasked_text, verb_text, waiting_text};
+ghost use Rattle.standings.specs.AsText.{difference_text, differs_text, other_text, shorter_text};
 ghost use Rattle.standings.specs.AsText.{wanted_text};
 ghost use Rattle.standings.specs.declared.polled.Reply.TheVariants as reply;
 
 use crate::meaning::{
-    answered, behind_by, every_desk, is_majority, missing, newest, size_of, some_behind,
-    standing_count, unasked,
+    answered, behind_by, difference, every_desk, is_majority, missing, newest, size_of,
+    some_behind, standing_count, unasked,
 };
 use crate::polled::{Polled, Reply};
 use client::refusal_name;
 use itoa::Buffer;
 use std::alloc::{AllocError, Global};
-use wire::{DeskRole, Standing};
+use wire::{DeskRole, Difference, Standing};
 
 /// Adds a number in decimal.
 fn push_number(out: &mut Vec<u8>, number: u32) -> Result<(), AllocError>
@@ -325,10 +326,51 @@ fn push_waiting(out: &mut Vec<u8>, polled: &[Polled<'_>]) -> Result<(), AllocErr
     push_wanted(out, polled)
 }
 
+/// Adds which desk has another command, and where.
+fn push_other(out: &mut Vec<u8>, desk: u8, position: u32) -> Result<(), AllocError>
+    ensures { OnOk result (out.new.items ≡ out.old.items ++ other_text desk position) }
+{
+    push_number(out, u32::from(desk))?;
+    out.extend_from_slice(b" has another command at ")?;
+    push_number(out, position)?;
+    Ok(())
+}
+
+/// Adds which desk has fewer commands than it had, and how many.
+fn push_shorter(out: &mut Vec<u8>, desk: u8, length: u32) -> Result<(), AllocError>
+    ensures { OnOk result (out.new.items ≡ out.old.items ++ shorter_text desk length) }
+{
+    push_number(out, u32::from(desk))?;
+    out.extend_from_slice(b" has ")?;
+    push_commands(out, length)?;
+    out.extend_from_slice(b" and had more")
+}
+
+fn push_differs(out: &mut Vec<u8>, difference: Difference) -> Result<(), AllocError>
+    ensures { OnOk result (out.new.items ≡ out.old.items ++ differs_text difference) }
+{
+    match difference {
+        Difference::OtherEntry { desk, position } => push_other(out, desk, position),
+        Difference::Shorter { desk, length } => push_shorter(out, desk, length),
+    }
+}
+
+/// Adds how a desk differs, and what to do.
+fn push_difference(out: &mut Vec<u8>, difference: Difference) -> Result<(), AllocError>
+    ensures { OnOk result (out.new.items ≡ out.old.items ++ difference_text difference) }
+{
+    out.extend_from_slice(b"desk ")?;
+    push_differs(out, difference)?;
+    out.extend_from_slice(b": enter nothing more; see HALL, 'Two desks differ'")
+}
+
 fn push_state(out: &mut Vec<u8>, polled: &[Polled<'_>]) -> Result<(), AllocError>
     requires { length polled.now ≤ 5 }
     ensures { OnOk result (out.new.items ≡ out.old.items ++ state_text polled.now) }
 {
+    if let Some(difference) = difference(polled) {
+        return push_difference(out, difference);
+    }
     if is_majority(polled) {
         push_going(out, polled)
     } else {

@@ -9,5 +9,5 @@ mod polled;
 
 pub use as_json::json_line;
 pub use forms::{Form, report};
-pub use meaning::status_of;
+pub use meaning::{difference, status_of};
 pub use polled::{Polled, Reply};

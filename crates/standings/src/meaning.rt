@@ -2,13 +2,14 @@
 
 ghost use Rattle.std.specs.Prelude.{◌≡◌, ◌≤◌, length, map};
 ghost use Rattle.standings.specs.Standings.{answered, answers, behind_by, desks_told, every_desk};
+ghost use Rattle.standings.specs.Standings.{difference, difference_by};
 ghost use Rattle.standings.specs.Standings.{greatest, is_behind, is_from, is_majority, length_as};
 ghost use Rattle.standings.specs.Standings.{length_at, missing, most_told, newest, newest_told};
 ghost use Rattle.standings.specs.Standings.{size_of, some_behind, standing_count, stands};
 ghost use Rattle.standings.specs.Standings.{stands_as, status_of, unasked};
 
 use crate::polled::{Polled, Reply};
-use wire::Lengths;
+use wire::{Difference, Lengths};
 
 /// The numbers that a desk can have.
 pub(crate) fn every_desk() -> [u8; 5]
@@ -199,13 +200,43 @@ pub(crate) fn unasked(polled: &[Polled<'_>]) -> u32
     size_of(polled).saturating_sub(polled.len() as u32)
 }
 
-/// The exit status of asking the desks: 0 where a majority answered and no desk is known to lack
-/// commands, 1 where a majority answered, and else 3. At most five were asked.
+/// How a desk differs by its reply: by its own entries, or as it has heard of another one.
+fn difference_by(reply: &Reply, other: Option<u32>) -> Option<Difference>
+    ensures { result ≡ difference_by reply.now other }
+{
+    let Reply::Stands { desk, standing } = reply else {
+        return None;
+    };
+    match other {
+        Some(position) => Some(Difference::OtherEntry {
+            desk: *desk,
+            position,
+        }),
+        None => standing.differs,
+    }
+}
+
+/// How a desk differs from others, if one does: the first that is known of.
+pub fn difference(polled: &[Polled<'_>]) -> Option<Difference>
+    ensures { result ≡ difference polled.now }
+{
+    let [one, rest @ ..] = polled else {
+        return None;
+    };
+    match difference_by(&one.reply, one.other) {
+        Some(difference) => Some(difference),
+        None => difference(rest),
+    }
+}
+
+/// The exit status of asking the desks: 0 where a majority answered, no desk is known to lack
+/// commands and none differs; 1 where a majority answered and none differs; and else 3. At most
+/// five were asked.
 pub fn status_of(polled: &[Polled<'_>]) -> u8
     requires { length polled.now ≤ 5 }
     ensures { result ≡ status_of polled.now }
 {
-    if !is_majority(polled) {
+    if difference(polled).is_some() || !is_majority(polled) {
         3
     } else if some_behind(polled) {
         1

@@ -36,4 +36,7 @@ pub struct Polled<'a> {
     pub address: &'a str,
     /// What came of it.
     pub reply: Reply,
+    /// The first of the last positions that all logs have, 400 at most, at which its log has
+    /// another entry than that of the first desk that said how it stands, 0 to 65,535.
+    pub other: Option<u32>,
 }

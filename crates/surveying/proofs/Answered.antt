@@ -1,8 +1,8 @@
 -- What a survey tells after calls: what the desk answered.
 use Rattle.std.proofs.Common.{◌≡◌, ℕ, List, [], ◌∷◌, Option, None, Some, Bool, true, false, refl}
-use Rattle.std.proofs.Common.{sym, subst, ap, ◌∙◌, Ok}
+use Rattle.std.proofs.Common.{sym, subst, ap, ◌∙◌, Ok, inl, inr, if◌then◌else◌}
 use Rattle.client.specs.Answers.{judged}
-use Rattle.client.specs.Standings.{status_request}
+use Rattle.client.specs.Standings.{status_request, status_request_in_five}
 use Rattle.wire.specs.declared.frame.Frame.{Frame}
 use Rattle.wire.specs.declared.frame.What.{What}
 use Rattle.wire.specs.declared.frame.What.TheVariants as what
@@ -17,13 +17,13 @@ use Rattle.desk_talks.specs.declared.talk.Heard.{Heard}
 use Rattle.desk_talks.specs.declared.talk.Heard.TheVariants as heard
 use Rattle.desk_talks.proofs.Saying.{IsAnsweredBy, SaysOver, answered_over, asks_over, hears_over}
 use Rattle.desk_talks.proofs.Saying.{opens_over, sent_over}
-use Rattle.surveying.specs.Histories.{IsAnswered, TellsWhatWasAnswered}
+use Rattle.surveying.specs.Histories.{AsksHow, IsAnswered, TellsWhatWasAnswered}
 use Rattle.surveying.specs.Surveys.{ActsBy, Asks, DialogueLeads, Follows, FollowsAnswer, Opens}
-use Rattle.surveying.specs.Surveys.{SurveyOf, lost, new_survey, with_line}
+use Rattle.surveying.specs.Surveys.{SurveyOf, given_up, lost, new_survey, question, with_line}
 use Rattle.surveying.specs.declared.survey.Told.{Told}
 
 abbrev IsQuestion : ℕ → ℕ → Frame → Type 0
-IsQuestion hall desk question = question ≡ status_request hall desk
+IsQuestion hall desk question = AsksHow hall desk question
 
 abbrev IsToldOf : ℕ → ℕ → Option Told → Type 0
 IsToldOf hall desk None = Unit {0}
@@ -47,19 +47,31 @@ after_lost hall desk old new of e =
     subst (IsOf hall desk) (sym e)
     (record { hall_is = of.hall_is; desk_is = of.desk_is; says = tt; told = of.told })
 
-question_is : (hall desk : ℕ) (s : SurveyOf) → IsOf hall desk s
-    → status_request s.hall s.desk ≡ status_request hall desk
+after_given_up : (hall desk : ℕ) (old new : SurveyOf) → IsOf hall desk old
+    → new ≡ given_up old → IsOf hall desk new
+after_given_up hall desk old new of e =
+    subst (IsOf hall desk) (sym e)
+    (record { hall_is = of.hall_is; desk_is = of.desk_is; says = tt; told = of.told })
+
+asks_how : (hall desk : ℕ) (earlier : Bool)
+    → AsksHow hall desk
+    (if earlier then status_request hall desk else status_request_in_five hall desk)
+asks_how hall desk true = inl refl
+asks_how hall desk false = inr refl
+
+question_is : (hall desk : ℕ) (s : SurveyOf) → IsOf hall desk s → AsksHow hall desk (question s)
 question_is hall desk s of =
-    ap (λ h. status_request h s.desk) of.hall_is ∙ ap (λ d. status_request hall d) of.desk_is
+    subst (λ h. AsksHow h desk (question s)) of.hall_is
+    (subst (λ d. AsksHow s.hall d (question s)) of.desk_is (asks_how s.hall s.desk s.earlier))
 
 after_ask : (hall desk : ℕ) (w : Wish) (now : ℕ) (old new : SurveyOf) → IsOf hall desk old
     → Asks w now old new → IsOf hall desk new
 after_ask hall desk wish.Write now old new of (line, asks, e) =
     subst (IsOf hall desk) (sym e)
     (over hall desk old line of
-    (asks_over (IsQuestion hall desk) now (status_request old.hall old.desk) old.line line
+    (asks_over (IsQuestion hall desk) now (question old) old.line line
     (question_is hall desk old of) asks))
-after_ask hall desk wish.Close now old new of e = after_lost hall desk old new of e
+after_ask hall desk wish.Close now old new of e = after_given_up hall desk old new of e
 after_ask hall desk wish.Rest now old new of none = absurd none
 after_ask hall desk (wish.Open d) now old new of none = absurd none
 after_ask hall desk wish.Stop now old new of none = absurd none
@@ -80,14 +92,14 @@ after_opened hall desk true old new of (line, opens, e) =
     subst (IsOf hall desk) (sym e)
     (over hall desk old line of
     (opens_over (IsQuestion hall desk) true old.line line opens))
-after_opened hall desk false old new of e = after_lost hall desk old new of e
+after_opened hall desk false old new of e = after_given_up hall desk old new of e
 
 -- an answer to a question of this desk
 is_answered : (hall desk : ℕ) (told : Told)
     → IsAnsweredBy (IsQuestion hall desk) (what.Standing told.standing)
     → IsAnswered hall desk told
-is_answered hall desk told (question, frame, is, judges) =
-    (frame, subst (λ q. judged q frame ≡ Ok (what.Standing told.standing)) is judges)
+is_answered hall desk told (asked, frame, is, judges) =
+    record { asked = asked; frame = frame; asks = is; answers = judges }
 
 after_answer : (hall desk : ℕ) (answer : What) (c : Came) (now : ℕ) (old new : SurveyOf)
     → IsOf hall desk old → IsAnsweredBy (IsQuestion hall desk) answer

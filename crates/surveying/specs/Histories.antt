@@ -1,17 +1,24 @@
 -- What a survey tells after calls of any kind, in any order.
-use Rattle.std.specs.Prelude.{ℕ, ◌≡◌, List, Some, Ok}
+use Rattle.std.specs.Prelude.{ℕ, ◌≡◌, ◌⊎◌, List, Some, Ok}
 use Rattle.client.specs.Answers.{judged}
-use Rattle.client.specs.Standings.{status_request}
+use Rattle.client.specs.Standings.{status_request, status_request_in_five}
 use Rattle.wire.specs.declared.frame.Frame.{Frame}
 use Rattle.wire.specs.declared.frame.What.TheVariants as what
 use Rattle.desk_talks.specs.Dialogues.{Call, CallsLead}
 use Rattle.surveying.specs.Surveys.{DialogueLeads, SurveyOf, new_survey}
 use Rattle.surveying.specs.declared.survey.Told.{Told}
 
+-- the desk is asked how it stands, in version 3 or in version 5
+abbrev pub AsksHow : (hall desk : ℕ) → Frame → Type 0
+AsksHow hall desk asked =
+    (asked ≡ status_request hall desk) ⊎ (asked ≡ status_request_in_five hall desk)
+
 -- the desk answered so, when it was asked how it stands
-abbrev pub IsAnswered : (hall desk : ℕ) → Told → Type 0
-IsAnswered hall desk told =
-    (frame : Frame) × (judged (status_request hall desk) frame ≡ Ok (what.Standing told.standing))
+pub record IsAnswered (hall desk : ℕ) (told : Told) : Type 0 where
+  pub asked : Frame
+  pub frame : Frame
+  pub asks : AsksHow hall desk asked
+  pub answers : judged asked frame ≡ Ok (what.Standing told.standing)
 
 -- what is told after any calls was answered
 abbrev pub TellsWhatWasAnswered : Type 0

@@ -1,6 +1,8 @@
 -- A survey of one desk.
-use Rattle.std.specs.Prelude.{ℕ, ◌≡◌, List, Option, None, Some, Bool, true, false}
-use Rattle.client.specs.Standings.{status_request}
+use Rattle.std.specs.Prelude.{ℕ, ◌≡◌, List, Option, None, Some, Bool, true, false, not, ◌&&◌}
+use Rattle.std.specs.Prelude.{if◌then◌else◌}
+use Rattle.client.specs.Standings.{status_request, status_request_in_five}
+use Rattle.wire.specs.declared.frame.Frame.{Frame}
 use Rattle.wire.specs.declared.frame.What.{What}
 use Rattle.wire.specs.declared.frame.What.TheVariants as what
 use Rattle.desk_talks.specs.Dialogues.{Act, Call, Hear, Lost, Opened, Sent}
@@ -12,48 +14,85 @@ use Rattle.desk_talks.specs.declared.dialogue.Wish.{Wish}
 use Rattle.desk_talks.specs.declared.dialogue.Wish.TheVariants as wish
 use Rattle.desk_talks.specs.declared.line.Due.{Due}
 use Rattle.desk_talks.specs.declared.line.Due.TheVariants as due
+use Rattle.desk_talks.specs.declared.line.Stage.{Stage}
+use Rattle.desk_talks.specs.declared.line.Stage.TheVariants as stage
 use Rattle.desk_talks.specs.declared.talk.Heard.{Heard}
 use Rattle.desk_talks.specs.declared.talk.Heard.TheVariants as heard
 use Rattle.surveying.specs.declared.survey.Contact.{Contact}
 use Rattle.surveying.specs.declared.survey.Contact.TheVariants as contact
 use Rattle.surveying.specs.declared.survey.Told.{Told}
 
--- the number of the hall and of the desk, the connection, what the desk said last, and whether it
--- answers
+-- the number of the hall and of the desk, the connection, what the desk said last, whether it
+-- answers, and whether it is asked as a desk of an earlier program next
 pub record SurveyOf : Type 0 where
   pub hall : ℕ
   pub desk : ℕ
   pub line : LineOf
   pub told : Option Told
   pub contact : Contact
+  pub earlier : Bool
 
-abbrev pub survey : ℕ → ℕ → LineOf → Option Told → Contact → SurveyOf
-survey hall desk line told contact =
-    record { hall = hall; desk = desk; line = line; told = told; contact = contact }
+abbrev pub survey : ℕ → ℕ → LineOf → Option Told → Contact → Bool → SurveyOf
+survey hall desk line told contact earlier = record {
+  hall = hall;
+  desk = desk;
+  line = line;
+  told = told;
+  contact = contact;
+  earlier = earlier;
+}
 
 -- the desk is asked once a second, and was not asked yet
 abbrev pub new_survey : ℕ → ℕ → SurveyOf
-new_survey hall desk = survey hall desk (new_line 1000) None contact.NotAsked
+new_survey hall desk = survey hall desk (new_line 1000) None contact.NotAsked false
 
 -- what the desk said last
 abbrev pub held : SurveyOf → Option Told
 held s = s.told
 
 abbrev pub with_line : SurveyOf → LineOf → SurveyOf
-with_line s line = survey s.hall s.desk line s.told s.contact
+with_line s line = survey s.hall s.desk line s.told s.contact s.earlier
+
+abbrev pub is_answering : Contact → Bool
+is_answering contact.Answers = true
+is_answering _ = false
+
+abbrev pub is_asked : Stage → Bool
+is_asked (stage.Asked since) = true
+is_asked _ = false
+
+-- A desk of an earlier program ends a connection over which it is asked in version 5: so, where one
+-- is lost over which it was asked so and no answer came, it is asked in version 3 over the next one.
+-- One that answers is asked on in the same version, and any other in version 5 again.
+abbrev pub is_earlier : SurveyOf → Bool
+is_earlier s =
+    if is_answering s.contact then s.earlier else (not s.earlier && is_asked s.line.stage)
 
 -- the connection is lost
 abbrev pub lost : SurveyOf → SurveyOf
-lost s = survey s.hall s.desk (closed s.line) s.told contact.Silent
+lost s = survey s.hall s.desk (closed s.line) s.told contact.Silent (is_earlier s)
+
+-- memory was refused for it
+abbrev pub given_up : SurveyOf → SurveyOf
+given_up s = survey s.hall s.desk (closed s.line) s.told contact.Silent s.earlier
+
+-- how the desk is asked
+abbrev pub question : SurveyOf → Frame
+question s =
+    if s.earlier then status_request s.hall s.desk else status_request_in_five s.hall s.desk
+
+-- it answers, and was asked in version 5
+abbrev pub speaks_five : SurveyOf → Bool
+speaks_five s = is_answering s.contact && not s.earlier
 
 -- ---- what is done
 
 -- The desk is asked how it stands. Where there is no connection, or memory is refused, it is lost.
 abbrev pub Asks : Wish → ℕ → SurveyOf → SurveyOf → Type 0
 Asks wish.Write now old new =
-    (after : LineOf) × AsksOver true now (status_request old.hall old.desk) old.line after
+    (after : LineOf) × AsksOver true now (question old) old.line after
     × (new ≡ with_line old after)
-Asks wish.Close now old new = new ≡ lost old
+Asks wish.Close now old new = new ≡ given_up old
 Asks wish.Rest now old new = ⊥
 Asks (wish.Open desk) now old new = ⊥
 Asks wish.Stop now old new = ⊥
@@ -76,7 +115,7 @@ Acts w now old new = ActsBy (due_of old.line now) w now old new
 abbrev pub Opens : Bool → SurveyOf → SurveyOf → Type 0
 Opens true old new =
     (after : LineOf) × OpensLine true old.line after × (new ≡ with_line old after)
-Opens false old new = new ≡ lost old
+Opens false old new = new ≡ given_up old
 
 abbrev pub sent_by : SurveyOf → ℕ → SurveyOf
 sent_by s count = with_line s (line_sent_by s.line count)
@@ -89,7 +128,7 @@ abbrev pub FollowsAnswer : What → Came → ℕ → SurveyOf → SurveyOf → T
 FollowsAnswer (what.Standing standing) c now old new =
     (c ≡ came.Answer true)
     × (new ≡ survey old.hall old.desk old.line (Some (record { standing = standing; at = now }))
-    contact.Answers)
+    contact.Answers old.earlier)
 FollowsAnswer _ c now old new = Fails c old new
 
 -- what follows of what the desk's bytes came to
@@ -98,7 +137,8 @@ Follows heard.Waits c now old new = (c ≡ came.Nothing) × (new ≡ old)
 Follows (heard.Answer answer) c now old new = FollowsAnswer answer c now old new
 Follows (heard.Refused refusal) c now old new =
     (c ≡ came.Answer false)
-    × (new ≡ survey old.hall old.desk old.line old.told (contact.Refuses refusal))
+    × (new ≡ survey old.hall old.desk old.line old.told (contact.Refuses refusal)
+    old.earlier)
 Follows heard.NoAnswer c now old new = Fails c old new
 
 -- what the bytes come to over the connection, and what follows of it

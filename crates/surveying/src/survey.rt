@@ -3,14 +3,14 @@
 ghost use Rattle.std.specs.Prelude.{◌≡◌, ◌≤◌};
 ghost use Rattle.desk_talks.specs.Lines.{unsent_by, wait_of};
 ghost use Rattle.surveying.specs.Surveys.{Acts, Asks, Follows, HearsDesk, Opens, lost};
-ghost use Rattle.surveying.specs.Surveys.{new_survey, sent_by};
-ghost use Rattle.wire.specs.Ranges.{IsDesk};
+ghost use Rattle.surveying.specs.Surveys.{is_earlier, new_survey, question, sent_by, speaks_five};
+ghost use Rattle.wire.specs.Ranges.{IsDesk, IsFrame};
 
-use client::status_request;
-use desk_talks::{Came, Dialogue, Due, Heard, Line, Wish};
+use client::{status_request, status_request_in_five};
+use desk_talks::{Came, Dialogue, Due, Heard, Line, Stage, Wish};
 use std::alloc::Global;
 use std::marker::Model;
-use wire::{ClientRefusal, Standing, What};
+use wire::{ClientRefusal, Frame, Standing, What};
 
 /// How often the desk is asked, in milliseconds.
 const PACE: u64 = 1000;
@@ -42,7 +42,7 @@ pub struct Told {
 /// again. Its caller does what the survey wants over one connection (`desk_talks::Dialogue`).
 ///
 /// A contract sees the number of the hall and of the desk, the connection, what the desk said last,
-/// and whether it answers.
+/// whether it answers, and whether it is asked as one of an earlier program.
 #[derive(Drop)]
 pub struct Survey {
     hall: u32,
@@ -50,6 +50,9 @@ pub struct Survey {
     line: Line,
     told: Option<Told>,
     contact: Contact,
+    /// Whether it is asked in version 3 of the wire, since the connection over which it was asked
+    /// in version 5 was lost with no answer: it may be of an earlier program.
+    earlier: bool,
 }
 
 impl Model for Survey {
@@ -58,7 +61,7 @@ impl Model for Survey {
 
     ghost Value = { SurveyOf };
 
-    ghost view = { λ s. survey s.hall s.desk s.line s.told s.contact };
+    ghost view = { λ s. survey s.hall s.desk s.line s.told s.contact s.earlier };
 
     ghost invariant = { λ s. IsDesk s.desk };
 }
@@ -75,6 +78,7 @@ impl Survey {
             line: Line::new(alloc, PACE),
             told: None,
             contact: Contact::NotAsked,
+            earlier: false,
         }
     }
 
@@ -98,6 +102,13 @@ impl Survey {
         ensures { result ≡ self.now.contact }
     {
         self.contact
+    }
+
+    /// Whether it answers now in version 5 of the wire.
+    pub fn speaks_five(&self) -> bool
+        ensures { result ≡ speaks_five self.now }
+    {
+        matches!(self.contact, Contact::Answers) && !self.earlier
     }
 
     /// In how many milliseconds something is to be done, if nothing comes: 0 where something is to
@@ -131,11 +142,24 @@ impl Survey {
         }
     }
 
+    /// How the desk is asked how it stands.
+    fn question(&self) -> Frame
+        ensures question { result ≡ question self.now }
+        ensures spelled { IsFrame result }
+    {
+        if self.earlier {
+            status_request(self.hall, self.desk)
+        } else {
+            status_request_in_five(self.hall, self.desk)
+        }
+    }
+
     /// Asks the desk how it stands.
     fn ask(&mut self, now: u64) -> Wish
         ensures { Asks result now self.old self.new }
     {
-        if self.line.ask(now, status_request(self.hall, self.desk)) {
+        let question = self.question();
+        if self.line.ask(now, question) {
             return Wish::Write;
         }
         self.contact = Contact::Silent;
@@ -154,10 +178,23 @@ impl Survey {
         opened
     }
 
+    /// Whether the desk is to be asked in version 3 over the next connection, where this one is
+    /// lost: a desk of an earlier program ends one over which it is asked in version 5. One that
+    /// answers is asked on in the same version.
+    fn is_earlier(&self) -> bool
+        ensures { result ≡ is_earlier self.now }
+    {
+        if matches!(self.contact, Contact::Answers) {
+            return self.earlier;
+        }
+        !self.earlier && matches!(self.line.stage(), Stage::Asked { .. })
+    }
+
     /// Says that the connection is lost: it couldn't be opened, it failed, or the desk ended it.
     pub fn lost(&mut self)
         ensures { self.new ≡ lost self.old }
     {
+        self.earlier = self.is_earlier();
         self.line.close();
         self.contact = Contact::Silent;
     }

@@ -59,7 +59,7 @@ recent_seen log held q list recents shown same_log same_list same are =
 
 pub around_planned : (s : ServiceOf) (set : List ℕ) (request : Request (List ℕ)) (around : Around)
     (title : List ℕ) (q : ItemsOf) (r : Result Plan AllocError)
-    → IfOk r (PlansOwn around title q request) → IsAround s set around → title ≡ s.title
+    → IfOk r (PlansOwn around title q request) → IsAround s set request around → title ≡ s.title
     → q ≡ s.outbox.list → IfOk r (PlansAround s set request)
 around_planned s set request around title q (Ok plan) plans is named same = record {
   around = around;

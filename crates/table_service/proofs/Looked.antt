@@ -1,11 +1,13 @@
 -- What is planned for several commands, and for lines and files that are looked at.
 use Rattle.std.proofs.Common.{◌≡◌, ◌∙◌, ◌||◌, ℕ, List, Vec, Global, Bool, true, false, Result, Ok}
-use Rattle.std.proofs.Common.{Err, Option, None, ap, bytes_eq, codes, inl, inr, refl, subst, sym}
+use Rattle.std.proofs.Common.{Err, Option, None, ap, bytes_eq, codes, inl, inr, map, refl, subst}
+use Rattle.std.proofs.Common.{sym}
 use Rattle.std.specs.Prelude.{IfOk}
 use Rattle.std.specs.declared.alloc.AllocError.{AllocError}
 use Rattle.acceptor.specs.declared.entry.Entry.{Entry}
 use Rattle.card_forms.specs.declared.pairs.Pair.{Pair}
 use Rattle.card_forms.specs.Entries.{command_entries}
+use Rattle.card_forms.specs.Remarks.{noted}
 use Rattle.card_forms.specs.Faults.{IsWrong as AsksNone, Said, said_words}
 use Rattle.card_forms.specs.Pairs.{value_of}
 use Rattle.command_lists.specs.declared.file.FileLines.{FileLines}
@@ -27,7 +29,7 @@ use Rattle.table_service.specs.Imports.{PlansCarried, PlansFile, PlansParts, con
 use Rattle.table_service.specs.Imports.{options_of}
 use Rattle.table_service.specs.Lists.{LooksAt, PlansAsked, PlansLines, answered, unfit_words}
 use Rattle.table_service.specs.Lists.{is_known, would_be_done}
-use Rattle.table_service.specs.Plans.{IsWrong, RefusesWith, page_after}
+use Rattle.table_service.specs.Plans.{IsWrong, RefusesWith, page_after, remark_in}
 use Rattle.table_service.specs.Replying.{ShowsPage}
 use Rattle.table_service.specs.Taking.{PlansEntries}
 
@@ -52,6 +54,15 @@ is_wrong around pairs it none back words same says (Ok plan) wrong = (
 )
 is_wrong around pairs it none back words same says (Err error) wrong = tt
 
+-- entries are taken at a place, by what both are
+pub taken_at : (q : ItemsOf) (around : Around) (at place : List ℕ) → at ≡ place
+    → (given entries : List Entry) → given ≡ entries → (r : Result Plan AllocError)
+    → IfOk r (PlansEntries q around at given) → IfOk r (PlansEntries q around place entries)
+taken_at q around at place same given entries are (Ok plan) plans =
+    subst (λ (es : List Entry). PlansEntries q around place es plan) are
+    (subst (λ (back : List ℕ). PlansEntries q around back given plan) same plans)
+taken_at q around at place same given entries are (Err error) plans = tt
+
 module _ (around : Around) (q : ItemsOf) (pairs : List Pair) (id : ℕ) where
   -- the first of them is known, or all would be accepted
   abbrev goes_on : List (List ℕ) → Bool
@@ -59,7 +70,8 @@ module _ (around : Around) (q : ItemsOf) (pairs : List Pair) (id : ℕ) where
 
   -- commands that are entered
   pub goes : (texts : List (List ℕ)) → goes_on texts ≡ true → (place : List ℕ)
-      → place ≡ page_after pairs → (entries : List Entry) → entries ≡ command_entries id texts
+      → place ≡ page_after pairs → (entries : List Entry)
+      → entries ≡ command_entries id (map (noted (remark_in around)) texts)
       → (r : Result Plan AllocError) → IfOk r (PlansEntries q around place entries)
       → IfOk r (PlansAsked around q pairs id texts (goes_on texts))
   goes texts is place same entries are (Ok plan) plans =

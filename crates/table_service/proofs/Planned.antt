@@ -1,7 +1,7 @@
 -- What is planned for requests, by cases: entries are taken for forms alone that ask for them.
 use Rattle.std.proofs.Common.{◌≡◌, ◌∙◌, inl, inr, Bool, true, false, ℕ, List, [], ◌∷◌, ap, bytes_eq}
 use Rattle.std.proofs.Common.{codes, subst, sym, Option, None, Some, Result, Ok, Err, refl}
-use Rattle.std.proofs.Common.{get_or, is_some, length, slice_get, ◌||◌, if◌then◌else◌}
+use Rattle.std.proofs.Common.{get_or, is_some, length, map, slice_get, ◌||◌, if◌then◌else◌}
 use Rattle.std.proofs.lemmas.Slice.Eq.{bytes_eq-Decides}
 use Rattle.acceptor.specs.declared.entry.Entry.{Entry}
 use Rattle.attempts.specs.declared.Value.{Value}
@@ -11,9 +11,9 @@ use Rattle.card_forms.specs.declared.faults.CardFormFault.{CardFormFault}
 use Rattle.card_forms.specs.declared.pairs.Pair.{Pair}
 use Rattle.card_forms.specs.Cards.{card_form_of, form_id_of}
 use Rattle.card_forms.specs.Entries.{card_entry, card_in, command_entries, entry_with}
-use Rattle.card_forms.specs.Entries.{is_same_but_remark}
 use Rattle.card_forms.specs.Pairs.{value_of}
 use Rattle.card_forms.specs.Readings.{IsReadAs}
+use Rattle.card_forms.specs.Remarks.{is_same_but_remark, noted}
 use Rattle.entry_views.specs.declared.notes.Note.{Note}
 use Rattle.form_data.specs.Bodies.{parts_of}
 use Rattle.wcif.specs.Lines as printed
@@ -25,7 +25,7 @@ use Rattle.table_views.specs.declared.around.Around.{Around}
 use Rattle.table_views.specs.Editions.{is_latest}
 use Rattle.table_views.specs.Logs.{accepted_in}
 use Rattle.texts.specs.declared.command.CardEntry.{CardEntry}
-use Rattle.texts.specs.Fields.{cut_remark, enters_later, was_of}
+use Rattle.texts.specs.Fields.{enters_later, was_of}
 use Rattle.table_service.specs.declared.plan.Effect.{Effect}
 use Rattle.table_service.specs.declared.plan.Effect.TheVariants as effect
 use Rattle.table_service.specs.declared.plan.Plan.{Plan}
@@ -50,9 +50,9 @@ use Rattle.table_service.specs.Lists.{LooksAt, PlansAsked, PlansLines, PlansList
 use Rattle.table_service.specs.Lists.{would_be_done}
 use Rattle.table_service.specs.Plans.{HoldsCard, PlansCardAs, PlansCardEntry, PlansCardIf}
 use Rattle.table_service.specs.Plans.{PlansCommand, PlansFit, PlansForm, PlansSpelled, ShowsView}
-use Rattle.table_service.specs.Plans.{are_confirmed, card_place, cards_place, is_entered}
-use Rattle.table_service.specs.Plans.{page_after}
-use Rattle.table_service.specs.Remarks.{remark_of}
+use Rattle.table_service.specs.Plans.{are_confirmed, cards_place, is_entered, page_after}
+use Rattle.table_service.specs.Plans.{remark_in}
+use Rattle.table_service.specs.Remarks.{remark_of, remark_under}
 use Rattle.table_service.specs.Replying.{GoesTo, ShowsAs, refuses, shows}
 use Rattle.table_service.specs.Requests.{is_post, is_read, path_of, query_of, sent_pairs}
 use Rattle.table_service.specs.Sent.{PlansAt, PlansAtAnswers, PlansAtLast, PlansAtLines, PlansBy}
@@ -61,30 +61,23 @@ use Rattle.table_service.specs.Services.{IsAround, Plans, PlansIf, PlansWith, Se
 use Rattle.table_service.specs.Undoing.{PlansUndoCard, PlansUndoEntry, PlansUndoId, PlansUndoIf}
 use Rattle.table_service.specs.Undoing.{PlansUndoItem, may_undo, undone_entry}
 use Rattle.table_service.specs.Taking.{AreTaken, PlansOther, PlansRoom, both_or, has_room, is_sent}
-use Rattle.table_service.specs.Taking.{other_by, other_in, sent_as}
+use Rattle.table_service.specs.Taking.{last_id, other_by, other_in, place_after, place_with, sent_as}
 
 -- the browser is sent on
 abbrev pub GoesOn : Reply → Type 0
 GoesOn answer = (location : List ℕ) × GoesTo location answer
 
-same_but_remark : (one other : List ℕ) → one ≡ other → is_same_but_remark one other ≡ true
-same_but_remark one other same =
-    (bytes_eq-Decides (cut_remark one).0 (cut_remark other).0).1
-    (ap (λ (bytes : List ℕ). (cut_remark bytes).0) same)
-
 -- an id is not known that is known neither with the text of an entry nor with another one
 unknown_by : (item : Option Item) (entry : Entry) → sent_as item entry ≡ false
     → both_or (other_by item entry) entry.text None ≡ None → is_some item ≡ false
 unknown_by None entry unsent others = refl
-unknown_by (Some item) entry unsent others = by (bytes_eq item.entry.text entry.text) refl others
+unknown_by (Some item) entry unsent others =
+    by (is_same_but_remark item.entry.text entry.text) unsent others
   where
-    by : (same : Bool) → bytes_eq item.entry.text entry.text ≡ same
+    by : (same : Bool) → same ≡ false
         → both_or (if same then None else Some item.entry.text) entry.text None ≡ None
         → true ≡ false
-    by true same others =
-        sym (same_but_remark item.entry.text entry.text
-        ((bytes_eq-Decides item.entry.text entry.text).0 same))
-        ∙ unsent
+    by true same others = same
     by false same others = absurd (cc)
 
 is_unknown : (q : ItemsOf) (entry : Entry) → is_sent q entry ≡ false
@@ -166,6 +159,11 @@ module _ (More : Type 0) (log : List Entry) (q : ItemsOf) (path : List ℕ) (pai
     by_log : (P : List Entry → Type 0) → P around.mirror.now → P log
     by_log P holds = subst P same holds
 
+    remark_is : remark_in around ≡ remark_under log remark
+    remark_is =
+        ap (λ (es : List Entry). remark_under es around.remark.now) same
+        ∙ ap (remark_under log) says
+
     taken_as : (entries : List Entry) → AsksFor log q path pairs remark entries → (what : Effect)
         → AreTaken entries what → GoesOn plan.reply
         → FoundBy More log q path pairs remark plan.reply what
@@ -180,7 +178,9 @@ module _ (More : Type 0) (log : List Entry) (q : ItemsOf) (path : List ℕ) (pai
         (asks : AsksFor log q path pairs remark entries) where
       room : (has : Bool) → PlansRoom has place entries plan → Found
       room false plans = refused problem.Busy plans
-      room true plans = taken_as entries asks plan.effect plans.takes (place, plans.goes)
+      room true plans =
+          taken_as entries asks plan.effect plans.takes
+          (place_after place (last_id entries), plans.goes)
 
       other : (known : Option (List ℕ × List ℕ))
           → PlansOther known q around place entries plan → Found
@@ -229,10 +229,10 @@ module _ (More : Type 0) (log : List Entry) (q : ItemsOf) (path : List ℕ) (pai
         card_taken : is_sent q entry ≡ false
             → is_entered q entry.id (value_of (codes "sure") pairs) (notes_of it) ≡ true
             → (known : Option (List ℕ × List ℕ)) → other_in q (entry ∷ []) ≡ known
-            → PlansOther known q around (card_place form) (entry ∷ []) plan → Found
+            → PlansOther known q around (cards_place form.round) (entry ∷ []) plan → Found
         card_taken unsent entered (Some both) others plans = ids plans.1
         card_taken unsent entered None others plans =
-            room (card_place form) (entry ∷ [])
+            room (cards_place form.round) (entry ∷ [])
             (inl (
               at,
               card_asked (subst
@@ -292,7 +292,7 @@ module _ (More : Type 0) (log : List Entry) (q : ItemsOf) (path : List ℕ) (pai
     command at (inl lacks) = refused problem.BadForm lacks.1
     command at (inr (inl wrong)) = ids wrong.2.1
     command at (inr (inr asks)) =
-        taken (page_after pairs) (entry_with asks.id asks.text ∷ [])
+        taken (page_after pairs) (entry_with asks.id (noted (remark_in around) asks.text) ∷ [])
         (inr (inl (
           at,
           record {
@@ -301,7 +301,7 @@ module _ (More : Type 0) (log : List Entry) (q : ItemsOf) (path : List ℕ) (pai
             text = asks.text;
             fit = asks.fit;
             asks = asks.asks;
-            are = refl;
+            are = ap (λ (r : List ℕ). entry_with asks.id (noted r asks.text) ∷ []) remark_is;
           },
         )))
         asks.plans
@@ -313,7 +313,7 @@ module _ (More : Type 0) (log : List Entry) (q : ItemsOf) (path : List ℕ) (pai
           → (is_known q id || would_be_done around.mirror.now id texts) ≡ done
           → PlansAsked around q pairs id texts done plan → Found
       texts_asked texts are true done plans =
-          taken (page_after pairs) (command_entries id texts)
+          taken (page_after pairs) (command_entries id (map (noted (remark_in around)) texts))
           (inr (inr (inl (
             at,
             record {
@@ -324,7 +324,7 @@ module _ (More : Type 0) (log : List Entry) (q : ItemsOf) (path : List ℕ) (pai
               done = by_log
                   (λ (es : List Entry). (is_known q id || would_be_done es id texts) ≡ true)
                   done;
-              are = refl;
+              are = ap (λ (r : List ℕ). command_entries id (map (noted r) texts)) remark_is;
             },
           ))))
           plans
@@ -385,7 +385,7 @@ module _ (More : Type 0) (log : List Entry) (q : ItemsOf) (path : List ℕ) (pai
               is = entry_of enters id card was entry is;
               alone = refl;
             }
-            (cards_place card.id, plans.0) plans.1
+            (place_with (cards_place card.id) entry.id, plans.0) plans.1
 
         again_card : (was : Option (List Value)) → was_of (value_of (codes "was") pairs) ≡ was
             → (card : Option CardEntry) → card_in item.entry.text ≡ card
@@ -470,7 +470,7 @@ module _ (More : Type 0) (log : List Entry) (q : ItemsOf) (path : List ℕ) (pai
                   says is);
               alone = refl;
             }
-            (cards_place card.id, plans.0) plans.1
+            (place_with (cards_place card.id) entry.id, plans.0) plans.1
 
         back_card : (card : Option CardEntry) → card_in item.entry.text ≡ card
             → PlansUndoCard around q of card plan → Found
@@ -547,7 +547,7 @@ module _ (s : ServiceOf) (request : Request (List ℕ)) (plan : Plan) where
       (sent_pairs request) remark plan.reply plan.effect
 
   module _ (own : is_own s.hosts request ≡ true) where
-    module _ (set : List ℕ) (around : Around) (is : IsAround s set around) where
+    module _ (set : List ℕ) (around : Around) (is : IsAround s set request around) where
       posted : is_post request ≡ true → (carries : Bool)
           → has_token around.token.now (sent_pairs request) ≡ carries
           → PlansPosted around s.outbox.list (path_of request) (sent_pairs request) carries plan

@@ -17,7 +17,7 @@ use Rattle.table_service.specs.declared.plan.Plan.{Plan}
 use Rattle.table_service.specs.declared.plan.Problem.TheVariants as problem
 use Rattle.table_service.specs.Plans.{RefusesWith, cards_place}
 use Rattle.table_service.specs.Replying.{Sends, refuses}
-use Rattle.table_service.specs.Taking.{has_room}
+use Rattle.table_service.specs.Taking.{has_room, place_with}
 
 -- the id of an item
 abbrev pub id_of : List Pair → Option ℕ
@@ -63,7 +63,7 @@ PlansAgainEntry room around q of card None plan =
     RefusesWith around (cards_place card.id) less_words plan
 PlansAgainEntry false around q of card (Some entry) plan = plan ≡ refuses problem.Busy
 PlansAgainEntry true around q of card (Some entry) plan =
-    Sends (cards_place card.id) (effect.Again entry of) plan
+    Sends (place_with (cards_place card.id) entry.id) (effect.Again entry of) plan
 
 -- under an id, with a remark, where what was to stay stands
 abbrev pub again_entry : Bool → ℕ → CardEntry → List ℕ → List Value → Option Entry

@@ -1,7 +1,7 @@
 -- What a path and a query ask for.
 use Rattle.std.specs.Prelude.{ℕ, Bool, true, false, if◌then◌else◌, bytes_eq, codes, List, drop}
 use Rattle.std.specs.Prelude.{length, take, Option, None, Some, Result, Ok, Err}
-use Rattle.card_forms.specs.Cards.{form_id_of, round_of}
+use Rattle.card_forms.specs.Cards.{round_of}
 use Rattle.card_forms.specs.Pairs.{pairs_of, value_of}
 use Rattle.card_forms.specs.Readings.{number_of}
 use Rattle.card_forms.specs.declared.faults.NumberFault.{NumberFault}
@@ -44,8 +44,7 @@ number_if (Err why) = None
 
 abbrev pub card_asked : List ℕ → RoundId → Asked
 card_asked query round =
-    Page (Card round (number_if (number_of (value_of (codes "number") (pairs_of query))))
-    (form_id_of (value_of (codes "sent") (pairs_of query))))
+    Page (Card round (number_if (number_of (value_of (codes "number") (pairs_of query)))))
 
 -- by the round of the path of a card, of a sheet for the wall, and of blank cards, and by the
 -- number of the path of a competitor

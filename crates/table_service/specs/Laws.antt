@@ -1,6 +1,6 @@
 -- What holds of each answer of the score table.
 use Rattle.std.specs.Prelude.{◌≡◌, ◌⊎◌, ℕ, ◌+◌, ◌++◌, ◌||◌, ◌∷◌, [], true, false, List, Some, Ok}
-use Rattle.std.specs.Prelude.{codes, take}
+use Rattle.std.specs.Prelude.{codes, map, take}
 use Rattle.acceptor.specs.declared.entry.Entry.{Entry}
 use Rattle.attempts.specs.declared.Value.{Value}
 use Rattle.http.specs.declared.request.Request.{Request}
@@ -14,6 +14,7 @@ use Rattle.card_forms.specs.Cards.{card_form_of, form_id_of}
 use Rattle.card_forms.specs.Entries.{card_entry, card_in, command_entries}
 use Rattle.card_forms.specs.Pairs.{value_of}
 use Rattle.card_forms.specs.Readings.{IsReadAs}
+use Rattle.card_forms.specs.Remarks.{noted}
 use Rattle.command_lists.specs.Lists.{texts_in}
 use Rattle.commands.specs.Accepted.{are_values, card_values, round_by, scramble_of}
 use Rattle.learner.specs.Laws.{IsPrefix}
@@ -40,7 +41,7 @@ use Rattle.table_service.specs.Disks.{IsSynced, lines_in}
 use Rattle.table_service.specs.Gate.{has_token, is_own}
 use Rattle.table_service.specs.Lists.{is_known, would_be_done}
 use Rattle.table_service.specs.Plans.{are_confirmed}
-use Rattle.table_service.specs.Remarks.{remark_of}
+use Rattle.table_service.specs.Remarks.{remark_of, remark_under}
 use Rattle.table_service.specs.Replies.{IsProblem, security}
 use Rattle.table_service.specs.Requests.{is_post, path_of, sent_pairs}
 use Rattle.table_service.specs.Undoing.{may_undo, undone_entry}
@@ -72,25 +73,25 @@ pub record AsksForCard (log : List Entry) (pairs : List Pair) (remark : List ℕ
   pub sure : are_confirmed (value_of (codes "sure") pairs) (doubts (accepted_in log) spelled) ≡ true
   pub alone : entries ≡ entry ∷ []
 
--- the command that a command's form asks for
-pub record AsksForOne (pairs : List Pair) (entries : List Entry) : Type 0 where
+-- the command that a command's form asks for, with this remark where it may have one
+pub record AsksForOne (pairs : List Pair) (remark : List ℕ) (entries : List Entry) : Type 0 where
   pub id : ℕ
   pub named : form_id_of (value_of (codes "id") pairs) ≡ Some id
   pub text : List ℕ
   pub fit : IsCommandText text
   pub asks : AsksOf pairs text
-  pub are : entries ≡ command_entries id (text ∷ [])
+  pub are : entries ≡ command_entries id (noted remark text ∷ [])
 
--- the commands of the lines of a form, each under an id of its own; the first is known, or all of
--- them would be accepted after this log
-pub record AsksForAll (log : List Entry) (q : ItemsOf) (pairs : List Pair) (entries : List Entry)
-    : Type 0 where
+-- the commands of the lines of a form, each under an id of its own, with this remark where it may
+-- have one; the first is known, or all of them would be accepted after this log
+pub record AsksForAll (log : List Entry) (q : ItemsOf) (pairs : List Pair) (remark : List ℕ)
+    (entries : List Entry) : Type 0 where
   pub id : ℕ
   pub named : form_id_of (value_of (codes "id") pairs) ≡ Some id
   pub texts : List (List ℕ)
   pub read : texts_in (value_of (codes "lines") pairs) ≡ Some texts
   pub done : (is_known q id || would_be_done log id texts) ≡ true
-  pub are : entries ≡ command_entries id texts
+  pub are : entries ≡ command_entries id (map (noted remark) texts)
 
 -- what was typed into a card that this log does not save, over what the form's page showed that
 -- stands
@@ -125,12 +126,13 @@ pub record AsksBack (log : List Entry) (q : ItemsOf) (pairs : List Pair) (remark
   pub is : undone_entry (accepted_in log) id card remark ≡ Some entry
   pub alone : entries ≡ entry ∷ []
 
--- the entries that the pairs at a path ask for, where the log is this one; a card has this remark
+-- the entries that the pairs at a path ask for, where the log is this one, with this remark; in a
+-- hall of an earlier edition commands have none
 abbrev pub AsksFor : List Entry → ItemsOf → List ℕ → List Pair → List ℕ → List Entry → Type 0
 AsksFor log q path pairs remark entries =
     ((path ≡ codes "/card") × AsksForCard log pairs remark entries)
-    ⊎ ((path ≡ codes "/command") × AsksForOne pairs entries)
-    ⊎ ((path ≡ codes "/commands") × AsksForAll log q pairs entries)
+    ⊎ ((path ≡ codes "/command") × AsksForOne pairs (remark_under log remark) entries)
+    ⊎ ((path ≡ codes "/commands") × AsksForAll log q pairs (remark_under log remark) entries)
     ⊎ ((path ≡ codes "/again") × AsksAgain log q pairs remark entries)
     ⊎ ((path ≡ codes "/undo") × AsksBack log q pairs remark entries)
 

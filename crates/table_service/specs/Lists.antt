@@ -8,6 +8,7 @@ use Rattle.card_forms.specs.declared.pairs.Pair.{Pair}
 use Rattle.card_forms.specs.Cards.{form_id_of}
 use Rattle.card_forms.specs.Pairs.{value_of}
 use Rattle.card_forms.specs.Entries.{command_entries}
+use Rattle.card_forms.specs.Remarks.{noted}
 use Rattle.command_lists.specs.Answered.{first_refusal, is_done}
 use Rattle.command_lists.specs.Lists.{AreUnfit, texts_in}
 use Rattle.hall_views.specs.declared.preview.Tried.{Tried}
@@ -18,7 +19,7 @@ use Rattle.table_views.specs.declared.around.Around.{Around}
 use Rattle.table_service.specs.declared.plan.Plan.{Plan}
 use Rattle.table_service.specs.declared.plan.Problem.TheVariants as problem
 use Rattle.table_service.specs.declared.plan.Shown.TheVariants as shown
-use Rattle.table_service.specs.Plans.{RefusesWith, page_after}
+use Rattle.table_service.specs.Plans.{RefusesWith, page_after, remark_in}
 use Rattle.table_service.specs.Replying.{ShowsPage, refuses}
 use Rattle.table_service.specs.Taking.{PlansEntries}
 
@@ -42,7 +43,8 @@ is_known q id = is_some (item_in q id)
 -- by whether the first of them is known, or all of them would be accepted
 abbrev pub PlansAsked : Around → ItemsOf → List Pair → ℕ → List (List ℕ) → Bool → Plan → Type 0
 PlansAsked around q pairs id texts true plan =
-    PlansEntries q around (page_after pairs) (command_entries id texts) plan
+    PlansEntries q around (page_after pairs)
+    (command_entries id (map (noted (remark_in around)) texts)) plan
 PlansAsked around q pairs id texts false plan =
     RefusesWith around (page_after pairs)
     (first_refusal texts (answered around.mirror.now id texts)) plan

@@ -28,7 +28,7 @@ use Rattle.entry_views.specs.paper.Wall.{IsWallSheet}
 use Rattle.table_views.specs.declared.around.Around.{Around}
 use Rattle.table_views.specs.Logs.{accepted_in}
 use Rattle.table_views.specs.Standing.{standing}
-use Rattle.table_views.specs.Typed.{entered_typed}
+use Rattle.scorecard.specs.Typed.{entered_typed}
 use Rattle.texts.specs.declared.command.Entered.{Entered}
 use Rattle.texts.specs.declared.command.RoundId.{RoundId}
 use Rattle.texts.specs.Fields.{cut_remark}
@@ -118,7 +118,7 @@ pub record IsCard (q : ItemsOf) (around : Around) (round : RoundId) (draft : Dra
   pub is : IsCardPage around round draft past
       (round_by (accepted_in around.mirror.now) round) page
 
--- ---- the page after the form of a card
+-- ---- the page after a form
 
 -- an item of which this became waits, and was taken less than two seconds ago
 abbrev pub waits_since : State → ℕ → Bool
@@ -128,17 +128,16 @@ waits_since (state.Changed position) ago = false
 waits_since (state.Refused position why) ago = false
 waits_since (state.OtherText position) ago = false
 
-abbrev pub item_waits : Around → Option Item → Bool
-item_waits around None = false
-item_waits around (Some item) =
-    waits_since (state_of around.mirror.now item.entry) (around.now - item.since)
+abbrev pub item_waits : List Entry → ℕ → Option Item → Bool
+item_waits log now None = false
+item_waits log now (Some item) = waits_since (state_of log item.entry) (now - item.since)
 
--- a card that was sent under this id waits, since less than two seconds
-abbrev pub waits : ItemsOf → Around → Option ℕ → Bool
-waits q around None = false
-waits q around (Some id) = item_waits around (item_in q id)
+-- what was sent under this id waits, since less than two seconds
+abbrev pub waits : ItemsOf → List Entry → ℕ → Option ℕ → Bool
+waits q log now None = false
+waits q log now (Some id) = item_waits log now (item_in q id)
 
--- the page of a card, or the page that waits for the one that was sent before it
+-- the page of a card, or the page that waits for what was sent before it
 abbrev pub IsCardAfter : Bool → ItemsOf → Around → RoundId → Draft → Option (List ℕ) → Type 0
 IsCardAfter true q around round draft page = page ≡ Some (waiting_page around round)
 IsCardAfter false q around round draft page = IsCard q around round draft page
@@ -157,8 +156,8 @@ IsPage q around title view.People page = IsPeople around page
 IsPage q around title (view.Person number) page = page ≡ person_page around number
 IsPage q around title view.Import page = page ≡ Some (import_page around)
 IsPage q around title (view.Rounds round) page = page ≡ Some (rounds_page around round)
-IsPage q around title (view.Card round number sent) page =
-    IsCardAfter (waits q around sent) q around round (draft_of number) page
+IsPage q around title (view.Card round number) page =
+    IsCardAfter around.waits q around round (draft_of number) page
 IsPage q around title (view.Wall round) page =
     IsWallSheet title around.mirror.now round (round_by (accepted_in around.mirror.now) round) page
 IsPage q around title (view.Scorecards round) page =

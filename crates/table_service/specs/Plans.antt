@@ -18,6 +18,7 @@ use Rattle.card_forms.specs.Entries.{card_entry, card_in, entry_with}
 use Rattle.card_forms.specs.Faults.{IsWrong as AsksNone, Said, said_words}
 use Rattle.card_forms.specs.Pairs.{value_of}
 use Rattle.card_forms.specs.Readings.{IsNotRead, IsReadAs}
+use Rattle.card_forms.specs.Remarks.{noted}
 use Rattle.outbox.specs.Items.{ItemsOf, item_in}
 use Rattle.entry_views.specs.declared.draft.Draft.{Draft}
 use Rattle.entry_views.specs.declared.draft.Draft.TheVariants as draft
@@ -43,7 +44,8 @@ use Rattle.table_service.specs.Checks.{doubts, unread_notes}
 use Rattle.table_service.specs.Pages.{IsCard, IsPage}
 use Rattle.table_service.specs.Replying.{Sends, ShowsAs, ShowsIf, ShowsPage, refuses, shows}
 use Rattle.table_service.specs.Requests.{path_of, query_of}
-use Rattle.table_service.specs.Taking.{PlansEntries, is_sent}
+use Rattle.table_service.specs.Remarks.{remark_under}
+use Rattle.table_service.specs.Taking.{PlansEntries, is_sent, place_with}
 
 -- ---- a request that only reads
 
@@ -67,7 +69,7 @@ cards_place id = codes "/card/" ++ event_name id.event ++ codes "-" ++ decimal i
 
 -- where the page of a card stands that was sent
 abbrev pub card_place : CardForm → List ℕ
-card_place form = cards_place form.round ++ codes "?sent=" ++ decimal form.id
+card_place form = place_with (cards_place form.round) form.id
 
 -- what was typed, with these notes
 abbrev pub IsTyped : CardForm → List Note → Draft → Type 0
@@ -100,7 +102,7 @@ is_entered q id sure notes = is_some (item_in q id) || are_confirmed sure notes
 
 abbrev pub PlansCardEntry : ItemsOf → Around → CardForm → List Note → Entry → Bool → Plan → Type 0
 PlansCardEntry q around form notes entry true plan =
-    PlansEntries q around (card_place form) (entry ∷ []) plan
+    PlansEntries q around (cards_place form.round) (entry ∷ []) plan
 PlansCardEntry q around form notes entry false plan =
     HoldsCard q around form notes shown.Asked plan
 
@@ -193,7 +195,11 @@ IsWrong around pairs plan =
     (it : Said) × AsksNone pairs it
     × RefusesWith around (page_after pairs) (said_words it) plan
 
--- the form asks for a command, which is taken under its id
+-- the remark of a command that is entered now
+abbrev pub remark_in : Around → List ℕ
+remark_in around = remark_under around.mirror.now around.remark.now
+
+-- the form asks for a command, which is taken under its id, with its remark
 pub record AsksCommand (q : ItemsOf) (around : Around) (pairs : List Pair) (plan : Plan)
     : Type 0 where
   pub id : ℕ
@@ -201,7 +207,8 @@ pub record AsksCommand (q : ItemsOf) (around : Around) (pairs : List Pair) (plan
   pub named : form_id_of (value_of (codes "id") pairs) ≡ Some id
   pub fit : IsCommandText text
   pub asks : Asks pairs text
-  pub plans : PlansEntries q around (page_after pairs) (entry_with id text ∷ []) plan
+  pub plans : PlansEntries q around (page_after pairs)
+      (entry_with id (noted (remark_in around) text) ∷ []) plan
 
 -- the form has no id
 abbrev pub LacksId : List Pair → Plan → Type 0

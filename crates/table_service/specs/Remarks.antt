@@ -1,7 +1,10 @@
--- What stands behind each card that a table enters: its name, and the time of the machine's clock.
+-- What stands behind what a table enters: its name, and the time of the machine's clock.
 use Rattle.std.specs.Prelude.{ℕ, ◌/◌, ◌%◌, ◌++◌, ◌&&◌, Bool, List, Option, None, Some, codes}
-use Rattle.std.specs.Prelude.{length, nat_le}
+use Rattle.std.specs.Prelude.{[], if◌then◌else◌, length, nat_le}
+use Rattle.acceptor.specs.declared.entry.Entry.{Entry}
 use Rattle.attempts.specs.Texts.{two_digits}
+use Rattle.table_views.specs.Editions.{is_latest}
+use Rattle.table_views.specs.Logs.{accepted_in}
 use Rattle.texts.specs.Names.{is_clear_name}
 
 -- a table can have this name
@@ -18,3 +21,7 @@ time_of_day seconds =
 abbrev pub remark_of : List ℕ → Option ℕ → List ℕ
 remark_of name None = name
 remark_of name (Some seconds) = name ++ codes " " ++ time_of_day seconds
+
+-- in a hall of an earlier edition commands have none
+abbrev pub remark_under : List Entry → List ℕ → List ℕ
+remark_under log remark = if is_latest (accepted_in log) then remark else []

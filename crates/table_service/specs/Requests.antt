@@ -1,16 +1,22 @@
 -- What is read of a request.
-use Rattle.std.specs.Prelude.{ℕ, ◌||◌, Bool, List, [], bytes_eq, codes, unwrap_or}
+use Rattle.std.specs.Prelude.{ℕ, ◌-◌, ◌^◌, ◌||◌, Bool, List, [], Option, bytes_eq, codes, unwrap_or}
 use Rattle.http.specs.declared.request.Request.{Request}
 use Rattle.http.specs.Request.{head_of}
 use Rattle.http_uri.specs.Uri.{uri_path, uri_query}
 use Rattle.card_forms.specs.declared.pairs.Pair.{Pair}
-use Rattle.card_forms.specs.Pairs.{pairs_of}
+use Rattle.card_forms.specs.Pairs.{pairs_of, value_of}
+use Rattle.texts.specs.Fields.{number_between}
 
 abbrev pub path_of : Request (List ℕ) → List ℕ
 path_of request = uri_path (head_of request).uri
 
 abbrev pub query_of : Request (List ℕ) → List ℕ
 query_of request = unwrap_or (uri_query (head_of request).uri) []
+
+-- the id of what was sent before, as the address of the page after it says
+abbrev pub sent_before : Request (List ℕ) → Option ℕ
+sent_before request =
+    number_between 1 (2 ^ 63 - 1) (value_of (codes "sent") (pairs_of (query_of request)))
 
 -- the pairs of the body
 abbrev pub sent_pairs : Request (List ℕ) → List Pair

@@ -17,10 +17,12 @@ use Rattle.table_service.specs.declared.plan.Plan.{Plan}
 use Rattle.table_service.specs.declared.plan.Problem.TheVariants as problem
 use Rattle.table_service.specs.Disks.{JournalOf, Keeps}
 use Rattle.table_service.specs.Gate.{is_own}
+use Rattle.table_service.specs.Pages.{waits}
 use Rattle.table_service.specs.Recents.{AreRecent}
 use Rattle.table_service.specs.Remarks.{remark_of}
 use Rattle.table_service.specs.Replies.{IsProblem, Writes}
 use Rattle.table_service.specs.Replying.{refuses}
+use Rattle.table_service.specs.Requests.{sent_before}
 use Rattle.table_service.specs.Sent.{PlansOwn}
 
 -- the title of the hall, the name of the table, the hosts and the token of the program, the mirror
@@ -68,7 +70,8 @@ with_ids_used s = record s { ids = drop 1 s.ids }
 -- ---- what is to be done for a request
 
 -- a page is made of the mirror, the items and the desks as they are, with this set of ids
-pub record IsAround (s : ServiceOf) (set : List ℕ) (around : Around) : Type 0 where
+pub record IsAround (s : ServiceOf) (set : List ℕ) (request : Request (List ℕ)) (around : Around)
+    : Type 0 where
   pub mirror : around.mirror.now ≡ s.mirroring.entries
   pub desks : around.desks.now ≡ s.desks
   pub token : around.token.now ≡ s.token
@@ -76,11 +79,13 @@ pub record IsAround (s : ServiceOf) (set : List ℕ) (around : Around) : Type 0 
   pub remark : around.remark.now ≡ remark_of s.name s.clock
   pub recent : AreRecent s.mirroring.entries s.outbox.list around.recent.now
   pub time : around.now ≡ s.time
+  pub waits : around.waits
+      ≡ waits s.outbox.list s.mirroring.entries s.time (sent_before request)
 
 pub record PlansAround (s : ServiceOf) (set : List ℕ) (request : Request (List ℕ)) (plan : Plan)
     : Type 0 where
   pub around : Around
-  pub is : IsAround s set around
+  pub is : IsAround s set request around
   pub plans : PlansOwn around s.title s.outbox.list request plan
 
 -- a page needs ids for its forms

@@ -1,8 +1,10 @@
 -- Entries that a form asks for, and that are to be taken.
-use Rattle.std.specs.Prelude.{◌≡◌, ℕ, ◌-◌, ◌<◌, ◌++◌, Bool, true, false, if◌then◌else◌, bytes_eq}
-use Rattle.std.specs.Prelude.{codes, nat_le, length, List, [], ◌∷◌, Option, None, Some, All, IfSome}
+use Rattle.std.specs.Prelude.{◌≡◌, ℕ, ◌-◌, ◌<◌, ◌++◌, ◌==◌, Bool, true, false, if◌then◌else◌}
+use Rattle.std.specs.Prelude.{codes, decimal, nat_le, length, slice_get, List, [], ◌∷◌, All, IfSome}
+use Rattle.std.specs.Prelude.{Option, None, Some, option_map}
+use Rattle.std.specs.List.{list_any}
 use Rattle.acceptor.specs.declared.entry.Entry.{Entry}
-use Rattle.card_forms.specs.Entries.{is_same_but_remark}
+use Rattle.card_forms.specs.Remarks.{is_same_but_remark}
 use Rattle.hall_views.specs.Refused.{faults_page}
 use Rattle.outbox.specs.declared.item.Item.{Item}
 use Rattle.outbox.specs.Items.{ItemsOf, item_in}
@@ -32,9 +34,10 @@ is_sent q entry = sent_as (item_in q entry.id) entry
 abbrev pub other_by : Option Item → Entry → Option (List ℕ)
 other_by None entry = None
 other_by (Some item) entry =
-    if bytes_eq item.entry.text entry.text then None else Some item.entry.text
+    if is_same_but_remark item.entry.text entry.text then None else Some item.entry.text
 
--- the text under which the id of an entry is known, where it is another one
+-- the text under which the id of an entry is known, where it is another one, whatever the remarks
+-- are
 abbrev pub other_of : ItemsOf → Entry → Option (List ℕ)
 other_of q entry = other_by (item_in q entry.id) entry
 
@@ -67,19 +70,34 @@ pub record TakesThem (place : List ℕ) (entries : List Entry) (plan : Plan) : T
   pub goes : GoesTo place plan.reply
   pub takes : AreTaken entries plan.effect
 
+-- the place of a page that waits for the item of an id
+abbrev pub place_with : List ℕ → ℕ → List ℕ
+place_with back id =
+    back ++ (if list_any (λ b. b == 63) back then codes "&sent=" else codes "?sent=") ++ decimal id
+
+abbrev pub place_after : List ℕ → Option ℕ → List ℕ
+place_after back None = back
+place_after back (Some id) = place_with back id
+
+-- the id of the last of these entries
+abbrev pub last_id : List Entry → Option ℕ
+last_id entries = option_map (λ entry. entry.id) (slice_get entries (length entries - 1))
+
 abbrev pub PlansRoom : Bool → List ℕ → List Entry → Plan → Type 0
-PlansRoom false place entries plan = plan ≡ refuses problem.Busy
-PlansRoom true place entries plan = TakesThem place entries plan
+PlansRoom false back entries plan = plan ≡ refuses problem.Busy
+PlansRoom true back entries plan =
+    TakesThem (place_after back (last_id entries)) entries plan
 
 abbrev pub PlansOther : Option (List ℕ × List ℕ) → ItemsOf → Around → List ℕ → List Entry → Plan
     → Type 0
-PlansOther (Some both) q around place entries plan =
-    ShowsPage shown.Wrong (faults_page around place (both_words both.0 both.1)) plan
-PlansOther None q around place entries plan =
-    PlansRoom (has_room q (length entries)) place entries plan
+PlansOther (Some both) q around back entries plan =
+    ShowsPage shown.Wrong (faults_page around back (both_words both.0 both.1)) plan
+PlansOther None q around back entries plan =
+    PlansRoom (has_room q (length entries)) back entries plan
 
--- entries are taken, but where the id of one of them is known with another text, or there is no
--- room; what was taken before stays as it is
+-- entries are taken, and the browser goes on to a page that waits for the last of them; but where
+-- the id of one of them is known with another text, or there is no room. What was taken before
+-- stays as it is
 abbrev pub PlansEntries : ItemsOf → Around → List ℕ → List Entry → Plan → Type 0
-PlansEntries q around place entries plan =
-    PlansOther (other_in q entries) q around place entries plan
+PlansEntries q around back entries plan =
+    PlansOther (other_in q entries) q around back entries plan

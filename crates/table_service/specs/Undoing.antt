@@ -34,7 +34,7 @@ use Rattle.table_service.specs.Answering.{id_of, place_of}
 use Rattle.table_service.specs.Checks.{is_left}
 use Rattle.table_service.specs.Plans.{RefusesWith, cards_place}
 use Rattle.table_service.specs.Replying.{Sends, refuses}
-use Rattle.table_service.specs.Taking.{has_room}
+use Rattle.table_service.specs.Taking.{has_room, place_with}
 
 -- ---- what is to stand again
 
@@ -114,7 +114,7 @@ PlansUndoEntry room around of id None plan =
     RefusesWith around (cards_place id) untyped_words plan
 PlansUndoEntry false around of id (Some entry) plan = plan ≡ refuses problem.Busy
 PlansUndoEntry true around of id (Some entry) plan =
-    Sends (cards_place id) (effect.Again entry of) plan
+    Sends (place_with (cards_place id) entry.id) (effect.Again entry of) plan
 
 abbrev pub PlansUndoCard : Around → ItemsOf → ℕ → Option CardEntry → Plan → Type 0
 PlansUndoCard around q of None plan = plan ≡ refuses problem.BadForm

@@ -10,7 +10,7 @@ ghost use Rattle.table_service.specs.Answering.{again_entry, id_of, place_of};
 
 use crate::commanding::refuse;
 use crate::entering::cards_place;
-use crate::entries::has_room;
+use crate::entries::{has_room, place_with};
 use crate::looking::first_id;
 use crate::plan::{Effect, Plan, Problem};
 use acceptor::entry::Entry;
@@ -150,7 +150,8 @@ fn plan_again_card(
     if !has_room(outbox, 1) {
         return Ok(Plan::problem(Problem::Busy));
     }
-    Ok(Plan::see(place, Effect::Again { entry, of }))
+    let after = place_with(alloc, &place, entry.id())?;
+    Ok(Plan::see(after, Effect::Again { entry, of }))
 }
 
 /// What is to be done for an item that may be answered, and of which a card is to be taken.

@@ -2,10 +2,11 @@
 
 ghost use Rattle.std.specs.Prelude.{◌≡◌, ◌∷◌, [], IfOk};
 ghost use Rattle.card_forms.specs.Entries.{entry_with};
+ghost use Rattle.card_forms.specs.Remarks.{noted as noted_with};
 ghost use Rattle.card_forms.specs.Faults.{IsWrong as AsksNone};
 ghost use Rattle.hall_views.specs.Refused.{faults_page};
 ghost use Rattle.table_service.specs.Plans.{IsWrong, PlansCommand, RefusesWith, has_forms};
-ghost use Rattle.table_service.specs.Plans.{page_after};
+ghost use Rattle.table_service.specs.Plans.{page_after, remark_in};
 ghost use Rattle.table_service.specs.Replying.{ShowsPage};
 ghost use Rattle.table_service.specs.Taking.{PlansEntries};
 
@@ -13,12 +14,13 @@ use crate::entries::plan_entries;
 use crate::plan::{Plan, Problem, Shown};
 use crate::reading::{number_below, round_below};
 use card_forms::{
-    CommandForm, CommandFormFault, CommandTexts, Field, Pairs, Wrong, command_entries, command_form,
+    CommandForm, CommandFormFault, CommandTexts, Field, Pairs, Wrong, command_entries,
+    command_form, noted,
 };
 use hall_views::{faults_page, refused_page};
 use outbox::Outbox;
 use std::alloc::{AllocError, Global};
-use table_views::Around;
+use table_views::{Around, is_latest};
 
 /// Whether a path is that of a page that has forms of commands.
 fn has_forms(path: &[u8]) -> bool
@@ -82,6 +84,17 @@ fn wrong(
     refuse(alloc, around, page_after(pairs), words.as_bytes())
 }
 
+/// The remark of a command that is entered now: none in a hall of an earlier edition.
+pub(crate) fn remark_in<'a>(around: &Around<'a>) -> &'a [u8]
+    ensures { result.now ≡ remark_in around.entry.now }
+{
+    if is_latest(around.mirror.meet()) {
+        around.remark
+    } else {
+        &[]
+    }
+}
+
 /// What is to be done for a command that a form asks for.
 fn plan_text(
     alloc: Global,
@@ -91,10 +104,11 @@ fn plan_text(
     back: &[u8],
 ) -> Result<Plan, AllocError>
     ensures { IfOk result (PlansEntries outbox.now.list around.entry.now back.now
-        (entry_with form.id form.text ∷ [])) }
+        (entry_with form.id (noted_with (remark_in around.entry.now) form.text) ∷ [])) }
 {
     let place = Vec::from_slice(alloc, back)?;
-    let texts = CommandTexts::one(alloc, form.text)?;
+    let text = noted(alloc, remark_in(around), &form.text)?;
+    let texts = CommandTexts::one(alloc, text)?;
     let entries = command_entries(alloc, form.id, &texts)?;
     plan_entries(alloc, outbox, around, place, entries)
 }

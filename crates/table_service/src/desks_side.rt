@@ -1,7 +1,7 @@
 //! What is kept up with the desks of the hall.
 
-ghost use Rattle.std.specs.Prelude.{◌≡◌, IfOk, true};
-ghost use Rattle.wire.specs.Ranges.{IsDesk};
+ghost use Rattle.std.specs.Prelude.{◌≡◌, IfOk, IfSome, true};
+ghost use Rattle.wire.specs.Ranges.{IsDesk, IsId};
 ghost use Rattle.table_service.specs.Steps.{HandsOut, IsKeptUp};
 
 use crate::disk::Disk;
@@ -60,7 +60,48 @@ pub(crate) struct DesksSide<'a, R> {
     moved_at: u64,
     /// Whether it was said that a desk takes nothing for want of the key.
     said_refused: bool,
+    /// What was said last of how the desks are doing.
+    said: Said,
     ghost in_range: { IsDesk desks × IsDesk aim },
+}
+
+/// What is said of how the desks are doing.
+#[derive(Clone, Copy, PartialEq, Eq)]
+pub(crate) enum Said {
+    Nothing,
+    /// This desk is of another hall.
+    OtherHall(u8),
+    /// No majority of them answers.
+    Few,
+}
+
+/// What is to be said of how the desks are doing.
+fn said_of(desks: &Desks) -> Said {
+    if let Some(desk) = desks.of_other_hall {
+        Said::OtherHall(desk)
+    } else if desks.too_few() {
+        Said::Few
+    } else {
+        Said::Nothing
+    }
+}
+
+/// Says it on a line, where something else was said before. A line that can't be written is left
+/// out.
+fn say<F: Write>(before: Said, said: Said, faults: &mut F) -> Said {
+    if said == before {
+        return said;
+    }
+    match said {
+        Said::Nothing => {}
+        Said::OtherHall(desk) => {
+            let _ = writeln!(faults, "{PROGRAM}: desk {desk} is of another hall");
+        }
+        Said::Few => {
+            let _ = writeln!(faults, "{PROGRAM}: no majority of the hall's desks answers");
+        }
+    }
+    said
 }
 
 /// Does all that can be done now for the desks that are asked how they stand, and says what is
@@ -134,6 +175,7 @@ impl<'a, R: Net + RandomSource> DesksSide<'a, R> {
             front: 0,
             moved_at: 0,
             said_refused: false,
+            said: Said::Nothing,
         })
     }
 
@@ -210,9 +252,22 @@ impl<'a, R: Net + RandomSource> DesksSide<'a, R> {
         self.front < service.outbox().next()
     }
 
-    /// Asks the desk at once for what comes next, where what it has taken waits to be decided. Not
-    /// as soon as it was taken: a desk takes few questions on one connection, and one that comes
-    /// too early may be its last.
+    /// The id of the first item that waits, where the desk that is followed can say as soon as its
+    /// log has it.
+    fn awaited<D: Disk>(&self, service: &TableService<D>) -> Option<u64>
+        ensures { IfSome result IsId }
+    {
+        if !self.asked.desks.speaks_five(service.mirroring().desk()) {
+            return None;
+        }
+        let (_id, item) = service.outbox().at(self.front)?;
+        Some(item.entry.id())
+    }
+
+    /// Asks the desk at once for what comes next, where what it has taken waits to be decided: one
+    /// that knows version 5 of the wire says as soon as its log has it. Not as soon as it was
+    /// taken: a desk takes few questions on one connection, and one that comes too early may be its
+    /// last.
     fn hurry<D: Disk>(&mut self, service: &mut TableService<D>, now: u64)
         ensures { IsKeptUp service.old service.new }
     {
@@ -224,7 +279,10 @@ impl<'a, R: Net + RandomSource> DesksSide<'a, R> {
             return;
         }
         self.hurried_at = now;
-        service.hurry();
+        match self.awaited(service) {
+            Some(id) => service.await_next(id),
+            None => service.hurry(),
+        }
     }
 
     /// Submits what was taken, once the mirror had all that a desk's log had.
@@ -239,8 +297,14 @@ impl<'a, R: Net + RandomSource> DesksSide<'a, R> {
         let _kept = service.submit(&mut self.submits, now);
     }
 
-    /// Says how the desks are doing.
-    fn tell<D: Disk>(&self, service: &mut TableService<D>, now: u64) -> io::Result<()>
+    /// Says how the desks are doing: on the pages, and on a line where none of them can take
+    /// anything, once it is so.
+    fn tell<D: Disk, F: Write>(
+        &mut self,
+        service: &mut TableService<D>,
+        now: u64,
+        faults: &mut F,
+    ) -> io::Result<()>
         ensures { IsKeptUp service.old service.new }
     {
         let lengths = self.asked.desks.lengths(self.alloc)?;
@@ -257,7 +321,10 @@ impl<'a, R: Net + RandomSource> DesksSide<'a, R> {
             lengths,
             away,
             trouble: self.stream.trouble(),
+            of_other_hall: self.asked.desks.of_other_hall(),
+            differs: self.asked.desks.differs(self.alloc)?,
         };
+        self.said = say(self.said, said_of(&desks), faults);
         service.set_desks(desks);
         Ok(())
     }
@@ -285,7 +352,7 @@ impl<'a, R: Net + RandomSource> DesksSide<'a, R> {
         if !self.keep_mirror(service, now)? {
             return Ok(false);
         }
-        self.tell(service, now)?;
+        self.tell(service, now, faults)?;
         Ok(true)
     }
 

@@ -12,7 +12,7 @@ ghost use Rattle.table_service.specs.Taking.{IsFitCard};
 use crate::cards::card;
 use crate::checks::{doubts_of, only, unread};
 use crate::commanding::refuse;
-use crate::entries::{fit_card, is_sent, plan_entries};
+use crate::entries::{fit_card, is_sent, place_with, plan_entries};
 use crate::plan::{Effect, Plan, Problem, Shown};
 use acceptor::entry::Entry;
 use card_forms::{
@@ -44,10 +44,8 @@ pub(crate) fn cards_place(alloc: Global, id: RoundId) -> Result<Vec<u8>, AllocEr
 fn place_of(alloc: Global, form: &CardForm) -> Result<Vec<u8>, AllocError>
     ensures { IfOk result (λ place. place.items ≡ card_place form.now) }
 {
-    let mut place = cards_place(alloc, form.round)?;
-    place.extend_from_slice(b"?sent=")?;
-    place.extend_from_slice(Buffer::new().format(form.id.number()).as_bytes())?;
-    Ok(place)
+    let cards = cards_place(alloc, form.round)?;
+    place_with(alloc, &cards, form.id.number())
 }
 
 /// Whether a word is among these, with a space between two.
@@ -127,10 +125,10 @@ fn plan_entry(
     if !enters {
         return hold(alloc, outbox, around, form, notes, Shown::Asked);
     }
-    let place = place_of(alloc, form)?;
+    let cards = cards_place(alloc, form.round)?;
     let mut entries = Vec::new(alloc);
     entries.push(entry)?;
-    plan_entries(alloc, outbox, around, place, entries)
+    plan_entries(alloc, outbox, around, cards, entries)
 }
 
 /// What is to be done for an entry that spells a card of which these notes are to be confirmed.

@@ -6,7 +6,7 @@ ghost use Rattle.command_lists.specs.Answered.{is_done};
 ghost use Rattle.table_service.specs.Lists.{PlansAsked, PlansLines, PlansList, is_known};
 ghost use Rattle.table_service.specs.Lists.{would_be_done};
 
-use crate::commanding::{page_after, refuse};
+use crate::commanding::{page_after, refuse, remark_in};
 use crate::entries::plan_entries;
 use crate::plan::{Plan, Problem};
 use card_forms::{CommandTexts, FormId, Pairs, command_entries, form_id_of};
@@ -42,12 +42,13 @@ fn plan_texts(
         (is_known outbox.now.list id || would_be_done around.entry.now.mirror.now id texts.now)) }
 {
     let back = page_after(pairs);
-    let entries = command_entries(alloc, id, texts)?;
     let answers = answers_to(alloc, around.mirror.log(), id, texts)?;
     if !goes_on(outbox, id, &answers) {
         let why = first_refusal(alloc, texts.as_slice(), &answers)?;
         return refuse(alloc, around, back, why.as_bytes());
     }
+    let noted = texts.noted(alloc, remark_in(around))?;
+    let entries = command_entries(alloc, id, &noted)?;
     let place = Vec::from_slice(alloc, back)?;
     plan_entries(alloc, outbox, around, place, entries)
 }

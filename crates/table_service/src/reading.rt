@@ -4,7 +4,7 @@ ghost use Rattle.std.specs.Prelude.{◌≡◌, IfOk};
 ghost use Rattle.table_service.specs.Asked.{asked_at, card_asked, fixed, in_folder, number_below};
 ghost use Rattle.table_service.specs.Asked.{round_below};
 
-use card_forms::{FormId, Pairs, form_id_of, number_of, round_of};
+use card_forms::{Pairs, number_of, round_of};
 use std::alloc::{AllocError, Global};
 use texts::{RoundId, number_between};
 
@@ -16,13 +16,8 @@ const LAST_NUMBER: u64 = 9_999;
 pub(crate) enum View {
     /// `/`: all rounds.
     Overview,
-    /// `/card/333-1`: a card, with what stands of a competitor where `?number=17` names one, and
-    /// the id of the card that was sent before it where `?sent=99` names one.
-    Card {
-        round: RoundId,
-        number: Option<u16>,
-        sent: Option<FormId>,
-    },
+    /// `/card/333-1`: a card, with what stands of a competitor where `?number=17` names one.
+    Card { round: RoundId, number: Option<u16> },
     /// `/wall/333-1`: the sheet for the wall.
     Wall(RoundId),
     /// `/scorecards/333-1`: blank cards.
@@ -95,12 +90,7 @@ fn card_asked(alloc: Global, query: &[u8], round: RoundId) -> Result<Asked, Allo
         Ok(number) => Some(number),
         Err(_) => None,
     };
-    let sent = form_id_of(pairs.value("sent"));
-    Ok(Asked::Page(View::Card {
-        round,
-        number,
-        sent,
-    }))
+    Ok(Asked::Page(View::Card { round, number }))
 }
 
 /// What stands at the path of a round or of a competitor.

@@ -1,4 +1,4 @@
-//! What stands behind each card that a table enters: its name, and the time of the machine's clock.
+//! What stands behind what a table enters: its name, and the time of the machine's clock.
 
 ghost use Rattle.std.specs.Prelude.{◌≡◌, ◌++◌, IfOk, OnOk};
 ghost use Rattle.table_service.specs.Remarks.{is_table_name, remark_of, time_of_day};

@@ -5,6 +5,7 @@ ghost use Rattle.std.specs.Option.{option_copied};
 ghost use Rattle.outbox.specs.Items.{taken_back};
 ghost use Rattle.outbox.specs.Outboxes.{with_list};
 ghost use Rattle.table_service.specs.Services.{TakesAll};
+ghost use Rattle.wire.specs.Ranges.{IsId};
 
 use crate::disk::Disk;
 use crate::gate::is_own;
@@ -15,6 +16,7 @@ use crate::recents::recents_of;
 use crate::remarks::remark_of;
 use crate::replies::{tell_problem, write};
 use crate::setup::Setup;
+use crate::waiting::{sent_before, waits};
 use acceptor::NoMemory;
 use acceptor::entry::Entry;
 use bytes::Bytes;
@@ -75,6 +77,8 @@ fn unknown_desks(alloc: Global) -> Desks {
         lengths: Vec::new(alloc),
         away: Vec::new(alloc),
         trouble: None,
+        of_other_hall: None,
+        differs: None,
     }
 }
 
@@ -217,6 +221,16 @@ impl<D: Disk> TableService<D> {
         self.mirroring.hurry();
     }
 
+    /// Lets the desk say as soon as its log has this command, and asks it at once then for what
+    /// comes next. The desk has to know version 5 of the wire.
+    pub fn await_next(&mut self, id: u64)
+        requires { IsId id }
+        ensures others { IsKeptBut self.old self.new }
+        ensures entries { self.new.mirroring.entries ≡ self.old.mirroring.entries }
+    {
+        self.mirroring.await_next(id);
+    }
+
     /// Looks through what the mirror's log has got, for entries that were sent from here. Where
     /// memory was refused the same call then goes on.
     pub fn look(&mut self) -> Result<(), AllocError>
@@ -276,6 +290,7 @@ impl<D: Disk> TableService<D> {
         let recent = recents_of(self.alloc, &self.outbox, self.mirroring.mirror())?;
         let name = self.setup.name.as_bytes();
         let remark = remark_of(self.alloc, name, self.clock)?;
+        let sent = sent_before(self.alloc, request)?;
         let around = Around {
             mirror: self.mirroring.mirror(),
             desks: &self.desks,
@@ -284,6 +299,7 @@ impl<D: Disk> TableService<D> {
             remark: &remark,
             recent: &recent,
             now: self.time,
+            waits: waits(&self.outbox, self.mirroring.mirror(), self.time, sent),
         };
         let title = self.setup.title.as_bytes();
         plan_own(self.alloc, &self.outbox, title, &around, request)

@@ -46,11 +46,9 @@ fn page_of(
         View::Person(number) => person_page(alloc, around, number),
         View::Import => Ok(Some(import_page(alloc, around)?)),
         View::Rounds(round) => Ok(Some(rounds_page(alloc, around, round)?)),
-        View::Card {
-            round,
-            number,
-            sent,
-        } => card_after(alloc, outbox, around, round, draft_of(number), sent),
+        View::Card { round, number } => {
+            card_after(alloc, outbox, around, round, draft_of(number))
+        }
         View::Wall(round) => wall_sheet(alloc, around.mirror, title, round),
         View::Scorecards(round) => scorecards(alloc, around.mirror, title, round),
     }
@@ -67,7 +65,7 @@ fn plan_page(page: Option<Vec<u8>>) -> Plan
 }
 
 /// The query of a request.
-fn query_of(request: &Request<Bytes>) -> &[u8]
+pub(crate) fn query_of(request: &Request<Bytes>) -> &[u8]
     ensures { result.now ≡ query_of request.now }
 {
     match request.uri().query() {

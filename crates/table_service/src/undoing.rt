@@ -12,7 +12,7 @@ use crate::answering::{id_of, plan_leaving};
 use crate::checks::is_left;
 use crate::commanding::refuse;
 use crate::entering::cards_place;
-use crate::entries::{fit_card, has_room};
+use crate::entries::{fit_card, has_room, place_with};
 use crate::looking::first_id;
 use crate::plan::{Effect, Plan, Problem};
 use crate::refusing::{value_at, values_left};
@@ -173,7 +173,8 @@ fn plan_undo_card(
     if !has_room(outbox, 1) {
         return Ok(Plan::problem(Problem::Busy));
     }
-    Ok(Plan::see(place, Effect::Again { entry, of }))
+    let after = place_with(alloc, &place, entry.id())?;
+    Ok(Plan::see(after, Effect::Again { entry, of }))
 }
 
 /// What is to be done for an item that is saved, and is to be taken back.

@@ -4,6 +4,8 @@ use Rattle.std.specs.Prelude.{flat_map, length, Option, None, Some, nat_le, if�
 use Rattle.markup.specs.Pieces.{joined}
 use Rattle.sealed.specs.declared.ends.trouble.CallTrouble.{CallTrouble}
 use Rattle.sealed.specs.declared.ends.trouble.CallTrouble.TheVariants as trouble
+use Rattle.wire.specs.declared.standing.Difference.{Difference}
+use Rattle.wire.specs.declared.standing.Difference.TheVariants.{OtherEntry, Shorter}
 use Rattle.wire.specs.declared.values.ClientRefusal.{ClientRefusal}
 use Rattle.wire.specs.declared.values.ClientRefusal.TheVariants as refusal
 use Rattle.table_views.specs.declared.bar.Doing.{Doing}
@@ -30,6 +32,7 @@ refused_key refusal.Down = None
 refused_key refusal.NotThere = None
 refused_key refusal.NoSuchRound = None
 refused_key refusal.Foreign = None
+refused_key refusal.HallDiffers = None
 
 abbrev pub key_by : Option CallTrouble → Option (ℕ × ClientRefusal) → Option CallTrouble
 key_by (Some wrong) refused = Some wrong
@@ -53,12 +56,21 @@ abbrev pub few_or : Bool → Desks → Doing
 few_or true desks = doing.Few
 few_or false desks = slow_or (too_long desks.silent) (too_long desks.undecided) desks
 
+abbrev pub differs_or : Option Difference → Desks → Doing
+differs_or (Some difference) desks = doing.Differs difference
+differs_or None desks = few_or (too_few desks) desks
+
+abbrev pub other_hall_or : Option ℕ → Desks → Doing
+other_hall_or (Some desk) desks = doing.OtherHall desk
+other_hall_or None desks = differs_or desks.differs desks
+
 abbrev pub locked_or : Option CallTrouble → Desks → Doing
 locked_or (Some wrong) desks = doing.Locked wrong
-locked_or None desks = few_or (too_few desks) desks
+locked_or None desks = other_hall_or desks.of_other_hall desks
 
--- that the key is wrong; else that no majority answers; else that the machine that is followed does
--- not, or that nothing is decided; else which machines are away; else all is well
+-- that the key is wrong; else that a machine is of another hall; else that one differs; else that
+-- no majority answers; else that the machine that is followed does not, or that nothing is decided;
+-- else which machines are away; else all is well
 abbrev pub doing_of : Desks → Doing
 doing_of desks = locked_or (key_trouble desks) desks
 
@@ -66,6 +78,8 @@ doing_of desks = locked_or (key_trouble desks) desks
 
 abbrev pub class_of : Doing → List ℕ
 class_of (doing.Locked wrong) = codes "lost"
+class_of (doing.OtherHall desk) = codes "lost"
+class_of (doing.Differs difference) = codes "lost"
 class_of doing.Few = codes "lost"
 class_of (doing.Silent milliseconds) = codes "lost"
 class_of (doing.Undecided milliseconds) = codes "lost"
@@ -80,6 +94,12 @@ key_words trouble.OtherKey =
     codes "This table cannot enter: the desks have another key. Copy it again, and start again."
 key_words trouble.NoKey =
     codes "This table cannot enter: it has a key, and the desks have none. Start them with the key."
+
+abbrev pub other_hall_words : ℕ → List ℕ
+other_hall_words desk = joined (
+    codes "This table cannot enter: machine " ∷ decimal desk
+    ∷ codes " is of another hall. Start this table with the file of that hall." ∷ []
+    )
 
 -- how many machines are away
 abbrev pub away_words : List ℕ → List ℕ
@@ -122,8 +142,24 @@ abbrev pub well_words : ℕ → List ℕ
 well_words machines =
     joined (codes "All " ∷ number_word machines ∷ codes " machines answer." ∷ [])
 
+-- what is to be done where machines differ
+abbrev pub stop_words : List ℕ
+stop_words = codes ". Enter nothing more, keep the cards, and call whoever runs the machines."
+
+abbrev pub differs_words : Difference → List ℕ
+differs_words (OtherEntry desk position) = joined (
+    codes "Machine " ∷ decimal desk ∷ codes " has another command at " ∷ decimal position
+    ∷ stop_words ∷ []
+    )
+differs_words (Shorter desk len) = joined (
+    codes "Machine " ∷ decimal desk ∷ codes " has " ∷ decimal len
+    ∷ codes " commands and had more" ∷ stop_words ∷ []
+    )
+
 abbrev pub words_of : Desks → Doing → List ℕ
 words_of desks (doing.Locked wrong) = key_words wrong
+words_of desks (doing.OtherHall desk) = other_hall_words desk
+words_of desks (doing.Differs difference) = differs_words difference
 words_of desks doing.Few = few_words desks.away.items
 words_of desks (doing.Silent milliseconds) = silent_words desks.followed milliseconds
 words_of desks (doing.Undecided milliseconds) = undecided_words milliseconds

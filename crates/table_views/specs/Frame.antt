@@ -1,8 +1,8 @@
 -- The frame of every page.
-use Rattle.std.specs.Prelude.{ℕ, List, [], ◌∷◌, ◌++◌, codes}
+use Rattle.std.specs.Prelude.{ℕ, Bool, List, [], ◌∷◌, ◌++◌, codes, if◌then◌else◌, length}
 use Rattle.markup.specs.board_page.Escaped.{escaped}
 use Rattle.markup.specs.Pieces.{joined}
-use Rattle.table_views.specs.declared.desks.Desks.{Desks}
+use Rattle.table_views.specs.declared.around.Around.{Around}
 use Rattle.table_views.specs.Bar.{bar}
 
 -- what stands before the title of a page, and after it
@@ -14,12 +14,18 @@ head_start =
 unfoldable pub head_end : List ℕ
 head_end =
     codes "</title><link rel=\"stylesheet\" href=\"/table.css\">\n"
-    ++ codes "<script src=\"/table.js\" defer></script></head>\n"
+    ++ codes "<script src=\"/table.js\" defer></script>"
+
+-- where what was sent waits, the page asks for itself again after a second, without scripts
+unfoldable pub refresh : Bool → List ℕ
+refresh waits =
+    if waits then codes "<noscript><meta http-equiv=\"refresh\" content=\"1\"></noscript>" else []
 
 -- the head of a page, and the beginning of its body
-abbrev pub head : List ℕ → List ℕ → List ℕ
-head class title = joined (
-    head_start ∷ escaped title ∷ head_end ∷ codes "<body class=\"" ∷ class ∷ codes "\">\n" ∷ []
+abbrev pub head : List ℕ → List ℕ → Bool → List ℕ
+head class title waits = joined (
+    head_start ∷ escaped title ∷ head_end ∷ refresh waits ∷ codes "</head>\n<body class=\"" ∷ class
+    ∷ codes "\">\n" ∷ []
     )
 
 unfoldable pub links : List ℕ
@@ -29,9 +35,10 @@ links =
     ++ codes "<a href=\"/people\">competitors</a></nav>\n"
 
 -- what stands before the sections of a page
-abbrev pub top : List ℕ → List ℕ → Desks → ℕ → List ℕ
-top class title desks position =
-    head class title ++ links ++ bar desks position ++ codes "<main>\n"
+abbrev pub top : List ℕ → List ℕ → Around → List ℕ
+top class title around =
+    head class title around.waits ++ links ++ bar around.desks.now (length around.mirror.now)
+    ++ codes "<main>\n"
 
 abbrev pub bottom : List ℕ
 bottom = codes "</main></body></html>\n"

@@ -17,6 +17,8 @@ refusal_words refusal.Down = codes ": the desk is down, it is sent to another on
 refusal_words refusal.NotThere = codes ": the desk is down, it is sent to another one"
 refusal_words refusal.NoSuchRound = codes ": the desk is down, it is sent to another one"
 refusal_words refusal.Foreign = codes ": the desk is of another hall"
+refusal_words refusal.HallDiffers =
+    codes ": the machines have other commands than one another, and take none"
 refusal_words refusal.NotAllowed =
     codes ": the desk does not take it, since this table has no key, or another one"
 
@@ -28,6 +30,9 @@ refusal_if (Some refused) id = if refused.0 == id then Some refused.1 else None
 -- why items wait that no desk refused, as the desks are doing
 abbrev pub delay_words : Doing → List ℕ
 delay_words (doing.Locked wrong) = codes ": this table has no key, or another one than the desks"
+delay_words (doing.OtherHall desk) = codes ": a machine that answers is of another hall"
+delay_words (doing.Differs difference) =
+    codes ": the machines have other commands than one another"
 delay_words doing.Few = codes ": less than a majority of the machines answers"
 delay_words (doing.Silent milliseconds) =
     codes ": the machine that this table asks does not answer"

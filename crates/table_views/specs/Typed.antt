@@ -1,27 +1,11 @@
 -- A card as it was typed.
-use Rattle.std.specs.Prelude.{ℕ, zero, suc, ◌*◌, List, [], ◌∷◌, ◌++◌, codes, decimal}
+use Rattle.std.specs.Prelude.{ℕ, suc, List, [], ◌∷◌, ◌++◌, codes}
 use Rattle.std.specs.Prelude.{Option, None, Some}
-use Rattle.attempts.specs.Texts.{multi_text, time_text}
 use Rattle.attempts.specs.declared.Unit.{Unit as Measure}
 use Rattle.attempts.specs.declared.Value.{Value}
-use Rattle.cube.specs.notation.Notation.{spelling as moves_text}
-use Rattle.markup.specs.Pieces.{joined}
 use Rattle.card_forms.specs.Readings.{shown_at}
+use Rattle.scorecard.specs.Typed.{entered_typed}
 use Rattle.texts.specs.declared.command.Entered.{Entered}
-use Rattle.texts.specs.declared.command.Entered.TheVariants as entered
-
--- the seconds that penalties add, after a plus
-abbrev pub penalty_text : ℕ → List ℕ
-penalty_text zero = []
-penalty_text (suc n) = joined (codes "+" ∷ decimal (2 * suc n) ∷ [])
-
--- what is entered for an attempt, as a scoretaker may type it
-abbrev pub entered_typed : Entered → List ℕ
-entered_typed (entered.Time time penalties) = time_text time ++ penalty_text penalties
-entered_typed (entered.Solution moves) = moves_text moves
-entered_typed (entered.Multi solved attempted seconds) = multi_text solved attempted seconds
-entered_typed entered.Dnf = codes "DNF"
-entered_typed entered.Dns = codes "DNS"
 
 -- what a card says of the attempt at a place, counted from 0; where it stays, what stood
 abbrev pub outcome_typed : Measure → List Value → ℕ → Option Entered → List ℕ

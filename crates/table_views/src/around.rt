@@ -33,4 +33,6 @@ pub struct Around<'a> {
     pub recent: &'a [Recent<'a>],
     /// The milliseconds of the clock by which the items say since when they wait.
     pub now: u64,
+    /// Whether the page stands after the form of an item that waits, since less than two seconds.
+    pub waits: bool,
 }

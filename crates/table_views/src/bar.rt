@@ -3,6 +3,7 @@
 ghost use Rattle.std.specs.Prelude.{◌≡◌, ◌++◌, OnOk, flat_map};
 ghost use Rattle.table_views.specs.Bar.{and_machine, away_words, bar, bar_end, bar_of, bar_start};
 ghost use Rattle.table_views.specs.Bar.{calm_of, class_of, doing_of, few_or, few_words, key_by};
+ghost use Rattle.table_views.specs.Bar.{differs_or, differs_words, other_hall_or, other_hall_words};
 ghost use Rattle.table_views.specs.Bar.{key_trouble, key_words, look_at, look_words, refused_key};
 ghost use Rattle.table_views.specs.Bar.{silent_words, slow_or, too_long, undecided_words};
 ghost use Rattle.table_views.specs.Bar.{well_words, words_of};
@@ -12,16 +13,23 @@ use crate::desks::Desks;
 use acceptor::NoMemory;
 use markup::{Piece, push_pieces};
 use sealed::ends::CallTrouble;
-use wire::ClientRefusal;
+use wire::{ClientRefusal, Difference};
 
 /// The milliseconds after which a bar says that something takes long.
 const PATIENCE: u64 = 2_000;
+
+/// What is to be done where machines differ.
+const STOP: &[u8] = b". Enter nothing more, keep the cards, and call whoever runs the machines.";
 
 /// How the desks are doing, or what is worst of it.
 #[derive(Clone, Copy)]
 pub(crate) enum Doing {
     /// Nothing can be entered here: something is wrong with the table's key.
     Locked(CallTrouble),
+    /// Nothing can be entered here: this desk is of another hall.
+    OtherHall(u8),
+    /// A machine has other commands than another one, or fewer than it had.
+    Differs(Difference),
     /// No majority of the machines answers.
     Few,
     /// The machine that is followed has not answered for so many milliseconds.
@@ -55,6 +63,7 @@ fn refused_key(why: ClientRefusal) -> Option<CallTrouble>
     match why {
         ClientRefusal::NotAllowed => Some(CallTrouble::HasKey),
         ClientRefusal::Busy
+        | ClientRefusal::HallDiffers
         | ClientRefusal::LogFull
         | ClientRefusal::BallotsSpent
         | ClientRefusal::NoMemory
@@ -89,13 +98,18 @@ fn calm_of(desks: &Desks) -> Doing
     }
 }
 
-/// How the desks are doing: that the table's key is wrong; else that no majority of them answers;
-/// else that the one that is followed does not, or that nothing is decided; else which are away.
+/// How the desks are doing: that the table's key is wrong; else that one is of another hall; else
+/// that one differs from others; else that no majority of them answers; else that the one that is
+/// followed does not, or that nothing is decided; else which are away.
 pub(crate) fn doing_of(desks: &Desks) -> Doing
     ensures { result ≡ doing_of desks.now }
 {
     if let Some(trouble) = key_trouble(desks) {
         Doing::Locked(trouble)
+    } else if let Some(desk) = desks.of_other_hall {
+        Doing::OtherHall(desk)
+    } else if let Some(difference) = desks.differs {
+        Doing::Differs(difference)
     } else if desks.too_few() {
         Doing::Few
     } else if let Some(milliseconds) = too_long(desks.silent) {
@@ -113,7 +127,12 @@ fn class_of(doing: Doing) -> &'static [u8]
     ensures { result.now ≡ class_of doing }
 {
     match doing {
-        Doing::Locked(_) | Doing::Few | Doing::Silent(_) | Doing::Undecided(_) => b"lost",
+        Doing::Locked(_)
+        | Doing::OtherHall(_)
+        | Doing::Differs(_)
+        | Doing::Few
+        | Doing::Silent(_)
+        | Doing::Undecided(_) => b"lost",
         Doing::Away | Doing::Asked => b"away",
         Doing::Well => b"well",
     }
@@ -135,6 +154,20 @@ fn key_words(trouble: CallTrouble) -> &'static [u8]
             key."
         }
     }
+}
+
+/// Adds which machine is of another hall, and what is to be done.
+fn push_other_hall(out: &mut Vec<u8>, desk: u8) -> Result<(), NoMemory>
+    ensures { OnOk result (out.new.items ≡ out.old.items ++ other_hall_words desk) }
+{
+    push_pieces(
+        out,
+        &[
+            Piece::Html(b"This table cannot enter: machine "),
+            Piece::Number(desk as u64),
+            Piece::Html(b" is of another hall. Start this table with the file of that hall."),
+        ],
+    )
 }
 
 /// Adds how many machines are away.
@@ -246,12 +279,43 @@ fn push_well(out: &mut Vec<u8>, machines: usize) -> Result<(), NoMemory>
     )
 }
 
+/// Adds which machine differs, and what is to be done.
+fn push_differs(out: &mut Vec<u8>, difference: Difference) -> Result<(), NoMemory>
+    ensures { OnOk result (out.new.items ≡ out.old.items ++ differs_words difference) }
+{
+    match difference {
+        Difference::OtherEntry { desk, position } => push_pieces(
+            out,
+            &[
+                Piece::Html(b"Machine "),
+                Piece::Number(desk as u64),
+                Piece::Html(b" has another command at "),
+                Piece::Number(position as u64),
+                Piece::Html(STOP),
+            ],
+        ),
+        Difference::Shorter { desk, length } => push_pieces(
+            out,
+            &[
+                Piece::Html(b"Machine "),
+                Piece::Number(desk as u64),
+                Piece::Html(b" has "),
+                Piece::Number(length as u64),
+                Piece::Html(b" commands and had more"),
+                Piece::Html(STOP),
+            ],
+        ),
+    }
+}
+
 /// Adds how the desks are doing, and what is to be done.
 fn push_words(out: &mut Vec<u8>, desks: &Desks, doing: Doing) -> Result<(), NoMemory>
     ensures { OnOk result (out.new.items ≡ out.old.items ++ words_of desks.now doing) }
 {
     match doing {
         Doing::Locked(trouble) => out.extend_from_slice(key_words(trouble)),
+        Doing::OtherHall(desk) => push_other_hall(out, desk),
+        Doing::Differs(difference) => push_differs(out, difference),
         Doing::Few => push_few(out, &desks.away),
         Doing::Silent(milliseconds) => push_silent(out, desks.followed, milliseconds),
         Doing::Undecided(milliseconds) => push_undecided(out, milliseconds),

@@ -4,7 +4,7 @@ ghost use Rattle.std.specs.Prelude.{◌≡◌};
 ghost use Rattle.table_views.specs.Desks.{holding, holds, is_everywhere, too_few};
 
 use sealed::ends::CallTrouble;
-use wire::ClientRefusal;
+use wire::{ClientRefusal, Difference};
 
 /// What is known of the desks of a hall.
 #[derive(Drop)]
@@ -25,6 +25,10 @@ pub struct Desks {
     pub away: Vec<u8>,
     /// What is wrong with the table's key at the desk that was called last, where it is known.
     pub trouble: Option<CallTrouble>,
+    /// The first desk that says that it is of another hall, 1 to 5.
+    pub of_other_hall: Option<u8>,
+    /// How a desk differs from others, if one has said so.
+    pub differs: Option<Difference>,
 }
 
 /// Whether a log of this length has the entries before a position.
@@ -47,6 +51,7 @@ impl Desks {
             .filter(|length| holds(**length, position))
             .count()
     }
+
     /// Whether all desks of the hall are known to have the first `position` entries in their logs.
     pub fn is_everywhere(&self, position: u64) -> bool
         ensures { result ≡ is_everywhere self.now position }

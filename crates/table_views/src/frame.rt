@@ -1,10 +1,10 @@
 //! The frame of every page.
 
 ghost use Rattle.std.specs.Prelude.{◌≡◌, ◌++◌, OnOk};
-ghost use Rattle.table_views.specs.Frame.{bottom, head, top};
+ghost use Rattle.table_views.specs.Frame.{bottom, head, refresh, top};
 
+use crate::around::Around;
 use crate::bar::push_bar;
-use crate::desks::Desks;
 use acceptor::NoMemory;
 use markup::{Piece, push_pieces};
 
@@ -16,8 +16,10 @@ const HEAD: &[u8] = b"\
 
 const HEAD_END: &[u8] = b"\
 </title><link rel=\"stylesheet\" href=\"/table.css\">
-<script src=\"/table.js\" defer></script></head>
-";
+<script src=\"/table.js\" defer></script>";
+
+/// Without scripts the page asks for itself again after a second.
+const REFRESH: &[u8] = b"<noscript><meta http-equiv=\"refresh\" content=\"1\"></noscript>";
 
 const LINKS: &[u8] = b"\
 <nav><a href=\"/\">all rounds</a>
@@ -27,9 +29,22 @@ const LINKS: &[u8] = b"\
 
 const BOTTOM: &[u8] = b"</main></body></html>\n";
 
+/// What the head of a page has besides, where what was sent waits.
+#[tactic(auto, unfolding(crate::specs::Frame::refresh))]
+fn refresh(waits: bool) -> &'static [u8]
+    ensures { result.now ≡ refresh waits }
+{
+    if waits { REFRESH } else { b"" }
+}
+
 #[tactic(auto, unfolding(crate::specs::Frame::head_start, crate::specs::Frame::head_end))]
-fn push_head<'a>(out: &mut Vec<u8>, class: &'a [u8], title: &'a [u8]) -> Result<(), NoMemory>
-    ensures { OnOk result (out.new.items ≡ out.old.items ++ head class.now title.now) }
+fn push_head<'a>(
+    out: &mut Vec<u8>,
+    class: &'a [u8],
+    title: &'a [u8],
+    waits: bool,
+) -> Result<(), NoMemory>
+    ensures { OnOk result (out.new.items ≡ out.old.items ++ head class.now title.now waits) }
 {
     push_pieces(
         out,
@@ -37,7 +52,8 @@ fn push_head<'a>(out: &mut Vec<u8>, class: &'a [u8], title: &'a [u8]) -> Result<
             Piece::Html(HEAD),
             Piece::Text(title),
             Piece::Html(HEAD_END),
-            Piece::Html(b"<body class=\""),
+            Piece::Html(refresh(waits)),
+            Piece::Html(b"</head>\n<body class=\""),
             Piece::Html(class),
             Piece::Html(b"\">\n"),
         ],
@@ -49,17 +65,16 @@ fn push_head<'a>(out: &mut Vec<u8>, class: &'a [u8], title: &'a [u8]) -> Result<
 #[tactic(auto, unfolding(crate::specs::Frame::links))]
 pub fn push_top<'a>(
     out: &mut Vec<u8>,
-    desks: &Desks,
-    position: u32,
+    around: &Around<'_>,
     class: &'a [u8],
     title: &'a [u8],
 ) -> Result<(), NoMemory>
     ensures { OnOk result (out.new.items ≡ out.old.items
-        ++ top class.now title.now desks.now position) }
+        ++ top class.now title.now around.entry.now) }
 {
-    push_head(out, class, title)?;
+    push_head(out, class, title, around.waits)?;
     out.extend_from_slice(LINKS)?;
-    push_bar(out, desks, position)?;
+    push_bar(out, around.desks, around.mirror.len())?;
     out.extend_from_slice(b"<main>\n")
 }
 

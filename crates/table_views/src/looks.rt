@@ -151,10 +151,11 @@ const clock = (n) => (n < 6000 ? Math.floor(n / 100)
   : Math.floor(n / 6000) + ':' + two(Math.floor(n / 100) % 60)) + '.' + two(n % 100);
 function readTime(text) {
   const [, time, mark = 'none'] = /^([^+]*)(?:[+](.*))?$/.exec(text);
-  const penalty = { none: 0, '': 1, 2: 1, '+': 2, 4: 2 }[mark], filled = /^[0-9]{1,7}$/.test(time);
+  const even = /^([2468]|1[02468])$/.test(mark), filled = /^[0-9]{1,7}$/.test(time);
+  const penalty = even ? mark / 2 : { none: 0, '': 1, '+': 2 }[mark];
   const parts = filled ? /^(.*)(..)(..)$/.exec(time.padStart(5, '0'))
     : /^(?:([0-9]{1,3})[:.,](?=..[.,]))?([0-9]{1,2})[.,]([0-9]{2})$/.exec(time);
-  if (penalty === undefined) return { wrong: 'a penalty is +2 or +4' };
+  if (penalty === undefined) return { wrong: 'penalties are +2, +4 to +18' };
   if (!parts) return { wrong: 'a time is like 1043, 10.43 or 1:02.33' };
   const [minutes, seconds, rest] = parts.slice(1).map((part) => Number(part || 0));
   if (seconds > 59 && (filled ? minutes > 0 : parts[1])) return { wrong: 'seconds are below 60' };

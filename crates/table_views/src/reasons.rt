@@ -20,6 +20,9 @@ fn refusal_words(why: ClientRefusal) -> &'static [u8]
             b": the desk does not take it, since this table has no key, or another one"
         }
         ClientRefusal::Foreign => b": the desk is of another hall",
+        ClientRefusal::HallDiffers => {
+            b": the machines have other commands than one another, and take none"
+        }
         ClientRefusal::BallotsSpent
         | ClientRefusal::NoMemory
         | ClientRefusal::Down
@@ -44,6 +47,8 @@ fn delay_words(doing: Doing) -> &'static [u8]
 {
     match doing {
         Doing::Locked(_) => b": this table has no key, or another one than the desks",
+        Doing::OtherHall(_) => b": a machine that answers is of another hall",
+        Doing::Differs(_) => b": the machines have other commands than one another",
         Doing::Few => b": less than a majority of the machines answers",
         Doing::Silent(_) => b": the machine that this table asks does not answer",
         Doing::Undecided(_) => b": the machines have not decided it yet",

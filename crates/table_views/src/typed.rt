@@ -4,8 +4,8 @@ ghost use Rattle.std.specs.Prelude.{◌≡◌, ◌++◌, OnOk};
 ghost use Rattle.attempts.specs.Texts.{multi_text, time_text};
 ghost use Rattle.cube.specs.notation.Notation.{spelling as moves_text};
 ghost use Rattle.card_forms.specs.Readings.{shown_at};
-ghost use Rattle.table_views.specs.Typed.{entered_typed, outcome_span, outcome_typed};
-ghost use Rattle.table_views.specs.Typed.{penalty_text, span_start, typed_from};
+ghost use Rattle.scorecard.specs.Typed.{entered_typed, penalty_text};
+ghost use Rattle.table_views.specs.Typed.{outcome_span, outcome_typed, span_start, typed_from};
 
 use acceptor::NoMemory;
 use attempts::{Unit, Value, push_two_digits};

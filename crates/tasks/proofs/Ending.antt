@@ -1,5 +1,5 @@
 -- A task that asks a desk ends.
-use Rattle.std.proofs.Common.{◌≡◌, ℕ, List, Option, inl, inr, refl, string_bytes}
+use Rattle.std.proofs.Common.{◌≡◌, Bool, ℕ, List, Option, inl, inr, refl, string_bytes}
 use Rattle.addressing.specs.Resolving.{Resolves}
 use Rattle.addressing.specs.declared.resolving.DeskAddress.{DeskAddress}
 use Rattle.arguments.specs.declared.places.Place.{Place}
@@ -17,26 +17,27 @@ missed p patience status r Left Does misses left = inl (misses, left)
 -- one was, and this was done with it
 pub done : (p : Place) (patience status : ℕ) (r : Reach) (Left : Type 0)
     (Does : Receiver → Contact → Told → Type 0) (found : DeskAddress) (there : Contact)
-    (mid : Option (List Dialed)) (told : Option (List ℕ))
+    (mid : Option (List Dialed)) (told : Option (List ℕ)) (awaits : Bool)
     → Resolves p patience found (looking r mid told)
     → there.address.now ≡ string_bytes found.address → there.patience ≡ patience
     → there.key ≡ found.key
-    → Does (record { hall = found.hall; desk = found.desk }) there
+    → Does (record { hall = found.hall; desk = found.desk; awaits = awaits }) there
     (record { place = place_of there; old = mid; new = r.dialed_then })
     → EndsAt p patience status r Left Does
-done p patience status r Left Does found there mid told resolves address same under does = inr (
-  record { hall = found.hall; desk = found.desk },
-  there,
-  mid,
-  record {
-    found = found;
-    told = told;
-    resolves = resolves;
-    hall = refl;
-    desk = refl;
-    address = address;
-    patience_is = same;
-    key = under;
-  },
-  does,
-)
+done p patience status r Left Does found there mid told awaits resolves address same under does =
+    inr (
+      record { hall = found.hall; desk = found.desk; awaits = awaits },
+      there,
+      mid,
+      record {
+        found = found;
+        told = told;
+        resolves = resolves;
+        hall = refl;
+        desk = refl;
+        address = address;
+        patience_is = same;
+        key = under;
+      },
+      does,
+    )

@@ -3,7 +3,8 @@ use Rattle.std.specs.Prelude.{◌≡◌, ◌⊎◌, ℕ, Bool, List, Option}
 use Rattle.std.specs.Io.KnownBytes.{Keeps}
 use Rattle.arguments.specs.declared.places.Place.{Place}
 use Rattle.arguments.specs.declared.task.Lines.{Lines}
-use Rattle.batch.specs.Dialing.{Told}
+use Rattle.batch.specs.Dialing.{Dialed, Told}
+use Rattle.batch.specs.Probing.{KnowsAwait}
 use Rattle.batch.specs.declared.asking.Receiver.{Receiver}
 use Rattle.errands.specs.Entering.{EntersInput, EntersOne, FailsInput, FailsOne}
 use Rattle.errands.specs.Statuses.{status_of}
@@ -17,6 +18,13 @@ pub record Single : Type 0 where
   pub text : List ℕ
   pub waits : Bool
 
+-- the desk was asked whether it is to be asked by an Await, and after that this was done with it
+abbrev pub Probed : Receiver → Told → (Told → Type 0) → Type 0
+Probed one t Does =
+    (mid : Option (List Dialed))
+    × KnowsAwait (record { place = t.place; old = t.old; new = mid }) one.hall one.desk one.awaits
+    × Does (record { place = t.place; old = mid; new = t.new })
+
 -- it was entered and its answer printed, or that failed
 abbrev pub EndsOne : ℕ → Receiver → Single → Told → (old new : Option (List ℕ)) → Type 0
 EndsOne status one s t old new =
@@ -25,7 +33,8 @@ EndsOne status one s t old new =
 
 abbrev pub EndsEnter : Place → ℕ → Single → ℕ → Reach → (old new : Option (List ℕ)) → Type 0
 EndsEnter p patience single status r old new =
-    EndsAt p patience status r (Keeps old new) (λ one _ t. EndsOne status one single t old new)
+    EndsAt p patience status r (Keeps old new) (λ one _ t.
+    Probed one t (λ u. EndsOne status one single u old new))
 
 -- all of an input were entered, or not
 abbrev pub EndsInput : ℕ → Receiver → Lines → Sides → Told → Type 0
@@ -36,4 +45,4 @@ EndsInput status one lines s t =
 abbrev pub EndsLines : Place → ℕ → Lines → ℕ → Reach → Sides → Type 0
 EndsLines p patience lines status r s =
     EndsAt p patience status r (Keeps s.had s.left × Keeps s.old s.new)
-    (λ one _ t. EndsInput status one lines s t)
+    (λ one _ t. Probed one t (EndsInput status one lines s))

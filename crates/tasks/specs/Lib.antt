@@ -1,4 +1,5 @@
 pub mod Asking
+pub mod Begun
 pub mod Entering
 pub mod Places
 pub mod Services

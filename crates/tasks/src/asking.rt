@@ -89,7 +89,11 @@ pub fn newest_at<D: Dial, W: Write, F: Write>(
         key: found.key,
     };
     let (hall, desk) = (found.hall, found.desk);
-    let receiver = Receiver { hall, desk };
+    let receiver = Receiver {
+        hall,
+        desk,
+        awaits: false,
+    };
     match print_newest(rt.alloc(), dial, contact, receiver, sheet, writer) {
         Ok(()) => 0,
         Err(fault) => {
@@ -131,7 +135,11 @@ pub fn copy_log_at<D: Dial, W: Write, F: Write>(
         key: found.key,
     };
     let (hall, desk) = (found.hall, found.desk);
-    let receiver = Receiver { hall, desk };
+    let receiver = Receiver {
+        hall,
+        desk,
+        awaits: false,
+    };
     match print_log(rt.alloc(), dial, contact, receiver, from, writer) {
         Ok(()) => 0,
         Err(fault) => {

@@ -8,7 +8,7 @@ use crate::finding::found_at;
 use crate::reached::Reached;
 use crate::telling::tell_asked;
 use arguments::{Lines, Place};
-use batch::{Contact, Dial, Receiver};
+use batch::{Contact, Dial, Receiver, knows_await};
 use errands::{enter_all, enter_one};
 use explaining::About;
 use std::io::{IsTerminal, Read, Write};
@@ -41,9 +41,13 @@ pub fn enter_at<D: Dial, W: Write, F: Write>(
         key: found.key,
     };
     let (hall, desk) = (found.hall, found.desk);
-    let receiver = Receiver { hall, desk };
-    let mut reached = Reached::new(rt, place, found.key);
     let alloc = rt.alloc();
+    let receiver = Receiver {
+        hall,
+        desk,
+        awaits: knows_await(alloc, dial, contact, hall, desk),
+    };
+    let mut reached = Reached::new(rt, place, found.key);
     match enter_one(
         rt,
         alloc,
@@ -95,10 +99,14 @@ pub fn enter_lines_at<D: Dial, R: Read, W: Write, F: Write>(
         key: found.key,
     };
     let (hall, desk) = (found.hall, found.desk);
-    let receiver = Receiver { hall, desk };
+    let alloc = rt.alloc();
+    let receiver = Receiver {
+        hall,
+        desk,
+        awaits: knows_await(alloc, dial, contact, hall, desk),
+    };
     let mut reached = Reached::new(rt, place, found.key);
     let is_terminal = rt.stderr().is_terminal();
-    let alloc = rt.alloc();
     match enter_all(
         rt,
         alloc,

@@ -4,6 +4,7 @@
 #![tactic(auto)]
 
 mod asking;
+mod begun;
 mod entering;
 mod finding;
 mod reached;
@@ -12,6 +13,7 @@ mod standing;
 mod telling;
 
 pub use asking::{carry_at, copy_log_at, newest_at};
+pub use begun::may_make;
 pub use entering::{enter_at, enter_lines_at};
 pub use services::service_of;
 pub use standing::{Watching, addresses_of, status_at};

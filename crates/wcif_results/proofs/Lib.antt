@@ -6,6 +6,7 @@ pub mod Depths
 pub mod Texts
 pub mod FilledRounds
 pub mod MeetIds
+pub mod Naming
 pub mod Numerals
 pub mod ReadBack
 pub mod Short

@@ -2,7 +2,7 @@
 use Rattle.std.proofs.Common.{◌≡◌, refl, sym, ap, ◌∙◌, ℕ, ◌<◌, ◌≤◌, ◌^◌, ℤ, pos, List, [], ◌∷◌}
 use Rattle.std.proofs.Common.{◌++◌, zero, suc}
 use Rattle.std.proofs.Common.{length, map, flat_map, codes, arith, Option, Some, None, option_map}
-use Rattle.std.proofs.Common.{true, Bool, false, ◌||◌, cond, bytes_eq, subst, IfSome, find}
+use Rattle.std.proofs.Common.{true, Bool, false, ◌||◌, cond, bytes_eq, subst, IfSome, find, is_some}
 use Rattle.std.specs.Prelude.{option_to_list}
 use Rattle.std.specs.List.{list_any, AllByRecursion}
 use Rattle.std.specs.Fmt.{signed_decimal}
@@ -17,7 +17,8 @@ use Rattle.attempts.specs.declared.Unit.TheVariants as measure
 use Rattle.attempts.specs.Attempts.{IsInRangeOf}
 use Rattle.formats.specs.declared.events.Event.{Event}
 use Rattle.formats.specs.Results.{average_of, is_better}
-use Rattle.rounds.specs.Tables.{Entrant, Table, entrant, has_number, key, place, standings}
+use Rattle.rounds.specs.Tables.{Entrant, Table, entrant, has_number, is_attempted, key, place}
+use Rattle.rounds.specs.Tables.{standings}
 use Rattle.texts.specs.declared.command.Command.{Command}
 use Rattle.texts.specs.declared.command.Settings.{Settings}
 use Rattle.commands.specs.Accepted.{round_in, round_of}
@@ -26,7 +27,8 @@ use Rattle.commands.proofs.Sizes.{IsSmallEntrant, IsSmallRound, small_history}
 use Rattle.wcif.specs.Rounds.{round_id}
 use Rattle.wcif_results.specs.Encoding.{attempt_result, best_result, average_result}
 use Rattle.wcif_results.specs.Faults.{file_rounds, items_under, faults_of, round_faults}
-use Rattle.wcif_results.specs.Faults.{missing_faults, is_among, registrants, entrant_faults, listed}
+use Rattle.wcif_results.specs.Faults.{entrants_faults, held, listed, round_with_id}
+use Rattle.wcif_results.specs.declared.fault.Fault.{Fault}
 use Rattle.wcif_results.specs.declared.fault.Fault.TheVariants as fault
 use Rattle.wcif_results.specs.Filled.{id_of, filled, filled_round}
 use Rattle.wcif_results.specs.Laws.{Result, read_result, sheet_result, sheet_result_of, ranking_of}
@@ -135,33 +137,49 @@ nothing_back : {X : Type 0} (xs ys : List X) → xs ++ ys ≡ [] → ys ≡ []
 nothing_back [] ys h = h
 nothing_back (x ∷ xs) ys h = cc
 
-abbrev HasPlace : List (List ℕ) → MeetRound → Type 0
-HasPlace ids r = is_among ids r.id ≡ true
+-- the file has the round, at least where it has a result
+abbrev HasPlace : List Json → MeetRound → Type 0
+HasPlace es r = is_attempted r.table 1 ≡ true → list_any (λ e. bytes_eq (id_of e) r.id) es ≡ true
 
-not_missing : (ids : List (List ℕ)) (r : MeetRound) → missing_faults ids r ≡ [] → HasPlace ids r
-not_missing ids r h = go (is_among ids r.id) refl h
+found_there : (id : List ℕ) (es : List Json) → is_some (round_with_id id (map held es)) ≡ true
+    → list_any (λ e. bytes_eq (id_of e) id) es ≡ true
+found_there id [] h = cc
+found_there id (e ∷ es) h = go (bytes_eq (id_of e) id) h (found_there id es)
   where
-    go : (b : Bool) → is_among ids r.id ≡ b
-        → cond b [] (fault.NoRound r.event r.number ∷ []) ≡ [] → is_among ids r.id ≡ true
-    go true is h = is
-    go false is h = cc
+    go : (b : Bool) → is_some (cond b (Some (held e)) (round_with_id id (map held es))) ≡ true
+        → (is_some (round_with_id id (map held es)) ≡ true
+        → list_any (λ x. bytes_eq (id_of x) id) es ≡ true)
+        → (b || list_any (λ x. bytes_eq (id_of x) id) es) ≡ true
+    go true h later = refl
+    go false h later = later h
 
-have_places : (ids numbers : List (List ℕ)) (rs : List MeetRound)
-    → flat_map (round_faults ids numbers) rs ≡ [] → AllByRecursion (HasPlace ids) rs
-have_places ids numbers [] h = tt
-have_places ids numbers (r ∷ rs) h =
-    let here : round_faults ids numbers r ≡ [] =
-    nothing_front (round_faults ids numbers r) (flat_map (round_faults ids numbers) rs) h in (
-      not_missing ids r (nothing_front (missing_faults ids r)
-          (flat_map (entrant_faults numbers r) (standings r.table)) here),
-      have_places ids numbers rs
-          (nothing_back (round_faults ids numbers r) (flat_map (round_faults ids numbers) rs) h),
+not_missing : (cs : List Command) (es ps : List Json) (r : MeetRound)
+    → round_faults cs (map held es) ps r ≡ [] → HasPlace es r
+not_missing cs es ps r h done =
+    found_there r.id es
+    (go (is_some (round_with_id r.id (map held es))) (is_attempted r.table 1) done h)
+  where
+    go : (there some : Bool) → some ≡ true
+        → cond there (entrants_faults cs ps r)
+        (cond some (fault.NoRound r.event r.number ∷ entrants_faults cs ps r) []) ≡ []
+        → there ≡ true
+    go true some is h = refl
+    go false true is h = cc
+    go false false is h = cc
+
+have_places : (cs : List Command) (es ps : List Json) (rs : List MeetRound)
+    → flat_map (round_faults cs (map held es) ps) rs ≡ [] → AllByRecursion (HasPlace es) rs
+have_places cs es ps [] h = tt
+have_places cs es ps (r ∷ rs) h =
+    let faults : MeetRound → List Fault = round_faults cs (map held es) ps in (
+      not_missing cs es ps r (nothing_front (faults r) (flat_map faults rs) h),
+      have_places cs es ps rs (nothing_back (faults r) (flat_map faults rs) h),
     )
 
-places : (rs : List MeetRound) (d : Json) → faults_of rs d ≡ []
-    → AllByRecursion (HasPlace (map id_of (file_rounds d))) rs
+places : (cs : List Command) (rs : List MeetRound) (d : Json) → faults_of cs rs d ≡ []
+    → AllByRecursion (HasPlace (file_rounds d)) rs
 unfolding faults_of
-places rs d h = have_places (map id_of (file_rounds d)) (registrants d) rs h
+places cs rs d h = have_places cs (file_rounds d) (items_under (codes "persons") d) rs h
 
 found_holds : {X : Type 0} (P : X → Type 0) (p : X → Bool) (xs : List X) (x : X)
     → AllByRecursion P xs → find p xs ≡ Some x → P x × (p x ≡ true)
@@ -178,7 +196,7 @@ found_holds {X} P p (y ∷ ys) x all h = go (p y) refl h (found_holds P p ys x a
 -- The file with the results
 
 any_filled : (rs : List MeetRound) (id : List ℕ) (ds : List Json)
-    → is_among (map id_of ds) id ≡ true
+    → list_any (λ e. bytes_eq (id_of e) id) ds ≡ true
     → list_any (λ e. bytes_eq (id_of e) id) (map (filled_round rs) ds) ≡ true
 any_filled rs id [] h = h
 any_filled rs id (d ∷ ds) h =
@@ -186,8 +204,8 @@ any_filled rs id (d ∷ ds) h =
     (id_filled rs d)
     ∙ go (bytes_eq (id_of d) id) h (any_filled rs id ds)
   where
-    go : (b : Bool) → (b || is_among (map id_of ds) id) ≡ true
-        → (is_among (map id_of ds) id ≡ true
+    go : (b : Bool) → (b || list_any (λ e. bytes_eq (id_of e) id) ds) ≡ true
+        → (list_any (λ e. bytes_eq (id_of e) id) ds ≡ true
         → list_any (λ e. bytes_eq (id_of e) id) (map (filled_round rs) ds) ≡ true)
         → (b || list_any (λ e. bytes_eq (id_of e) id) (map (filled_round rs) ds)) ≡ true
     go true h later = refl
@@ -224,23 +242,27 @@ results_read_back entries bytes text exported event number round opened =
     subst (λ o. IfSome o (IsSmallRound number)) opened ((small_history entries).rounds event number)
     in
     let it = its_round cs event number round low small.last opened in
-    let all = places (meet_rounds cs) d exported.2 in
-    let passes = found_holds (HasPlace (map id_of (file_rounds d)))
+    let all = places cs (meet_rounds cs) d exported.2 in
+    let passes = found_holds (HasPlace (file_rounds d))
     (λ r. bytes_eq r.id (round_id event number)) (meet_rounds cs) it.round all it.named in
     let same_id : it.round.id ≡ round_id event number =
     (bytes_eq-Decides it.round.id (round_id event number)).0 passes.1 in
     let read : map read_result (results_list it.round.table) ≡ sheet_results round.1 =
     ap (λ t. map read_result (results_list t)) it.table
     ∙ all_read round.1 small.few small.entrants (standings round.1) in
-    let there : is_among (map id_of (file_rounds d)) (round_id event number) ≡ true =
-    sym (ap (is_among (map id_of (file_rounds d))) same_id) ∙ passes.0 in
+    let there : is_attempted round.1 1 ≡ true
+    → list_any (λ e. bytes_eq (id_of e) (round_id event number)) (file_rounds d) ≡ true =
+    λ (some : is_attempted round.1 1 ≡ true).
+    sym (ap (λ id. list_any (λ e. bytes_eq (id_of e) id) (file_rounds d)) same_id)
+    ∙ passes.0 (ap (λ t. is_attempted t 1) it.table ∙ some) in
     let rounds = rounds_filled (meet_rounds cs) d in (
       filled cs d,
       exported.3.reads_back,
       record {
         there =
+            λ (some : is_attempted round.1 1 ≡ true).
             ap (list_any (λ e. bytes_eq (id_of e) (round_id event number))) rounds
-            ∙ any_filled (meet_rounds cs) (round_id event number) (file_rounds d) there;
+            ∙ any_filled (meet_rounds cs) (round_id event number) (file_rounds d) (there some);
         results =
             subst (AllByRecursion (HasResults round.1 (round_id event number))) (sym rounds)
             (have_results (meet_rounds cs) it.round round.1 (round_id event number)

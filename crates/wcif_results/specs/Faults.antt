@@ -1,17 +1,19 @@
--- What of a meet a competition's file has no place for: a round that it lacks, and an entrant whose
--- number is no `registrantId` of its accepted persons.
+-- What of a meet a competition's file has no place for: a round with a result that it lacks, and an
+-- entrant who is none of its accepted persons, by his number or by each name that he was given.
 use Rattle.std.specs.Prelude.{ℕ, if◌then◌else◌, List, [], ◌∷◌, ◌++◌, map, flat_map, codes, decimal}
-use Rattle.std.specs.Prelude.{bytes_eq, Bool, unwrap_or}
-use Rattle.std.specs.List.{list_any}
+use Rattle.std.specs.Prelude.{bytes_eq, Bool, true, false, ◌&&◌, ◌||◌, unwrap_or, find, is_some}
+use Rattle.std.specs.Prelude.{Option, None, Some}
 use Rattle.std.specs.Option.{option_and_then, option_map}
 use Rattle.json.specs.Json.{Json, Items, no_items, item}
 use Rattle.json.specs.Find.{get, as_array, as_number, as_str}
-use Rattle.rounds.specs.Tables.{standings}
+use Rattle.commands.specs.Accepted.{name_of}
+use Rattle.rounds.specs.Tables.{is_attempted, standings}
 use Rattle.texts.specs.declared.command.Command.{Command}
 use Rattle.wcif_results.specs.declared.fault.Fault.{Fault}
 use Rattle.wcif_results.specs.declared.fault.Fault.TheVariants as fault
-use Rattle.wcif_results.specs.Filled.{id_of}
+use Rattle.wcif_results.specs.Filled.{id_of, text_under}
 use Rattle.wcif_results.specs.MeetRounds.{MeetRound, meet_rounds}
+use Rattle.wcif_results.specs.Names.{is_called, names_given}
 
 abbrev pub listed : Items → List Json
 listed no_items = []
@@ -25,9 +27,13 @@ items_under name d = unwrap_or (option_map listed (option_and_then as_array (get
 unfoldable pub file_rounds : Json → List Json
 file_rounds d = flat_map (items_under (codes "rounds")) (items_under (codes "events") d)
 
--- a text under a name; the empty text where there is none
-abbrev pub text_under : List ℕ → Json → List ℕ
-text_under name d = unwrap_or (option_and_then as_str (get name d)) []
+-- the id and the format of a round of the file
+abbrev pub held : Json → List ℕ × List ℕ
+held e = (id_of e, text_under (codes "format") e)
+
+-- the first of these rounds with an id
+abbrev pub round_with_id : List ℕ → List (List ℕ × List ℕ) → Option (List ℕ × List ℕ)
+round_with_id id es = find (λ e. bytes_eq e.0 id) es
 
 -- the status of a person's registration; the empty text where there is none
 abbrev pub status_of : Json → List ℕ
@@ -40,36 +46,55 @@ status_of p =
 unfoldable pub is_accepted : Json → Bool
 is_accepted p = bytes_eq (status_of p) (codes "accepted")
 
+-- the number of a person as the file spells it; the empty text where there is none
 abbrev pub number_of : Json → List ℕ
 number_of p = unwrap_or (option_and_then as_number (get (codes "registrantId") p)) []
 
--- the number of a person as the file spells it; the empty text where there is none, or where the
--- person is not accepted
-abbrev pub registrant : Json → List ℕ
-registrant p = if is_accepted p then number_of p else []
+-- a person has a number, and is accepted where not all may be meant
+abbrev pub is_numbered : Bool → List ℕ → Json → Bool
+is_numbered all number p = bytes_eq (number_of p) number && (all || is_accepted p)
 
-unfoldable pub registrants : Json → List (List ℕ)
-registrants d = map registrant (items_under (codes "persons") d)
+-- the first of the persons with a number: of all, or of those who are accepted
+abbrev pub person_with : Bool → List ℕ → List Json → Option Json
+person_with all number ps = find (is_numbered all number) ps
 
--- a text is one of these
-abbrev pub is_among : List (List ℕ) → List ℕ → Bool
-is_among texts text = list_any (λ other. bytes_eq other text) texts
+-- the name of a number in the meet
+abbrev pub name_here : List Command → ℕ → List ℕ
+name_here cs n = unwrap_or (name_of cs n) []
 
-abbrev pub entrant_faults : List (List ℕ) → MeetRound → ℕ → List Fault
-entrant_faults numbers r n =
-    if is_among numbers (decimal n) then [] else fault.NoPerson r.event r.number n ∷ []
+-- of an entrant, given the accepted person with his number, and else any person with it
+abbrev pub person_faults : List Command → MeetRound → ℕ → Option Json → Option Json → List Fault
+person_faults cs r n (Some p) other =
+    if is_called (names_given cs) n p then []
+    else fault.OtherName r.event r.number n (name_here cs n) (text_under (codes "name") p) ∷ []
+person_faults cs r n None (Some p) =
+    fault.NotAccepted r.event r.number n (name_here cs n) (text_under (codes "name") p) ∷ []
+person_faults cs r n None None = fault.NoPerson r.event r.number n (name_here cs n) ∷ []
 
--- of a round, given the ids of the file's rounds and the numbers of its persons
-abbrev pub missing_faults : List (List ℕ) → MeetRound → List Fault
-missing_faults ids r = if is_among ids r.id then [] else fault.NoRound r.event r.number ∷ []
+abbrev pub entrant_faults : List Command → List Json → MeetRound → ℕ → List Fault
+entrant_faults cs ps r n =
+    person_faults cs r n (person_with false (decimal n) ps) (person_with true (decimal n) ps)
 
-abbrev pub round_faults : List (List ℕ) → List (List ℕ) → MeetRound → List Fault
-round_faults ids numbers r =
-    missing_faults ids r ++ flat_map (entrant_faults numbers r) (standings r.table)
+-- of all entrants of a round
+abbrev pub entrants_faults : List Command → List Json → MeetRound → List Fault
+entrants_faults cs ps r = flat_map (entrant_faults cs ps r) (standings r.table)
 
-unfoldable pub faults_of : List MeetRound → Json → List Fault
-faults_of rs d = flat_map (round_faults (map id_of (file_rounds d)) (registrants d)) rs
+-- of a round, given whether the file has one with its id: where it has none, and the round has no
+-- result, it is left out
+abbrev pub placed_faults : List Command → List Json → MeetRound → Bool → List Fault
+placed_faults cs ps r there =
+    if there then entrants_faults cs ps r
+    else if is_attempted r.table 1
+    then fault.NoRound r.event r.number ∷ entrants_faults cs ps r
+    else []
+
+abbrev pub round_faults : List Command → List (List ℕ × List ℕ) → List Json → MeetRound → List Fault
+round_faults cs es ps r = placed_faults cs ps r (is_some (round_with_id r.id es))
+
+unfoldable pub faults_of : List Command → List MeetRound → Json → List Fault
+faults_of cs rs d =
+    flat_map (round_faults cs (map held (file_rounds d)) (items_under (codes "persons") d)) rs
 
 -- all that the file has no place for, by rounds
 abbrev pub faults : List Command → Json → List Fault
-faults cs d = faults_of (meet_rounds cs) d
+faults cs d = faults_of cs (meet_rounds cs) d

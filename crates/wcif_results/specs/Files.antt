@@ -11,6 +11,8 @@ use Rattle.wcif_results.specs.declared.exporting.ExportFault.TheVariants.{TooLon
 use Rattle.wcif_results.specs.declared.exporting.ExportFault.TheVariants.{Refused, NoMemory}
 use Rattle.wcif_results.specs.Faults.{faults}
 use Rattle.wcif_results.specs.Filled.{filled}
+use Rattle.wcif_results.specs.Notes.{notes}
+use Rattle.wcif_results.specs.declared.note.Note.{Note}
 
 -- the file is within the limits, and this is its JSON value
 pub record Holds (bytes : List ℕ) (d : Json) : Type 0 where
@@ -29,6 +31,11 @@ pub record IsTextOf (text : List ℕ) (d : Json) : Type 0 where
 abbrev pub Exports : List Command → List ℕ → List ℕ → Type 0
 Exports cs bytes text =
     (d : Json) × Holds bytes d × (faults cs d ≡ []) × IsTextOf text (filled cs d)
+
+-- what is told of it
+abbrev pub HasNotes : List Command → List ℕ → List Note → Type 0
+HasNotes cs bytes told =
+    (d : Json) × (document (without_mark bytes) ≡ Some d) × (told ≡ notes cs d)
 
 -- the fault says that the file is no JSON
 abbrev pub IsNotJson : ExportFault → Type 0

@@ -57,9 +57,13 @@ having name j (string s) = string s
 having name j (array js) = array js
 having name j (object ms) = object (members_having false name j ms)
 
+-- a text under a name; the empty text where there is none
+abbrev pub text_under : List ℕ → Json → List ℕ
+text_under name d = unwrap_or (option_and_then as_str (get name d)) []
+
 -- the id of a round; the empty text where it has none
 abbrev pub id_of : Json → List ℕ
-id_of d = unwrap_or (option_and_then as_str (get (codes "id") d)) []
+id_of d = text_under (codes "id") d
 
 abbrev pub round_with : Option MeetRound → Json → Json
 round_with None d = d

@@ -12,7 +12,7 @@ use Rattle.json.specs.Find.{get, as_number}
 use Rattle.attempts.specs.declared.Value.{Value}
 use Rattle.formats.specs.declared.events.Event.{Event}
 use Rattle.formats.specs.Results.{average_of}
-use Rattle.rounds.specs.Tables.{Entrant, Table, entrant, place, standings}
+use Rattle.rounds.specs.Tables.{Entrant, Table, entrant, is_attempted, place, standings}
 use Rattle.texts.specs.declared.command.Command.{Command}
 use Rattle.texts.specs.declared.command.Settings.{Settings}
 use Rattle.commands.specs.Accepted.{round_of}
@@ -89,9 +89,11 @@ abbrev pub HasResults : Table → List ℕ → Json → Type 0
 HasResults t id d =
     id_of d ≡ id → map read_result (items_under (codes "results") d) ≡ sheet_results t
 
--- a file has a round with this id, and its results are those of the table
+-- a file has a round with this id, at least where the table has a result, and its results are those
+-- of the table
 pub record HasRound (d : Json) (id : List ℕ) (t : Table) : Type 0 where
-  pub there : list_any (λ e. bytes_eq (id_of e) id) (file_rounds d) ≡ true
+  pub there :
+      is_attempted t 1 ≡ true → list_any (λ e. bytes_eq (id_of e) id) (file_rounds d) ≡ true
   pub results : AllByRecursion (HasResults t id) (file_rounds d)
 
 -- what an export writes of a round, read back, is what the sheet has, in the sheet's order: of

@@ -5,6 +5,8 @@ pub mod Filled
 pub mod Laws
 pub mod MeetRounds
 pub mod MultiBlind
+pub mod Names
+pub mod Notes
 pub mod Results
 pub mod Written
 pub mod model

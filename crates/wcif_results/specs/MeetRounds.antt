@@ -2,6 +2,7 @@
 use Rattle.std.specs.Prelude.{ℕ, List, [], ◌∷◌, flat_map, find, bytes_eq, option_to_list, Option}
 use Rattle.std.specs.Option.{option_map}
 use Rattle.formats.specs.declared.events.Event.{Event}
+use Rattle.formats.specs.declared.events.Format.{Format}
 use Rattle.formats.specs.Events.{all_events}
 use Rattle.rounds.specs.Tables.{Table}
 use Rattle.texts.specs.declared.command.Command.{Command}
@@ -14,10 +15,12 @@ pub record MeetRound : Type 0 where
   pub event : Event
   pub number : ℕ
   pub id : List ℕ
+  pub format : Format
   pub table : Table
 
 abbrev pub meet_round : Event → ℕ → Settings × Table → MeetRound
-meet_round e r x = record { event = e; number = r; id = round_id e r; table = x.1 }
+meet_round e r x =
+    record { event = e; number = r; id = round_id e r; format = x.0.format; table = x.1 }
 
 -- the round of an event with this number, where it was opened
 abbrev pub round_at : List Command → Event → ℕ → List MeetRound

@@ -4,7 +4,7 @@ ghost use Rattle.std.specs.Prelude.{◌≡◌, ◌≤◌, map, IfOk, IfErr};
 ghost use Rattle.json.specs.Tree.{HasNumbers, depth};
 ghost use Rattle.json.specs.Value.{value_view};
 ghost use Rattle.wcif.specs.Files.{without_mark, most_levels};
-ghost use Rattle.wcif_results.specs.Files.{IsTextOf, IsNotJson, Exports, ExportFails};
+ghost use Rattle.wcif_results.specs.Files.{IsTextOf, IsNotJson, Exports, ExportFails, HasNotes};
 ghost use Rattle.wcif_results.specs.Filled.{filled_file};
 ghost use Rattle.wcif_results.specs.model.Opened.{round_view};
 
@@ -12,9 +12,11 @@ use crate::fault::Fault;
 use crate::faults::faults_of;
 use crate::filling::write_file;
 use crate::meet_rounds::{MeetRound, meet_rounds};
+use crate::named_meet::NamedMeet;
 use crate::nesting::nests_within;
+use crate::note::Note;
+use crate::notes::notes_of;
 use attempts::NoMemory;
-use commands::Meet;
 use json::{Error, Scratch, Value, Writer};
 use std::alloc::{AllocError, Global};
 
@@ -23,6 +25,13 @@ const MOST_BYTES: usize = 67_108_864;
 
 /// How deep lists and objects may nest in a file.
 const MOST_LEVELS: u32 = 64;
+
+/// A competition's file with the results of a meet, and what is told of it.
+#[derive(Drop)]
+pub struct Exported {
+    pub text: Vec<u8>,
+    pub notes: Vec<Note>,
+}
 
 /// Why nothing is exported.
 #[derive(Drop)]
@@ -91,19 +100,21 @@ fn text_of(alloc: Global, rounds: &[MeetRound<'_>], file: &Value<'_>) -> Result<
 ///
 /// Every other member stands as it was and where it was: numbers are spelled as they were, texts
 /// have their characters, and members that come twice stay. White space goes, and the shortest
-/// escapes stand in texts. A byte-order mark at the front is dropped.
+/// escapes stand in texts. A byte-order mark at the front is dropped. A round that the file lacks
+/// is left out where it has no result.
 ///
 /// # Errors
 ///
 /// - `TooLong` where the file has more than 64 MiB.
 /// - `NotJson` where it is no JSON in UTF-8.
 /// - `TooDeep` where lists and objects nest more than 64 deep.
-/// - `Refused` where the file lacks a round of the meet, or an entrant's number is no
-///   `registrantId` of its accepted persons: every fault, by rounds in the order of the events'
-///   numbers.
+/// - `Refused` where the file lacks a round that has a result, an entrant's number is no
+///   `registrantId` of its accepted persons, or that person's name is none that the number was
+///   given: every fault, by rounds in the order of the events' numbers.
 /// - `NoMemory` where memory ran out.
-pub fn export(alloc: Global, bytes: &[u8], meet: &Meet) -> Result<Vec<u8>, ExportFault>
-    ensures ok { IfOk result (λ text. Exports meet.now.accepted bytes.now text.items) }
+pub fn export(alloc: Global, bytes: &[u8], meet: &NamedMeet) -> Result<Exported, ExportFault>
+    ensures ok { IfOk result (λ made. Exports meet.now.accepted bytes.now made.text.items) }
+    ensures told { IfOk result (λ made. HasNotes meet.now.accepted bytes.now made.notes.items) }
     ensures err { IfErr result (ExportFails meet.now.accepted bytes.now) }
 {
     if bytes.len() > MOST_BYTES {
@@ -118,10 +129,13 @@ pub fn export(alloc: Global, bytes: &[u8], meet: &Meet) -> Result<Vec<u8>, Expor
     if !nests_within(&file, MOST_LEVELS) {
         return Err(ExportFault::TooDeep);
     }
-    let rounds = meet_rounds(alloc, meet)?;
-    let faults = faults_of(alloc, &rounds, &file)?;
+    let rounds = meet_rounds(alloc, meet.meet())?;
+    let faults = faults_of(alloc, meet, &rounds, &file)?;
     if !faults.is_empty() {
         return Err(ExportFault::Refused(faults));
     }
-    Ok(text_of(alloc, &rounds, &file)?)
+    Ok(Exported {
+        text: text_of(alloc, &rounds, &file)?,
+        notes: notes_of(alloc, &rounds, &file)?,
+    })
 }

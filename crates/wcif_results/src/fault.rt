@@ -1,22 +1,81 @@
 //! What of a meet a competition's file has no place for.
 
+use crate::quoted::Quoted;
 use formats::Event;
-use thiserror::Error;
+use std::fmt;
 
-/// What of a meet a competition's file has no place for.
-#[derive(Clone, Copy, Debug, PartialEq, Eq, Error)]
+/// What of a meet a competition's file has no place for. `name` is the last that the number was
+/// given, and `other` that of the file's person.
+#[derive(Drop)]
 pub enum Fault {
-    /// The file has no round with the id.
-    #[error("{}-r{}: the file has no such round", .event.name(), .round)]
+    /// The file has no round with the id, and the round has a result.
     NoRound {
         event: Event,
         round: u8,
     },
-    /// No accepted person of the file has the number of an entrant as the `registrantId`.
-    #[error("{}-r{}: no accepted person has the registrantId {}", .event.name(), .round, .number)]
+    /// No person of the file has the number of an entrant as the `registrantId`.
     NoPerson {
         event: Event,
         round: u8,
         number: u16,
+        name: Quoted,
     },
+    /// The registration of the file's person with the number is not accepted.
+    NotAccepted {
+        event: Event,
+        round: u8,
+        number: u16,
+        name: Quoted,
+        other: Quoted,
+    },
+    /// The number was never given the name of the file's person.
+    OtherName {
+        event: Event,
+        round: u8,
+        number: u16,
+        name: Quoted,
+        other: Quoted,
+    },
+}
+
+impl fmt::Display for Fault {
+    fn fmt<W: fmt::Write>(&self, f: &mut fmt::Formatter<W>) -> fmt::Result {
+        match self {
+            Fault::NoRound { event, round } => {
+                write!(f, "{}-r{round}: the file has no such round", event.name())
+            }
+            Fault::NoPerson {
+                event,
+                round,
+                number,
+                name,
+            } => write!(
+                f,
+                "{}-r{round}: number {number} is {name}, and nobody in the file",
+                event.name()
+            ),
+            Fault::NotAccepted {
+                event,
+                round,
+                number,
+                name,
+                other,
+            } => write!(
+                f,
+                "{}-r{round}: number {number} is {name}, and in the file {other}, not accepted",
+                event.name()
+            ),
+            Fault::OtherName {
+                event,
+                round,
+                number,
+                name,
+                other,
+            } => write!(
+                f,
+                "{}-r{round}: number {number} is {name}, and in the file {other}",
+                event.name()
+            ),
+        }
+    }
 }

@@ -7,7 +7,7 @@ ghost use Rattle.wcif_results.specs.model.Opened.{round_view};
 
 use attempts::{NoMemory, push_decimal};
 use commands::Meet;
-use formats::Event;
+use formats::{Event, Format};
 use rounds::RoundTable;
 use std::alloc::Global;
 
@@ -20,6 +20,7 @@ pub(crate) struct MeetRound<'m> {
     pub(crate) event: Event,
     pub(crate) number: u8,
     pub(crate) id: Vec<u8>,
+    pub(crate) format: Format,
     pub(crate) table: &'m RoundTable,
 }
 
@@ -48,11 +49,15 @@ fn push_round<'m>(
     let Some(table) = meet.round(event, number) else {
         return Ok(());
     };
+    let Some(settings) = meet.settings(event, number) else {
+        return Ok(());
+    };
     let id = round_id(alloc, event, number)?;
     rounds.push(MeetRound {
         event,
         number,
         id,
+        format: settings.format,
         table,
     })?;
     Ok(())

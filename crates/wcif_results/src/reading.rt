@@ -2,16 +2,17 @@
 
 ghost use Rattle.std.specs.Prelude.{◌≡◌, ◌++◌, map, IfOk, OnOk, codes, option_map, unwrap_or, []};
 ghost use Rattle.json.specs.Value.{value_view};
-ghost use Rattle.wcif_results.specs.Faults.{items_under, file_rounds, registrant, registrants};
-ghost use Rattle.wcif_results.specs.Faults.{is_accepted, is_among, status_of, text_under};
-ghost use Rattle.wcif_results.specs.Filled.{id_of};
+ghost use Rattle.wcif_results.specs.Faults.{file_rounds, held, is_accepted, items_under, number_of};
+ghost use Rattle.wcif_results.specs.Faults.{is_numbered, person_with, round_with_id, status_of};
+ghost use Rattle.wcif_results.specs.Filled.{id_of, text_under};
+ghost use Rattle.wcif_results.specs.model.Opened.{held_view};
 
 use attempts::NoMemory;
 use json::Value;
 use std::alloc::Global;
 
 /// The items of the list under a name, where there is a list.
-fn list_under<'v, 'a>(value: &'v Value<'a>, name: &str) -> Option<&'v [Value<'a>]>
+pub(crate) fn list_under<'v, 'a>(value: &'v Value<'a>, name: &str) -> Option<&'v [Value<'a>]>
     ensures { unwrap_or (option_map (λ vs. map value_view vs.now) result) []
         ≡ items_under name.now (value_view value.now) }
 {
@@ -22,7 +23,7 @@ fn list_under<'v, 'a>(value: &'v Value<'a>, name: &str) -> Option<&'v [Value<'a>
 }
 
 /// A text under a name; the empty text where there is none.
-fn text_under<'a>(value: &Value<'a>, name: &str) -> &'a str
+pub(crate) fn text_under<'a>(value: &Value<'a>, name: &str) -> &'a str
     ensures { result.now ≡ text_under name.now (value_view value.now) }
 {
     value.get(name).and_then(Value::as_str).unwrap_or("")
@@ -53,74 +54,95 @@ fn is_accepted(person: &Value<'_>) -> bool
     status_of(person).as_bytes() == b"accepted".as_slice()
 }
 
-/// The number of a person as the file spells it; the empty text where there is none, or where the
-/// person is not accepted.
-fn registrant<'a>(person: &Value<'a>) -> &'a str
-    ensures { result.now ≡ registrant (value_view person.now) }
+/// The number of a person as the file spells it; the empty text where there is none.
+fn number_of<'a>(person: &Value<'a>) -> &'a str
+    ensures { result.now ≡ number_of (value_view person.now) }
 {
-    if !is_accepted(person) {
-        return "";
-    }
     person
         .get("registrantId")
         .and_then(Value::as_number)
         .unwrap_or("")
 }
 
-/// Adds the ids of the rounds of an event.
-fn push_ids<'a>(ids: &mut Vec<&'a str>, event: &Value<'a>) -> Result<(), NoMemory>
-    ensures { OnOk result (map (λ s. s.now) ids.new.items ≡ map (λ s. s.now) ids.old.items
-        ++ map id_of (items_under (codes "rounds") (value_view event.now))) }
+/// What is read of a round of the file: its id and its format.
+#[derive(Clone, Copy)]
+pub(crate) struct HeldRound<'a> {
+    pub(crate) id: &'a str,
+    pub(crate) format: &'a str,
+}
+
+/// Adds the rounds of an event.
+fn push_rounds<'a>(rounds: &mut Vec<HeldRound<'a>>, event: &Value<'a>) -> Result<(), NoMemory>
+    ensures { OnOk result (map held_view rounds.new.items ≡ map held_view rounds.old.items
+        ++ map held (items_under (codes "rounds") (value_view event.now))) }
 {
-    let Some(rounds) = list_under(event, "rounds") else {
+    let Some(items) = list_under(event, "rounds") else {
         return Ok(());
     };
-    for round in rounds {
-        ids.push(id_of(round))?;
+    for item in items {
+        rounds.push(HeldRound {
+            id: id_of(item),
+            format: text_under(item, "format"),
+        })?;
     }
     Ok(())
 }
 
-/// The ids of the file's rounds.
+/// The rounds of the file.
 #[tactic(auto, unfolding(crate::specs::Faults::file_rounds))]
-pub(crate) fn round_ids<'a>(alloc: Global, file: &Value<'a>) -> Result<Vec<&'a str>, NoMemory>
-    ensures { IfOk result (λ ids. map (λ s. s.now) ids.items
-        ≡ map id_of (file_rounds (value_view file.now))) }
+pub(crate) fn held_rounds<'a>(
+    alloc: Global,
+    file: &Value<'a>,
+) -> Result<Vec<HeldRound<'a>>, NoMemory>
+    ensures { IfOk result (λ rounds. map held_view rounds.items
+        ≡ map held (file_rounds (value_view file.now))) }
 {
-    let mut ids = Vec::new(alloc);
+    let mut rounds = Vec::new(alloc);
     let Some(events) = list_under(file, "events") else {
-        return Ok(ids);
+        return Ok(rounds);
     };
     for event in events {
-        push_ids(&mut ids, event)?;
+        push_rounds(&mut rounds, event)?;
     }
-    Ok(ids)
+    Ok(rounds)
 }
 
-/// The numbers of the file's accepted persons, as it spells them.
-#[tactic(auto, unfolding(crate::specs::Faults::registrants))]
-pub(crate) fn registrants<'a>(alloc: Global, file: &Value<'a>) -> Result<Vec<&'a str>, NoMemory>
-    ensures { IfOk result (λ numbers. map (λ s. s.now) numbers.items
-        ≡ registrants (value_view file.now)) }
+/// The first of the file's rounds with an id.
+pub(crate) fn round_with_id<'r, 'a>(
+    rounds: &'r [HeldRound<'a>],
+    id: &[u8],
+) -> Option<&'r HeldRound<'a>>
+    ensures { option_map (λ r. held_view r.now) result
+        ≡ round_with_id id.now (map held_view rounds.now) }
 {
-    let mut numbers = Vec::new(alloc);
-    let Some(persons) = list_under(file, "persons") else {
-        return Ok(numbers);
-    };
-    for person in persons {
-        numbers.push(registrant(person))?;
-    }
-    Ok(numbers)
-}
-
-/// Whether a text is one of these.
-pub(crate) fn is_among(texts: &[&str], text: &[u8]) -> bool
-    ensures { result ≡ is_among (map (λ s. s.now) texts.now) text.now }
-{
-    for other in texts {
-        if other.as_bytes() == text {
-            return true;
+    for round in rounds {
+        if round.id.as_bytes() == id {
+            return Some(round);
         }
     }
-    false
+    None
+}
+
+/// Whether a person has a number, and is accepted where not all may be meant.
+fn is_numbered(person: &Value<'_>, number: &[u8], all: bool) -> bool
+    ensures { result ≡ is_numbered all number.now (value_view person.now) }
+{
+    number_of(person).as_bytes() == number && (all || is_accepted(person))
+}
+
+/// The first of the persons with a number: of all, or of those who are accepted.
+pub(crate) fn person_with<'v, 'a>(
+    persons: &'v [Value<'a>],
+    number: &[u8],
+    all: bool,
+) -> Option<&'v Value<'a>>
+    ensures { option_map (λ v. value_view v.now) result
+        ≡ person_with all number.now (map value_view persons.now) }
+{
+    for person in persons {
+        if is_numbered(person, number, all) {
+            return Some(person);
+        }
+    }
+    None
 }

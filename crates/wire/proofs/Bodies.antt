@@ -28,11 +28,12 @@ use Rattle.wire.specs.declared.values.SheetStyle.TheVariants.{Text, Table}
 use Rattle.wire.specs.Fields.{byte_at, number_at, two, numbered}
 use Rattle.wire.specs.declared.values.Version.{Version}
 use Rattle.wire.specs.Numbers.{last_event, answers, answer_number, refusals, refusal_number, styles}
-use Rattle.wire.specs.Numbers.{style_number, roles, role_number, last_code}
+use Rattle.wire.specs.Numbers.{style_number, roles, role_number, last_code, last_refusal}
 use Rattle.wire.specs.Ranges.{IsBallot, IsPosition, IsId, IsEntry, IsReport, IsCommandState}
-use Rattle.wire.specs.Ranges.{IsAnswerOf, IsEventOf, IsLogLength}
+use Rattle.wire.specs.Ranges.{IsAnswerOf, IsEventOf, IsLogLength, IsRefusalOf}
 use Rattle.wire.specs.Reading.{ballot_at, limited_at, position_at, id_at, entry_at, report_at}
 use Rattle.wire.specs.Reading.{member_at, event_at, answer_at, state_at, log_length_at}
+use Rattle.wire.specs.Reading.{refusal_at}
 use Rattle.wire.specs.Spelling.{ballot_bytes, entry_bytes, report_bytes, state_bytes}
 use Rattle.wire.proofs.Taking.{IsBytes, IsBytes-rest, bind_some, passed, some_is, Takes, wide32}
 use Rattle.wire.proofs.Taking.{number_takes, number_again, byte_takes}
@@ -151,10 +152,27 @@ refusal_found refusal.NotThere = refl
 refusal_found refusal.NoSuchRound = refl
 refusal_found refusal.Foreign = refl
 refusal_found refusal.NotAllowed = refl
+refusal_found refusal.HallDiffers = refl
 
-pub refusal_field : IsField (λ (x : ClientRefusal). refusal_number x ∷ [])
+any_refusal_field : IsField (λ (x : ClientRefusal). refusal_number x ∷ [])
     (λ (x : ClientRefusal). Unit {0}) (member_at refusal_number refusals)
-refusal_field = member_field refusal_number refusals refusal_found
+any_refusal_field = member_field refusal_number refusals refusal_found
+
+-- a refusal that a version tells
+pub refusal_field : (v : Version) → IsField (λ (x : ClientRefusal). refusal_number x ∷ [])
+    (IsRefusalOf v) (refusal_at v)
+unfolding refusal_at
+refusal_field v = record {
+  takes = λ bytes x fits e.
+      let a = bind_some (member_at refusal_number refusals bytes)
+      (λ n. cond (leb (refusal_number n.0) (last_refusal v)) (Some n) None) x e in
+      let b = passed (leb (refusal_number a.0.0) (last_refusal v)) a.0 x a.2 in
+      let t = any_refusal_field.takes bytes a.0 fits a.1 in
+      subst (λ (y : ClientRefusal × List ℕ). Takes bytes (refusal_number y.0 ∷ []) y.1
+      × IsRefusalOf v y.0)
+      b.1 (t.0, leb-true _ _ b.0);
+  again = λ x rest fits. rw (any_refusal_field.again x rest tt, le-leb _ _ fits) refl;
+}
 
 answer_found : (x : Answer) → numbered answer_number answers (answer_number x) ≡ Some x
 answer_found answer.Done = refl

@@ -11,7 +11,7 @@ use Rattle.wire.specs.declared.fault.WireFault.TheVariants.{NoMemory}
 use Rattle.wire.specs.declared.frame.Frame.{Frame}
 use Rattle.wire.specs.declared.frame.What.{What}
 use Rattle.wire.specs.declared.values.Version.{Version}
-use Rattle.wire.specs.declared.values.Version.TheVariants.{One, Two, Three, Four}
+use Rattle.wire.specs.declared.values.Version.TheVariants.{One, Two, Three, Four, Five}
 use Rattle.wire.specs.Numbers.{versions, version_number}
 use Rattle.wire.proofs.Sequences.{numbered_is}
 use Rattle.wire.specs.Laws.{AreBytes, IsVersion, length_at, IsLength, IsWhole, BeginsWithFrame}
@@ -59,8 +59,10 @@ no_version n e (inr (inl two)) = let bad : Some Two ≡ None =
     subst (λ (k : ℕ). version_of k ≡ None) two e in absurd cc
 no_version n e (inr (inr (inl three))) = let bad : Some Three ≡ None =
     subst (λ (k : ℕ). version_of k ≡ None) three e in absurd cc
-no_version n e (inr (inr (inr four))) = let bad : Some Four ≡ None =
+no_version n e (inr (inr (inr (inl four)))) = let bad : Some Four ≡ None =
     subst (λ (k : ℕ). version_of k ≡ None) four e in absurd cc
+no_version n e (inr (inr (inr (inr five)))) = let bad : Some Five ≡ None =
+    subst (λ (k : ℕ). version_of k ≡ None) five e in absurd cc
 
 version_shows : (o : Option Version) (version hall from to kind : ℕ) (bytes : List ℕ)
     → version_of version ≡ o → Shows (frame_in o hall from to kind bytes) version kind
@@ -71,12 +73,13 @@ version_shows (Some v) version hall from to kind bytes is =
     kind_shows v version kind (frame_from v hall from to (what_of v kind bytes)) number
     (from_shows v hall from to version kind (what_of v kind bytes) number) (is_kind v kind) refl
 
--- a number that is that of a version is one of 1 to 4
+-- a number that is that of a version is one of 1 to 5
 is_version : (n : ℕ) (v : Version) → n ≡ version_number v → IsVersion n
 is_version n One e = inl e
 is_version n Two e = inr (inl e)
 is_version n Three e = inr (inr (inl e))
-is_version n Four e = inr (inr (inr e))
+is_version n Four e = inr (inr (inr (inl e)))
+is_version n Five e = inr (inr (inr (inr e)))
 
 has_version : (n kind : ℕ) → HasKind n kind → IsVersion n
 has_version n kind has = is_version n has.0 has.1

@@ -1,6 +1,6 @@
 -- What is read as a frame is spelled so, and what is spelled so is read.
 use Rattle.std.proofs.Common.{◌≡◌, ℕ, ◌^◌, ◌<◌, List, [], ◌∷◌, ◌++◌, Option, Some, refl, sym, subst}
-use Rattle.std.proofs.Common.{arith}
+use Rattle.std.proofs.Common.{arith, ◌∙◌}
 use Rattle.std.specs.Int.{w32}
 use Rattle.acceptor.specs.declared.ballot.Ballot.{Ballot}
 use Rattle.acceptor.specs.declared.entry.Entry.{Entry}
@@ -15,9 +15,9 @@ use Rattle.wire.specs.declared.frame.What.TheVariants as variant
 use Rattle.wire.specs.declared.frame.What.TheVariants.{Prepare, Promise, Accept, Accepted, Nack}
 use Rattle.wire.specs.declared.frame.What.TheVariants.{Behind, Decided, Submit, Ask, Sheet, Tick}
 use Rattle.wire.specs.declared.frame.What.TheVariants.{Stop, Taken, Told, SheetText, Refused, Fine}
-use Rattle.wire.specs.declared.frame.What.TheVariants.{Status, Log}
+use Rattle.wire.specs.declared.frame.What.TheVariants.{Status, Log, Await}
 use Rattle.wire.specs.Fields.{byte_at, number_at, two, all_of}
-use Rattle.wire.specs.Numbers.{IsFromThree, refusals, refusal_number, styles, style_number}
+use Rattle.wire.specs.Numbers.{IsFromThree, IsFromFive, styles, style_number}
 use Rattle.wire.specs.Ranges.{IsBallot, IsPosition, IsId, IsEntry, IsReport, IsCommandState}
 use Rattle.wire.specs.Ranges.{IsEventOf}
 use Rattle.wire.specs.Ranges.{IsBody}
@@ -25,14 +25,14 @@ use Rattle.wire.specs.Reading.{ballot_at, limited_at, position_at, id_at, entry_
 use Rattle.wire.specs.Reading.{member_at, event_at, state_at, prepare_of, promise_of, accept_of}
 use Rattle.wire.specs.Reading.{accepted_of, nack_of, behind_of, decided_of, submit_of, ask_of}
 use Rattle.wire.specs.Reading.{sheet_of, taken_of, told_of, refused_of, what_of, log_length_at}
-use Rattle.wire.specs.Reading.{log_of, standing_of, entries_of}
+use Rattle.wire.specs.Reading.{log_of, await_of, standing_of, entries_of, refusal_at}
 use Rattle.wire.specs.Spelling.{ballot_bytes, entry_bytes, report_bytes, state_bytes, kind_of}
 use Rattle.wire.specs.Spelling.{body}
 use Rattle.wire.proofs.Taking.{IsBytes, bind_some, some_is}
 use Rattle.wire.proofs.Sequences.{IsField, two_fields, all_takes, all_again}
 use Rattle.wire.proofs.Runs.{run_takes, run_again}
 use Rattle.wire.proofs.LogRuns.{log_takes, log_again}
-use Rattle.wire.proofs.Standings.{parts_at, standing_from, parts_field}
+use Rattle.wire.proofs.Standings.{joined_bytes, parts_at, standing_from, parts_field}
 use Rattle.wire.proofs.Bodies.{u32, u64, ballot_field, limited_field, position_field, any_field}
 use Rattle.wire.proofs.Bodies.{byte_field, id_field, entry_field, report_field, event_field}
 use Rattle.wire.proofs.Bodies.{style_field, refusal_field, standing_field, log_length_field}
@@ -226,13 +226,12 @@ told_takes v bytes w fits e =
     (record { number = refl; spelled = t.0; fits = t.1 })
 
 pub refused_takes : (v : Version) (bytes : List ℕ) (w : What) → IsBytes bytes
-    → refused_of bytes ≡ Some w → IsWhat v 35 bytes w
+    → refused_of v bytes ≡ Some w → IsWhat v 35 bytes w
 refused_takes v bytes w fits e =
-    let a = bind_some (all_of (member_at refusal_number refusals) bytes) (λ x. Some (Refused x)) w
-    e in
-    let t = all_takes _ _ _ refusal_field bytes a.0 fits a.1 in
+    let a = bind_some (all_of (refusal_at v) bytes) (λ x. Some (Refused x)) w e in
+    let t = all_takes _ _ _ (refusal_field v) bytes a.0 fits a.1 in
     subst (λ (y : What). IsWhat v 35 bytes y) (some_is (Refused a.0) w a.2)
-    (record { number = refl; spelled = t.0; fits = tt })
+    (record { number = refl; spelled = t.0; fits = t.1 })
 
 pub position_takes : (v : Version) (bytes : List ℕ) (w : What) → IsFromThree v → IsBytes bytes
     → log_of bytes ≡ Some w → IsWhat v 22 bytes w
@@ -242,23 +241,38 @@ position_takes v bytes w three fits e =
     subst (λ (y : What). IsWhat v 22 bytes y) (some_is (Log a.0) w a.2)
     (record { number = refl; spelled = t.0; fits = (three, t.1) })
 
+-- an id, and a number of seconds
+wait_field : IsField (λ (p : ℕ × ℕ). u64 p.0 ++ p.1 ∷ []) (λ (p : ℕ × ℕ). IsId p.0 × (p.1 < 256))
+    (two id_at byte_at)
+wait_field = two_fields u64 IsId id_at (λ (b : ℕ). b ∷ []) (λ (b : ℕ). b < 256) byte_at id_field
+    byte_field
+
+pub await_takes : (v : Version) (bytes : List ℕ) (w : What) → IsFromFive v → IsBytes bytes
+    → await_of bytes ≡ Some w → IsWhat v 23 bytes w
+await_takes v bytes w five fits e =
+    let a = bind_some (all_of (two id_at byte_at) bytes) (λ x. Some (Await x.0 x.1)) w e in
+    let t = all_takes _ _ _ wait_field bytes a.0 fits a.1 in
+    subst (λ (y : What). IsWhat v 23 bytes y) (some_is (Await a.0.0 a.0.1) w a.2)
+    (record { number = refl; spelled = t.0; fits = (five, t.1.0, t.1.1) })
+
 pub standing_takes : (v : Version) (bytes : List ℕ) (w : What) → IsFromThree v → IsBytes bytes
-    → standing_of bytes ≡ Some w → IsWhat v 37 bytes w
+    → standing_of v bytes ≡ Some w → IsWhat v 37 bytes w
 standing_takes v bytes w three fits e =
-    let a = bind_some (all_of parts_at bytes) (λ x. Some (variant.Standing (standing_from x))) w
-    e in
-    let t = all_takes _ _ _ parts_field bytes a.0 fits a.1 in
+    let a = bind_some (all_of (parts_at v) bytes)
+    (λ x. Some (variant.Standing (standing_from x))) w e in
+    let t = all_takes _ _ _ (parts_field v) bytes a.0 fits a.1 in
     subst (λ (y : What). IsWhat v 37 bytes y) (some_is (variant.Standing (standing_from a.0)) w a.2)
     (record {
       number = refl;
-      spelled = t.0;
+      spelled = t.0 ∙ joined_bytes v (standing_from a.0);
       fits = (
         three,
         record {
           log = t.1.0;
           queue = t.1.1.0;
           promised = t.1.1.1.1.0;
-          told = t.1.1.1.1.1;
+          told = t.1.1.1.1.1.0;
+          differs = t.1.1.1.1.1.1;
         },
       );
     })
@@ -297,13 +311,17 @@ what_again v Stop fits = refl
 what_again v (Taken id) fits = rw (all_again _ _ _ id_field id fits) refl
 what_again v (Told id s) fits = rw (all_again _ _ _ (is_field v) (id, s) fits) refl
 what_again v (SheetText bytes) fits = refl
-what_again v (Refused refusal) fits = rw (all_again _ _ _ refusal_field refusal tt) refl
+what_again v (Refused refusal) fits = rw (all_again _ _ _ (refusal_field v) refusal fits) refl
 what_again v Fine fits = refl
 what_again v Status fits = refl
 what_again v (Log position) fits = rw (all_again _ _ _ log_length_field position fits.1) refl
+what_again v (Await id seconds) fits =
+    rw (all_again _ _ _ wait_field (id, seconds) (fits.1, fits.2)) refl
 what_again v (variant.Standing s) fits =
-    rw (all_again _ _ _ parts_field (s.length, (s.waiting, (s.role, (s.promised, s.told))))
-    (fits.1.log, (fits.1.queue, (tt, (fits.1.promised, fits.1.told)))))
-    refl
+    subst (λ bytes. what_of v 37 bytes ≡ Some (variant.Standing s)) (joined_bytes v s)
+    (rw (all_again _ _ _ (parts_field v)
+    (s.length, (s.waiting, (s.role, (s.promised, (s.told, s.differs)))))
+    (fits.1.log, (fits.1.queue, (tt, (fits.1.promised, (fits.1.told, fits.1.differs))))))
+    refl)
 what_again v (variant.Entries position len entries) fits =
     rw (log_again position len entries fits.1) refl

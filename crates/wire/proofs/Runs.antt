@@ -10,7 +10,7 @@ use Rattle.acceptor.specs.declared.entry.Entry.{Entry}
 use Rattle.wire.specs.declared.frame.What.{What}
 use Rattle.wire.specs.declared.frame.What.TheVariants.{Decided}
 use Rattle.wire.specs.declared.values.Version.{Version}
-use Rattle.wire.specs.declared.values.Version.TheVariants.{One, Two, Three, Four}
+use Rattle.wire.specs.declared.values.Version.TheVariants.{One, Two, Three, Four, Five}
 use Rattle.wire.specs.Fields.{◌>>=◌, byte_at, all_of}
 use Rattle.wire.specs.Ranges.{IsEntry, IsPosition, IsCount, AreDecided}
 use Rattle.wire.specs.Reading.{between, position_at, entry_at, told_count_at, count_at, entries_at}
@@ -41,6 +41,7 @@ count_takes One bytes x fits e =
 count_takes Two bytes x fits e = told_takes bytes x fits e
 count_takes Three bytes x fits e = told_takes bytes x fits e
 count_takes Four bytes x fits e = told_takes bytes x fits e
+count_takes Five bytes x fits e = told_takes bytes x fits e
 
 count_again : (v : Version) (n : ℕ) (rest : List ℕ) → IsCount v n
     → count_at v (count_bytes v n ++ rest) ≡ Some (n, rest)
@@ -49,6 +50,7 @@ count_again One n rest fits = ap (λ (k : ℕ). Some (k, rest)) (sym fits)
 count_again Two n rest fits = rw (between_holds 1 16 n fits.0 fits.1) refl
 count_again Three n rest fits = rw (between_holds 1 16 n fits.0 fits.1) refl
 count_again Four n rest fits = rw (between_holds 1 16 n fits.0 fits.1) refl
+count_again Five n rest fits = rw (between_holds 1 16 n fits.0 fits.1) refl
 
 -- so many entries, one after the other
 pub entries_field : (n : ℕ) → IsField (flat_map entry_bytes) (AreMany IsEntry n) (entries_at n)
@@ -102,6 +104,7 @@ counted One n fits = omega (arith, fits)
 counted Two n fits = fits.0
 counted Three n fits = fits.0
 counted Four n fits = fits.0
+counted Five n fits = fits.0
 
 pub run_again : (v : Version) (pos : ℕ) (entries : List Entry) → AreDecided v pos entries
     → decided_of v (decided_bytes v pos entries) ≡ Some (Decided pos entries)
@@ -131,6 +134,7 @@ count_most One n fits = (omega (arith, fits), omega arith)
 count_most Two n fits = (fits.1, omega arith)
 count_most Three n fits = (fits.1, omega arith)
 count_most Four n fits = (fits.1, omega arith)
+count_most Five n fits = (fits.1, omega arith)
 
 pub run_short : (v : Version) (pos : ℕ) (entries : List Entry) → AreDecided v pos entries
     → length (decided_bytes v pos entries) ≤ 299992

@@ -17,7 +17,7 @@ use Rattle.wire.specs.declared.frame.What.TheVariants as variant
 use Rattle.wire.specs.declared.frame.What.TheVariants.{Prepare, Promise, Accept, Accepted, Nack}
 use Rattle.wire.specs.declared.frame.What.TheVariants.{Behind, Decided, Submit, Ask, Sheet, Tick}
 use Rattle.wire.specs.declared.frame.What.TheVariants.{Stop, Taken, Told, SheetText, Refused, Fine}
-use Rattle.wire.specs.declared.frame.What.TheVariants.{Status, Log}
+use Rattle.wire.specs.declared.frame.What.TheVariants.{Status, Log, Await}
 use Rattle.wire.specs.Ranges.{IsReport, IsBody, IsFrame}
 use Rattle.wire.specs.Reading.{between, frame_of}
 use Rattle.wire.specs.Spelling.{report_bytes, state_bytes, body, inside, spelling}
@@ -60,7 +60,8 @@ body_short v (Refused refusal) h = omega arith
 body_short v Fine h = omega arith
 body_short v Status h = omega arith
 body_short v (Log position) h = omega arith
-body_short v (variant.Standing s) h = standing_short s h.1
+body_short v (Await id seconds) h = omega arith
+body_short v (variant.Standing s) h = standing_short v s h.1
 body_short v (variant.Entries position len entries) h = log_short position len entries h.1
 
 inside_length : (f : Frame) → IsFrame f → (8 ≤ length (inside f)) × (length (inside f) ≤ 300000)

@@ -97,6 +97,7 @@ kind_is v kind bytes w e =
     (pick kind 20 w _ _ (empty_made _ _ 20 w refl)
     (pick kind 21 w _ _ (empty_made _ _ 21 w refl)
     (pick kind 22 w _ _ (made _ _ 22 w (λ x. refl))
+    (pick kind 23 w _ _ (made _ _ 23 w (λ x. refl))
     (pick kind 32 w _ _ (made _ _ 32 w (λ x. refl))
     (pick kind 33 w _ _ (made _ _ 33 w (λ x. refl))
     (pick kind 34 w _ _ (λ h. empty_made true _ 34 w refl h)
@@ -104,7 +105,7 @@ kind_is v kind bytes w e =
     (pick kind 36 w _ _ (empty_made _ _ 36 w refl)
     (pick kind 37 w _ _ (made _ _ 37 w (λ x. refl))
     (pick kind 38 w _ _ (log_made bytes w)
-    (λ h. absurd cc))))))))))))))))))))) e
+    (λ h. absurd cc)))))))))))))))))))))) e
 
 -- a sender or a receiver that does not fit the kind, whatever was read
 pub turned_away : (v : Version) (hall from to kind : ℕ) (o : Option What)

@@ -13,14 +13,14 @@ use Rattle.wire.specs.declared.frame.What.TheVariants as variant
 use Rattle.wire.specs.declared.frame.What.TheVariants.{Prepare, Promise, Accept, Accepted, Nack}
 use Rattle.wire.specs.declared.frame.What.TheVariants.{Behind, Decided, Submit, Ask, Sheet, Tick}
 use Rattle.wire.specs.declared.frame.What.TheVariants.{Stop, Taken, Told, SheetText, Refused, Fine}
-use Rattle.wire.specs.declared.frame.What.TheVariants.{Status, Log}
+use Rattle.wire.specs.declared.frame.What.TheVariants.{Status, Log, Await}
 use Rattle.std.specs.List.{list_any}
 use Rattle.wire.specs.Ranges.{Way, Between, FromClient, ToClient, way_of, Goes, IsBody, IsFrame}
 use Rattle.wire.specs.declared.values.Version.{Version}
-use Rattle.wire.specs.declared.values.Version.TheVariants.{One, Two, Three, Four}
-use Rattle.wire.specs.Numbers.{IsFromThree, versions, version_number}
+use Rattle.wire.specs.declared.values.Version.TheVariants.{One, Two, Three, Four, Five}
+use Rattle.wire.specs.Numbers.{IsFromThree, IsFromFive, versions, version_number}
 use Rattle.wire.specs.Reading.{empty_of, what_of, is_kind, is_desk, goes, frame_from, frame_in}
-use Rattle.wire.specs.Reading.{version_of, frame_of, first_kinds, later_kinds}
+use Rattle.wire.specs.Reading.{version_of, frame_of, first_kinds, later_kinds, last_kinds}
 use Rattle.wire.specs.Spelling.{kind_of, body, inside}
 use Rattle.wire.proofs.Taking.{IsBytes, IsBytes-take, passed, wide32}
 use Rattle.wire.proofs.FieldLaws.{and_true, both_true, between_is, between_holds}
@@ -28,7 +28,7 @@ use Rattle.wire.proofs.Sequences.{numbered_is}
 use Rattle.wire.proofs.Frames.{IsWhat, prepare_takes, promise_takes, accept_takes, accepted_takes}
 use Rattle.wire.proofs.Frames.{nack_takes, behind_takes, decided_takes, submit_takes, ask_takes}
 use Rattle.wire.proofs.Frames.{sheet_takes, taken_takes, told_takes, refused_takes, what_again}
-use Rattle.wire.proofs.Frames.{position_takes, standing_takes, entries_takes}
+use Rattle.wire.proofs.Frames.{position_takes, await_takes, standing_takes, entries_takes}
 
 -- a kind without fields
 empty_takes : (v : Version) (kind : ℕ) (what : What) (bytes : List ℕ) (w : What)
@@ -71,6 +71,7 @@ first_kind One kind e = e
 first_kind Two kind e = e
 first_kind Three kind e = more_kinds kind e
 first_kind Four kind e = more_kinds kind e
+first_kind Five kind e = or_right (eqb 23 kind) _ (more_kinds kind e)
 
 -- the version of a kind that is none of them is one from 3 on
 later_kind : (v : Version) (kind : ℕ) → is_first kind ≡ false → is_kind v kind ≡ true
@@ -79,6 +80,7 @@ later_kind One kind none e = let bad : true ≡ false = sym e ∙ none in absurd
 later_kind Two kind none e = let bad : true ≡ false = sym e ∙ none in absurd cc
 later_kind Three kind none e = omega arith
 later_kind Four kind none e = omega arith
+later_kind Five kind none e = omega arith
 
 -- the test of a kind that is none of them
 pick_later : (v : Version) (kind k : ℕ) (bytes : List ℕ) (w : What) (x y : Option What)
@@ -91,6 +93,34 @@ pick_later v kind k bytes w x y has none here there e = go (eqb kind k) refl e w
       let three : IsFromThree v =
       later_kind v k none (subst (λ (n : ℕ). is_kind v n ≡ true) (eqb-true _ _ t) has) in
       subst (λ (n : ℕ). IsWhat v n bytes w) (sym (eqb-true _ _ t)) (here three h)
+  go false t h = there h
+
+-- whether a kind is one of the versions before 5
+abbrev is_earlier : ℕ → Bool
+is_earlier kind = list_any (λ k. eqb k kind) later_kinds
+
+-- the version of a kind that is none of them is 5
+last_kind : (v : Version) (kind : ℕ) → is_earlier kind ≡ false → is_kind v kind ≡ true
+    → IsFromFive v
+last_kind One kind none e =
+    let bad : true ≡ false = sym (more_kinds kind e) ∙ none in absurd cc
+last_kind Two kind none e =
+    let bad : true ≡ false = sym (more_kinds kind e) ∙ none in absurd cc
+last_kind Three kind none e = let bad : true ≡ false = sym e ∙ none in absurd cc
+last_kind Four kind none e = let bad : true ≡ false = sym e ∙ none in absurd cc
+last_kind Five kind none e = omega arith
+
+-- the test of such a kind
+pick_last : (v : Version) (kind k : ℕ) (bytes : List ℕ) (w : What) (x y : Option What)
+    → is_kind v kind ≡ true → is_earlier k ≡ false
+    → (IsFromFive v → x ≡ Some w → IsWhat v k bytes w) → (y ≡ Some w → IsWhat v kind bytes w)
+    → cond (eqb kind k) x y ≡ Some w → IsWhat v kind bytes w
+pick_last v kind k bytes w x y has none here there e = go (eqb kind k) refl e where
+  go : (b : Bool) → eqb kind k ≡ b → cond b x y ≡ Some w → IsWhat v kind bytes w
+  go true t h =
+      let five : IsFromFive v =
+      last_kind v k none (subst (λ (n : ℕ). is_kind v n ≡ true) (eqb-true _ _ t) has) in
+      subst (λ (n : ℕ). IsWhat v n bytes w) (sym (eqb-true _ _ t)) (here five h)
   go false t h = there h
 
 pub what_takes : (v : Version) (kind : ℕ) (bytes : List ℕ) (w : What) → is_kind v kind ≡ true
@@ -114,6 +144,8 @@ what_takes v kind bytes w has fits short e =
     (λ three. empty_takes v 21 Status bytes w refl refl three)
     (pick_later v kind 22 bytes w _ _ has refl
     (λ three. position_takes v bytes w three fits)
+    (pick_last v kind 23 bytes w _ _ has refl
+    (λ five. await_takes v bytes w five fits)
     (pick v kind 32 bytes w _ _ (taken_takes v bytes w fits)
     (pick v kind 33 bytes w _ _ (told_takes v bytes w fits)
     (pick v kind 34 bytes w _ _ (text_takes v bytes w short)
@@ -123,7 +155,7 @@ what_takes v kind bytes w has fits short e =
     (λ three. standing_takes v bytes w three fits)
     (pick_later v kind 38 bytes w _ _ has refl
     (λ three. entries_takes v bytes w three fits)
-    (λ h. absurd cc))))))))))))))))))))) e
+    (λ h. absurd cc)))))))))))))))))))))) e
 
 -- ---- the bytes after a length
 
@@ -153,6 +185,15 @@ is_later One kind three e = absurd (omega (arith, three))
 is_later Two kind three e = absurd (omega (arith, three))
 is_later Three kind three e = e
 is_later Four kind three e = e
+is_later Five kind three e = or_right (eqb 23 kind) _ e
+
+-- the kind of version 5
+is_last : (v : Version) → IsFromFive v → is_kind v 23 ≡ true
+is_last One five = absurd (omega (arith, five))
+is_last Two five = absurd (omega (arith, five))
+is_last Three five = absurd (omega (arith, five))
+is_last Four five = absurd (omega (arith, five))
+is_last Five five = refl
 
 kind_is : (v : Version) (w : What) → IsBody v w → is_kind v (kind_of w) ≡ true
 kind_is v (Prepare b pos) fits = first_kind v 1 refl
@@ -174,6 +215,7 @@ kind_is v (Refused refusal) fits = first_kind v 35 refl
 kind_is v Fine fits = first_kind v 36 refl
 kind_is v Status fits = is_later v 21 fits refl
 kind_is v (Log position) fits = is_later v 22 fits.0 refl
+kind_is v (Await id seconds) fits = is_last v fits.0
 kind_is v (variant.Standing standing) fits = is_later v 37 fits.0 refl
 kind_is v (variant.Entries position len entries) fits = is_later v 38 fits.0 refl
 
@@ -264,6 +306,7 @@ version_again One = refl
 version_again Two = refl
 version_again Three = refl
 version_again Four = refl
+version_again Five = refl
 
 framed : (a b c d : ℕ) (f : Frame) → from_be_bytes w32 (a ∷ b ∷ c ∷ d ∷ []) ≡ f.hall → IsFrame f
     → frame_of (version_number f.version ∷ a ∷ b ∷ c ∷ d ∷ f.from ∷ f.to ∷ kind_of f.what ∷

@@ -43,7 +43,7 @@ abbrev pub BeginsWithFrame : List ℕ → Type 0
 BeginsWithFrame bytes = (f : Frame) × (rest : List ℕ) × IsFrame f × (bytes ≡ spelling f ++ rest)
 
 abbrev pub IsVersion : ℕ → Type 0
-IsVersion n = (n ≡ 1) ⊎ (n ≡ 2) ⊎ (n ≡ 3) ⊎ (n ≡ 4)
+IsVersion n = (n ≡ 1) ⊎ (n ≡ 2) ⊎ (n ≡ 3) ⊎ (n ≡ 4) ⊎ (n ≡ 5)
 
 -- whether the version with this number has the kind with that one
 abbrev pub HasKind : ℕ → ℕ → Type 0

@@ -1,5 +1,5 @@
 -- The numbers that versions, answers, refusals and roles have on the wire.
-use Rattle.std.specs.Prelude.{ℕ, ◌≤◌, nat_le, if◌then◌else◌, List, [], ◌∷◌, map}
+use Rattle.std.specs.Prelude.{ℕ, ◌≤◌, nat_le, if◌then◌else◌, List, [], ◌∷◌, map, None}
 use Rattle.texts.specs.declared.answer.Answer.{Answer}
 use Rattle.texts.specs.declared.answer.Answer.TheVariants.{Done, Refused}
 use Rattle.texts.specs.declared.answer.Code.TheVariants.{Unread}
@@ -13,20 +13,26 @@ use Rattle.wire.specs.declared.values.DeskRole.TheVariants.{Idle, Gathering, Pro
 use Rattle.wire.specs.declared.values.SheetStyle.{SheetStyle}
 use Rattle.wire.specs.declared.values.SheetStyle.TheVariants.{Text, Table}
 use Rattle.wire.specs.declared.values.Version.{Version}
-use Rattle.wire.specs.declared.values.Version.TheVariants.{One, Two, Three, Four}
+use Rattle.wire.specs.declared.standing.Standing.{Standing}
+use Rattle.wire.specs.declared.values.Version.TheVariants.{One, Two, Three, Four, Five}
 
 abbrev pub version_number : Version → ℕ
 version_number One = 1
 version_number Two = 2
 version_number Three = 3
 version_number Four = 4
+version_number Five = 5
 
 abbrev pub versions : List Version
-versions = One ∷ Two ∷ Three ∷ Four ∷ []
+versions = One ∷ Two ∷ Three ∷ Four ∷ Five ∷ []
 
 -- it has the kinds that came with version 3
 abbrev pub IsFromThree : Version → Type 0
 IsFromThree version = 3 ≤ version_number version
+
+-- it has what came with version 5
+abbrev pub IsFromFive : Version → Type 0
+IsFromFive version = 5 ≤ version_number version
 
 -- the last event whose sheets can be asked for in a version
 abbrev pub last_event : Version → ℕ
@@ -34,6 +40,7 @@ last_event One = 16
 last_event Two = 17
 last_event Three = 17
 last_event Four = 17
+last_event Five = 17
 
 abbrev pub refusal_number : ClientRefusal → ℕ
 refusal_number refusal.Busy = 1
@@ -45,6 +52,7 @@ refusal_number refusal.NotThere = 6
 refusal_number refusal.NoSuchRound = 7
 refusal_number refusal.Foreign = 8
 refusal_number refusal.NotAllowed = 9
+refusal_number refusal.HallDiffers = 10
 
 abbrev pub style_number : SheetStyle → ℕ
 style_number Text = 0
@@ -62,6 +70,7 @@ last_code One = 22
 last_code Two = 22
 last_code Three = 24
 last_code Four = 25
+last_code Five = 25
 
 -- what a version tells of an answer: of a code that it does not have, that it is no command
 abbrev pub answer_in : Version → Answer → Answer
@@ -73,13 +82,35 @@ state_in version (state.Done pos answer) = state.Done pos (answer_in version ans
 state_in version state.Pending = state.Pending
 state_in version state.Unknown = state.Unknown
 
+-- the last refusal that a version tells
+abbrev pub last_refusal : Version → ℕ
+last_refusal One = 9
+last_refusal Two = 9
+last_refusal Three = 9
+last_refusal Four = 9
+last_refusal Five = 10
+
+-- what a version tells of a refusal: of one that it does not have, that the desk takes part no more
+abbrev pub refusal_in : Version → ClientRefusal → ClientRefusal
+refusal_in version r =
+    if nat_le (refusal_number r) (last_refusal version) then r else refusal.Down
+
+-- what a version tells of how a desk stands: before version 5 nothing of a difference
+abbrev pub standing_in : Version → Standing → Standing
+standing_in One s = record s { differs = None }
+standing_in Two s = record s { differs = None }
+standing_in Three s = record s { differs = None }
+standing_in Four s = record s { differs = None }
+standing_in Five s = s
+
 abbrev pub answers : List Answer
 answers = Done ∷ map (λ c. Refused c) every_code
 
 abbrev pub refusals : List ClientRefusal
 refusals =
     refusal.Busy ∷ refusal.LogFull ∷ refusal.BallotsSpent ∷ refusal.NoMemory ∷ refusal.Down ∷
-    refusal.NotThere ∷ refusal.NoSuchRound ∷ refusal.Foreign ∷ refusal.NotAllowed ∷ []
+    refusal.NotThere ∷ refusal.NoSuchRound ∷ refusal.Foreign ∷ refusal.NotAllowed ∷
+    refusal.HallDiffers ∷ []
 
 abbrev pub styles : List SheetStyle
 styles = Text ∷ Table ∷ []

@@ -13,17 +13,21 @@ use Rattle.wire.specs.declared.frame.What.TheVariants as variant
 use Rattle.wire.specs.declared.frame.What.TheVariants.{Prepare, Promise, Accept, Accepted, Nack}
 use Rattle.wire.specs.declared.frame.What.TheVariants.{Behind, Decided, Submit, Ask, Sheet, Tick}
 use Rattle.wire.specs.declared.frame.What.TheVariants.{Stop, Taken, Told, SheetText, Refused, Fine}
-use Rattle.wire.specs.declared.frame.What.TheVariants.{Status, Log}
+use Rattle.wire.specs.declared.frame.What.TheVariants.{Status, Log, Await}
 use Rattle.wire.specs.declared.standing.Lengths.{Lengths}
 use Rattle.wire.specs.declared.standing.Lengths.TheVariants.{OfThree, OfFive}
+use Rattle.wire.specs.declared.standing.Difference.{Difference}
+use Rattle.wire.specs.declared.standing.Difference.TheVariants.{OtherEntry, Shorter}
 use Rattle.wire.specs.declared.standing.Standing.{Standing}
+use Rattle.wire.specs.declared.values.ClientRefusal.{ClientRefusal}
 use Rattle.formats.specs.declared.events.Event.{Event}
 use Rattle.formats.specs.Events.{event_number}
 use Rattle.wire.specs.declared.values.Version.{Version}
-use Rattle.wire.specs.declared.values.Version.TheVariants.{One, Two, Three, Four}
+use Rattle.wire.specs.declared.values.Version.TheVariants.{One, Two, Three, Four, Five}
 pub use Rattle.wire.specs.Entries.{IsId, IsEntry}
 use Rattle.texts.specs.declared.answer.Answer.{Answer}
-use Rattle.wire.specs.Numbers.{IsFromThree, answer_number, last_code, last_event}
+use Rattle.wire.specs.Numbers.{IsFromThree, IsFromFive, answer_number, last_code, last_event}
+use Rattle.wire.specs.Numbers.{last_refusal, refusal_number}
 use Rattle.wire.specs.Spelling.{kind_of}
 
 -- a desk of a hall
@@ -59,6 +63,7 @@ IsCount One n = n ≡ 1
 IsCount Two n = (1 ≤ n) × (n ≤ 16)
 IsCount Three n = (1 ≤ n) × (n ≤ 16)
 IsCount Four n = (1 ≤ n) × (n ≤ 16)
+IsCount Five n = (1 ≤ n) × (n ≤ 16)
 
 -- the entries from a position on, of which the last stands at 65,535 at most
 abbrev pub AreDecided : Version → ℕ → List Entry → Type 0
@@ -69,6 +74,10 @@ AreDecided version pos entries =
 -- an event whose sheets can be asked for in a version
 abbrev pub IsEventOf : Version → Event → Type 0
 IsEventOf version event = event_number event ≤ last_event version
+
+-- a refusal that a version tells
+abbrev pub IsRefusalOf : Version → ClientRefusal → Type 0
+IsRefusalOf version refusal = refusal_number refusal ≤ last_refusal version
 
 -- how many entries a log has, or a position in it, its end included
 abbrev pub IsLogLength : ℕ → Type 0
@@ -82,12 +91,28 @@ abbrev pub AreLengths : Lengths → Type 0
 AreLengths (OfThree lengths) = (length lengths ≡ 3) × AllByRecursion IsLogLength lengths
 AreLengths (OfFive lengths) = (length lengths ≡ 5) × AllByRecursion IsLogLength lengths
 
--- how a desk stands: its log, its queue of at most 255 commands, its ballots, and the hall's logs
-pub record IsStanding (s : Standing) : Type 0 where
+-- how a desk differs, if one does
+abbrev pub IsDifference : Option Difference → Type 0
+IsDifference None = Unit {0}
+IsDifference (Some (OtherEntry desk position)) = IsDesk desk × IsPosition position
+IsDifference (Some (Shorter desk len)) = IsDesk desk × IsPosition len
+
+-- what a version tells of it: before version 5 nothing
+abbrev pub IsDiffering : Version → Option Difference → Type 0
+IsDiffering One d = d ≡ None
+IsDiffering Two d = d ≡ None
+IsDiffering Three d = d ≡ None
+IsDiffering Four d = d ≡ None
+IsDiffering Five d = IsDifference d
+
+-- how a desk stands: its log, its queue of at most 255 commands, its ballots, the hall's logs, and
+-- how another desk differs
+pub record IsStanding (version : Version) (s : Standing) : Type 0 where
   pub log : IsLogLength s.length
   pub queue : s.waiting < 256
   pub promised : IsPromised s.promised
   pub told : AreLengths s.told
+  pub differs : IsDiffering version s.differs
 
 -- at most 400 entries of a log of this length, from a position on: none, or they end within the
 -- log. So there is none where the log ends at the position or before it.
@@ -99,7 +124,7 @@ pub record AreOfLog (position len : ℕ) (entries : List Entry) : Type 0 where
   pub each : AllByRecursion IsEntry entries
 
 -- the fields of a kind in a version; a sheet and all that stands in front of it fill at most
--- 300,000 bytes. Four kinds are of the versions from 3 on.
+-- 300,000 bytes. Four kinds are of the versions from 3 on, and one is of version 5.
 abbrev pub IsBody : Version → What → Type 0
 IsBody v (Prepare b pos) = IsBallot b × IsPosition pos
 IsBody v (Promise b pos vote) = IsBallot b × IsPosition pos × IsReport vote
@@ -116,12 +141,13 @@ IsBody v Tick = Unit {0}
 IsBody v Stop = Unit {0}
 IsBody v Status = IsFromThree v
 IsBody v (Log position) = IsFromThree v × IsLogLength position
+IsBody v (Await id seconds) = IsFromFive v × IsId id × (seconds < 256)
 IsBody v (Taken id) = IsId id
 IsBody v (Told id s) = IsId id × IsCommandState v s
 IsBody v (SheetText bytes) = length bytes ≤ 299992
-IsBody v (Refused refusal) = Unit {0}
+IsBody v (Refused refusal) = IsRefusalOf v refusal
 IsBody v Fine = Unit {0}
-IsBody v (variant.Standing standing) = IsFromThree v × IsStanding standing
+IsBody v (variant.Standing standing) = IsFromThree v × IsStanding v standing
 IsBody v (variant.Entries position len entries) = IsFromThree v × AreOfLog position len entries
 
 -- who sends a kind to whom: desk to desk, client to desk, desk to client
@@ -133,7 +159,7 @@ pub data Way : Type 0 where
 abbrev pub way_of_kind : ℕ → Way
 way_of_kind kind =
     if nat_le kind 7 then Between
-    else if nat_le kind 22 then FromClient
+    else if nat_le kind 23 then FromClient
     else ToClient
 
 abbrev pub way_of : What → Way

@@ -19,17 +19,20 @@ use Rattle.wire.specs.declared.frame.What.TheVariants as variant
 use Rattle.wire.specs.declared.frame.What.TheVariants.{Prepare, Promise, Accept, Accepted, Nack}
 use Rattle.wire.specs.declared.frame.What.TheVariants.{Behind, Decided, Submit, Ask, Sheet, Tick}
 use Rattle.wire.specs.declared.frame.What.TheVariants.{Stop, Taken, Told, SheetText, Refused, Fine}
-use Rattle.wire.specs.declared.frame.What.TheVariants.{Status, Log}
+use Rattle.wire.specs.declared.frame.What.TheVariants.{Status, Log, Await}
+use Rattle.wire.specs.declared.standing.Difference.{Difference}
+use Rattle.wire.specs.declared.standing.Difference.TheVariants.{OtherEntry, Shorter}
+use Rattle.wire.specs.declared.values.ClientRefusal.{ClientRefusal}
 use Rattle.wire.specs.declared.standing.Lengths.{Lengths}
 use Rattle.wire.specs.declared.standing.Lengths.TheVariants.{OfThree, OfFive}
 use Rattle.wire.specs.Fields.{Read, ◌>>=◌, number_at, byte_at, two, many, all_of, numbered}
 use Rattle.wire.specs.Ranges.{Way, Between, FromClient, ToClient, way_of}
 use Rattle.wire.specs.declared.values.Version.{Version}
-use Rattle.wire.specs.declared.values.Version.TheVariants.{One, Two, Three, Four}
+use Rattle.wire.specs.declared.values.Version.TheVariants.{One, Two, Three, Four, Five}
 use Rattle.texts.specs.declared.answer.Answer.{Answer}
 use Rattle.wire.specs.Numbers.{versions, version_number, last_code, last_event, answers}
 use Rattle.wire.specs.Numbers.{answer_number, refusals, refusal_number, styles, style_number, roles}
-use Rattle.wire.specs.Numbers.{role_number}
+use Rattle.wire.specs.Numbers.{role_number, last_refusal}
 
 abbrev pub between : ℕ → ℕ → ℕ → Bool
 between low high n = nat_le low n && nat_le n high
@@ -114,6 +117,7 @@ count_at One bytes = Some (1, bytes)
 count_at Two bytes = told_count_at bytes
 count_at Three bytes = told_count_at bytes
 count_at Four bytes = told_count_at bytes
+count_at Five bytes = told_count_at bytes
 
 -- so many entries, one after the other
 abbrev pub entries_at : ℕ → List ℕ → Read (List Entry)
@@ -155,6 +159,39 @@ lengths_at bytes = do
       else if desks.0 == 5
       then five_at desks.1
       else None
+
+-- a desk of a hall
+unfoldable pub desk_at : List ℕ → Read ℕ
+desk_at bytes = do
+  n ← byte_at bytes
+  if between 1 5 n.0 then Some n else None
+
+-- how a desk differs: 0 where none does; 1, the desk and a position at which it has another entry;
+-- or 2, the desk and the length of its log, which was longer
+unfoldable pub difference_at : List ℕ → Read (Option Difference)
+difference_at [] = None
+difference_at (zero ∷ rest) = Some (None, rest)
+difference_at (suc zero ∷ rest) = do
+  place ← two desk_at position_at rest
+  Some (Some (OtherEntry place.0.0 place.0.1), place.1)
+difference_at (suc (suc zero) ∷ rest) = do
+  place ← two desk_at position_at rest
+  Some (Some (Shorter place.0.0 place.0.1), place.1)
+difference_at (suc (suc (suc b)) ∷ rest) = None
+
+-- which the versions before 5 do not say
+unfoldable pub differs_at : Version → List ℕ → Read (Option Difference)
+differs_at One bytes = Some (None, bytes)
+differs_at Two bytes = Some (None, bytes)
+differs_at Three bytes = Some (None, bytes)
+differs_at Four bytes = Some (None, bytes)
+differs_at Five bytes = difference_at bytes
+
+-- a refusal that a version tells
+unfoldable pub refusal_at : Version → List ℕ → Read ClientRefusal
+refusal_at version bytes = do
+  refusal ← member_at refusal_number refusals bytes
+  if nat_le (refusal_number refusal.0) (last_refusal version) then Some refusal else None
 
 -- an event whose sheets can be asked for in a version
 unfoldable pub event_at : Version → List ℕ → Read Event
@@ -213,23 +250,28 @@ taken_of bytes = all_of id_at bytes >>= λ x. Some (Taken x)
 abbrev pub told_of : Version → List ℕ → Option What
 told_of version bytes = all_of (two id_at (state_at version)) bytes >>= λ x. Some (Told x.0 x.1)
 
-abbrev pub refused_of : List ℕ → Option What
-refused_of bytes = all_of (member_at refusal_number refusals) bytes >>= λ x. Some (Refused x)
+abbrev pub refused_of : Version → List ℕ → Option What
+refused_of version bytes = all_of (refusal_at version) bytes >>= λ x. Some (Refused x)
 
 abbrev pub log_of : List ℕ → Option What
 log_of bytes = all_of log_length_at bytes >>= λ x. Some (Log x)
 
-abbrev pub standing_of : List ℕ → Option What
-standing_of bytes =
+abbrev pub await_of : List ℕ → Option What
+await_of bytes = all_of (two id_at byte_at) bytes >>= λ x. Some (Await x.0 x.1)
+
+abbrev pub standing_of : Version → List ℕ → Option What
+standing_of version bytes =
     all_of (two log_length_at
-    (two byte_at (two (member_at role_number roles) (two promised_at lengths_at))))
+    (two byte_at (two (member_at role_number roles)
+    (two promised_at (two lengths_at (differs_at version))))))
     bytes
     >>= λ x. Some (variant.Standing (record {
       length = x.0;
       waiting = x.1.0;
       role = x.1.1.0;
       promised = x.1.1.1.0;
-      told = x.1.1.1.1;
+      told = x.1.1.1.1.0;
+      differs = x.1.1.1.1.1;
     }))
 
 abbrev pub entries_of : List ℕ → Option What
@@ -255,11 +297,16 @@ first_kinds =
 abbrev pub later_kinds : List ℕ
 later_kinds = 21 ∷ 22 ∷ 37 ∷ 38 ∷ first_kinds
 
+-- those of version 5: one more
+abbrev pub last_kinds : List ℕ
+last_kinds = 23 ∷ later_kinds
+
 abbrev pub kinds : Version → List ℕ
 kinds One = first_kinds
 kinds Two = first_kinds
 kinds Three = later_kinds
 kinds Four = later_kinds
+kinds Five = last_kinds
 
 abbrev pub is_kind : Version → ℕ → Bool
 is_kind version kind = list_any (λ k. k == kind) (kinds version)
@@ -281,12 +328,13 @@ what_of version kind bytes =
     else if kind == 20 then empty_of Stop bytes
     else if kind == 21 then empty_of Status bytes
     else if kind == 22 then log_of bytes
+    else if kind == 23 then await_of bytes
     else if kind == 32 then taken_of bytes
     else if kind == 33 then told_of version bytes
     else if kind == 34 then Some (SheetText bytes)
-    else if kind == 35 then refused_of bytes
+    else if kind == 35 then refused_of version bytes
     else if kind == 36 then empty_of Fine bytes
-    else if kind == 37 then standing_of bytes
+    else if kind == 37 then standing_of version bytes
     else if kind == 38 then entries_of bytes
     else None
 

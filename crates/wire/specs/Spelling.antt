@@ -14,12 +14,14 @@ use Rattle.wire.specs.declared.frame.What.TheVariants as variant
 use Rattle.wire.specs.declared.frame.What.TheVariants.{Prepare, Promise, Accept, Accepted, Nack}
 use Rattle.wire.specs.declared.frame.What.TheVariants.{Behind, Decided, Submit, Ask, Sheet, Tick}
 use Rattle.wire.specs.declared.frame.What.TheVariants.{Stop, Taken, Told, SheetText, Refused, Fine}
-use Rattle.wire.specs.declared.frame.What.TheVariants.{Status, Log}
+use Rattle.wire.specs.declared.frame.What.TheVariants.{Status, Log, Await}
+use Rattle.wire.specs.declared.standing.Difference.{Difference}
+use Rattle.wire.specs.declared.standing.Difference.TheVariants.{OtherEntry, Shorter}
 use Rattle.wire.specs.declared.standing.Lengths.{Lengths}
 use Rattle.wire.specs.declared.standing.Lengths.TheVariants.{OfThree, OfFive}
 use Rattle.wire.specs.declared.standing.Standing.{Standing}
 use Rattle.wire.specs.declared.values.Version.{Version}
-use Rattle.wire.specs.declared.values.Version.TheVariants.{One, Two, Three, Four}
+use Rattle.wire.specs.declared.values.Version.TheVariants.{One, Two, Three, Four, Five}
 use Rattle.wire.specs.Numbers.{answer_number, refusal_number, role_number, style_number}
 use Rattle.wire.specs.Numbers.{version_number}
 
@@ -58,6 +60,7 @@ kind_of Tick = 19
 kind_of Stop = 20
 kind_of Status = 21
 kind_of (Log position) = 22
+kind_of (Await id seconds) = 23
 kind_of (Taken id) = 32
 kind_of (Told id s) = 33
 kind_of (SheetText bytes) = 34
@@ -72,6 +75,7 @@ count_bytes One n = []
 count_bytes Two n = n ∷ []
 count_bytes Three n = n ∷ []
 count_bytes Four n = n ∷ []
+count_bytes Five n = n ∷ []
 
 abbrev pub decided_bytes : Version → ℕ → List Entry → List ℕ
 decided_bytes version pos entries =
@@ -92,10 +96,25 @@ abbrev pub lengths_bytes : Lengths → List ℕ
 lengths_bytes told =
     length (lengths_of told) ∷ flat_map (λ n. to_be_bytes w32 n) (lengths_of told)
 
-abbrev pub standing_bytes : Standing → List ℕ
-standing_bytes s =
+-- how a desk differs: 0 where none does; 1, the desk and a position at which it has another entry;
+-- or 2, the desk and the length of its log, which was longer
+abbrev pub difference_bytes : Option Difference → List ℕ
+difference_bytes None = 0 ∷ []
+difference_bytes (Some (OtherEntry desk position)) = 1 ∷ desk ∷ to_be_bytes w32 position
+difference_bytes (Some (Shorter desk len)) = 2 ∷ desk ∷ to_be_bytes w32 len
+
+-- which the versions before 5 do not say
+abbrev pub differs_bytes : Version → Option Difference → List ℕ
+differs_bytes One d = []
+differs_bytes Two d = []
+differs_bytes Three d = []
+differs_bytes Four d = []
+differs_bytes Five d = difference_bytes d
+
+abbrev pub standing_bytes : Version → Standing → List ℕ
+standing_bytes version s =
     to_be_bytes w32 s.length ++ s.waiting ∷ role_number s.role ∷
-    promised_bytes s.promised ++ lengths_bytes s.told
+    promised_bytes s.promised ++ lengths_bytes s.told ++ differs_bytes version s.differs
 
 -- a position, the length of the log, how many entries follow, and the entries
 abbrev pub log_bytes : ℕ → ℕ → List Entry → List ℕ
@@ -120,12 +139,13 @@ body v Tick = []
 body v Stop = []
 body v Status = []
 body v (Log position) = to_be_bytes w32 position
+body v (Await id seconds) = to_be_bytes w64 id ++ seconds ∷ []
 body v (Taken id) = to_be_bytes w64 id
 body v (Told id s) = to_be_bytes w64 id ++ state_bytes s
 body v (SheetText bytes) = bytes
 body v (Refused refusal) = refusal_number refusal ∷ []
 body v Fine = []
-body v (variant.Standing standing) = standing_bytes standing
+body v (variant.Standing standing) = standing_bytes v standing
 body v (variant.Entries position len entries) = log_bytes position len entries
 
 -- what stands after the length: version, hall, sender, receiver, kind, fields

@@ -34,7 +34,7 @@ fn count_of(version: Version, bytes: &[u8]) -> Result<(u8, &[u8]), WireFault>
 {
     match version {
         Version::One => Ok((1, bytes)),
-        Version::Two | Version::Three | Version::Four => told_count_of(bytes),
+        Version::Two | Version::Three | Version::Four | Version::Five => told_count_of(bytes),
     }
 }
 

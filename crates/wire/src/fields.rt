@@ -10,13 +10,14 @@ ghost use Rattle.wire.specs.Numbers.{answers, answer_number, refusals, refusal_n
 ghost use Rattle.wire.specs.Numbers.{style_number, roles, role_number};
 ghost use Rattle.wire.specs.Reading.{ballot_at, limited_at, position_at, id_at, text_at, entry_at};
 ghost use Rattle.wire.specs.Reading.{report_at, member_at, event_at, answer_at, state_at};
-ghost use Rattle.wire.specs.Reading.{log_length_at, promised_at, lengths_at};
+ghost use Rattle.wire.specs.Reading.{log_length_at, promised_at, lengths_at, desk_at, refusal_at};
+ghost use Rattle.wire.specs.Reading.{difference_at, differs_at};
 ghost use Rattle.wire.specs.declared.fault.WireFault.TheVariants.{NoMemory};
 ghost use Rattle.wire.specs.model.Gives.{GivesField};
 ghost use Rattle.wire.specs.model.Parts.{part_entry, part_report, IsPart};
 
 use crate::fault::WireFault;
-use crate::standing::Lengths;
+use crate::standing::{Difference, Lengths};
 use crate::values::{ClientRefusal, CommandState, DeskRole, SheetStyle, Version, number_of};
 use acceptor::MOST_ENTRIES;
 use acceptor::ballot::Ballot;
@@ -171,6 +172,54 @@ pub(crate) fn lengths_of(bytes: &[u8]) -> Result<(Lengths, &[u8]), WireFault>
     }
 }
 
+/// A desk of a hall.
+#[tactic(auto, unfolding(crate::specs::Reading::desk_at))]
+fn desk_of(bytes: &[u8]) -> Result<(u8, &[u8]), WireFault>
+    ensures { GivesField (λ x. (x.0, x.1.now)) result (desk_at bytes.now) }
+{
+    let (desk, rest) = byte_of(bytes)?;
+    if 1 <= desk && desk <= 5 {
+        Ok((desk, rest))
+    } else {
+        Err(WireFault::BadBody)
+    }
+}
+
+/// How a desk differs, or that none does.
+#[tactic(auto, unfolding(crate::specs::Reading::difference_at))]
+fn difference_of(bytes: &[u8]) -> Result<(Option<Difference>, &[u8]), WireFault>
+    ensures { GivesField (λ x. (x.0, x.1.now)) result (difference_at bytes.now) }
+{
+    match bytes {
+        [0, rest @ ..] => Ok((None, rest)),
+        [1, rest @ ..] => {
+            let (desk, rest) = desk_of(rest)?;
+            let (position, rest) = position_of(rest)?;
+            Ok((Some(Difference::OtherEntry { desk, position }), rest))
+        }
+        [2, rest @ ..] => {
+            let (desk, rest) = desk_of(rest)?;
+            let (length, rest) = position_of(rest)?;
+            Ok((Some(Difference::Shorter { desk, length }), rest))
+        }
+        _ => Err(WireFault::BadBody),
+    }
+}
+
+/// The same in a version, of which those before 5 tell none.
+#[tactic(auto, unfolding(crate::specs::Reading::differs_at))]
+pub(crate) fn differs_of(
+    version: Version,
+    bytes: &[u8],
+) -> Result<(Option<Difference>, &[u8]), WireFault>
+    ensures { GivesField (λ x. (x.0, x.1.now)) result (differs_at version bytes.now) }
+{
+    match version {
+        Version::One | Version::Two | Version::Three | Version::Four => Ok((None, bytes)),
+        Version::Five => difference_of(bytes),
+    }
+}
+
 #[tactic(auto, unfolding(crate::specs::Reading::id_at))]
 pub(crate) fn id_of(bytes: &[u8]) -> Result<(u64, &[u8]), WireFault>
     ensures value { GivesField (λ x. (x.0, x.1.now)) result (id_at bytes.now) }
@@ -321,13 +370,29 @@ pub(crate) fn style_of(bytes: &[u8]) -> Result<(SheetStyle, &[u8]), WireFault>
 }
 
 #[tactic(auto, unfolding(crate::specs::Reading::member_at))]
-pub(crate) fn refusal_of(bytes: &[u8]) -> Result<(ClientRefusal, &[u8]), WireFault>
+fn any_refusal_of(bytes: &[u8]) -> Result<(ClientRefusal, &[u8]), WireFault>
     ensures { GivesField (λ x. (x.0, x.1.now)) result
         (member_at refusal_number refusals bytes.now) }
 {
     let (number, rest) = byte_of(bytes)?;
     let refusal = there(ClientRefusal::from_number(number))?;
     Ok((refusal, rest))
+}
+
+/// A refusal that this version tells.
+#[tactic(auto, unfolding(crate::specs::Reading::refusal_at))]
+pub(crate) fn refusal_of(
+    version: Version,
+    bytes: &[u8],
+) -> Result<(ClientRefusal, &[u8]), WireFault>
+    ensures { GivesField (λ x. (x.0, x.1.now)) result (refusal_at version bytes.now) }
+{
+    let (refusal, rest) = any_refusal_of(bytes)?;
+    if refusal.number() <= version.last_refusal() {
+        Ok((refusal, rest))
+    } else {
+        Err(WireFault::BadBody)
+    }
 }
 
 #[tactic(auto, unfolding(crate::specs::Reading::member_at))]

@@ -33,9 +33,9 @@ pub struct Frame {
 /// a desk of 1 to 5; a position is at most 65,535; an id is 1 to 2^63 - 1; an entry has an id and a
 /// text of at most 600 bytes. A Decided has one entry in version 1 and 1 to 16 in the later ones,
 /// for consecutive positions, and a Sheet an event of 1 to 16 or 1 to 17. Status, Log, Standing and
-/// Entries are kinds of the versions from 3 on. Prepare to Decided go from a desk to a desk;
-/// Submit, Ask, Sheet, Tick, Stop, Status and Log from a client (0) to a desk; the others from a
-/// desk to a client.
+/// Entries are kinds of the versions from 3 on, and Await is one of version 5. Prepare to Decided
+/// go from a desk to a desk; Submit, Ask, Sheet, Tick, Stop, Status, Log and Await from a client
+/// (0) to a desk; the others from a desk to a client.
 #[derive(PartialEq, Eq, Debug, Drop)]
 pub enum What {
     /// A desk asks for promises.
@@ -120,6 +120,12 @@ pub enum What {
     Log {
         position: u32,
     },
+    /// A client asks what became of the command with this id, once it stands in the log, or after
+    /// so many seconds.
+    Await {
+        id: u64,
+        seconds: u8,
+    },
     /// How the desk stands.
     Standing {
         standing: Standing,
@@ -137,7 +143,7 @@ pub enum What {
 impl What {
     ghost use Rattle.wire.specs.Spelling.{kind_of};
 
-    /// The number of the kind: 1 to 7 between desks, 16 to 22 from a client, 32 to 38 to a client.
+    /// The number of the kind: 1 to 7 between desks, 16 to 23 from a client, 32 to 38 to a client.
     pub fn kind(&self) -> u8
         ensures { result ≡ kind_of self.now }
     {
@@ -161,6 +167,7 @@ impl What {
             What::Fine => 36,
             What::Status => 21,
             What::Log { .. } => 22,
+            What::Await { .. } => 23,
             What::Standing { .. } => 37,
             What::Entries { .. } => 38,
         }

@@ -16,7 +16,7 @@ pub fn one_spelling_each()
 
 /// A stream breaks exactly where its first fault stands. BadLength: the first length is not 8 to
 /// 300,000, as soon as its four bytes are there. Otherwise, once the whole frame is there:
-/// BadVersion, where the version is none of 1 to 4; BadKind, where it is, and no kind of the
+/// BadVersion, where the version is none of 1 to 5; BadKind, where it is, and no kind of the
 /// version has the number; BadBody, where both are good, and no frame is spelled so.
 pub fn first_fault()
     ensures { (bytes : List ℕ) (e : WireFault) → AreBytes bytes → IsFaultWhereFirst bytes e }

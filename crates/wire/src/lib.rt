@@ -25,7 +25,7 @@ pub use entries::Entries;
 pub use fault::WireFault;
 pub use frame::{Frame, What};
 pub use reader::{FrameReader, Received, read_pieces};
-pub use standing::{Lengths, Standing};
+pub use standing::{Difference, Lengths, Standing};
 pub use std::alloc::AllocError as NoMemory;
 pub use values::{ClientRefusal, CommandState, DeskRole, SheetStyle, Version};
 pub use writing::encode;

@@ -6,16 +6,17 @@ ghost use Rattle.wire.specs.declared.frame.What.TheVariants.{SheetText};
 ghost use Rattle.wire.specs.Ranges.{way_of_kind};
 ghost use Rattle.wire.specs.Reading.{prepare_of, promise_of, accept_of, accepted_of, nack_of};
 ghost use Rattle.wire.specs.Reading.{behind_of, submit_of, ask_of, sheet_of, taken_of, told_of};
-ghost use Rattle.wire.specs.Reading.{refused_of, log_of, standing_of, empty_of, what_of, is_kind};
-ghost use Rattle.wire.specs.Reading.{is_desk, goes, frame_of};
+ghost use Rattle.wire.specs.Reading.{refused_of, log_of, await_of, standing_of, empty_of, what_of};
+ghost use Rattle.wire.specs.Reading.{is_kind, is_desk, goes, frame_of};
 ghost use Rattle.wire.specs.model.Gives.{GivesBody, GivesFrame};
 
 use crate::bytes::Bytes;
 use crate::decided::decided_of;
 use crate::fault::WireFault;
 use crate::fields::{
-    ballot_of, byte_of, end, entry_of, event_of, id_of, lengths_of, limited_of, log_length_of,
-    position_of, promised_of, refusal_of, report_of, role_of, state_of, style_of, u32_of,
+    ballot_of, byte_of, differs_of, end, entry_of, event_of, id_of, lengths_of, limited_of,
+    log_length_of, position_of, promised_of, refusal_of, report_of, role_of, state_of, style_of,
+    u32_of,
 };
 use crate::frame::{Frame, What};
 use crate::log_entries::entries_of;
@@ -139,10 +140,10 @@ fn told_of(version: Version, bytes: &[u8]) -> Result<What, WireFault>
     Ok(What::Told { id, state })
 }
 
-fn refused_of(bytes: &[u8]) -> Result<What, WireFault>
-    ensures { GivesBody result (refused_of bytes.now) }
+fn refused_of(version: Version, bytes: &[u8]) -> Result<What, WireFault>
+    ensures { GivesBody result (refused_of version bytes.now) }
 {
-    let (refusal, rest) = refusal_of(bytes)?;
+    let (refusal, rest) = refusal_of(version, bytes)?;
     end(rest)?;
     Ok(What::Refused { refusal })
 }
@@ -155,14 +156,24 @@ fn log_of(bytes: &[u8]) -> Result<What, WireFault>
     Ok(What::Log { position })
 }
 
-fn standing_of(bytes: &[u8]) -> Result<What, WireFault>
-    ensures { GivesBody result (standing_of bytes.now) }
+fn await_of(bytes: &[u8]) -> Result<What, WireFault>
+    ensures { GivesBody result (await_of bytes.now) }
+{
+    let (id, rest) = id_of(bytes)?;
+    let (seconds, rest) = byte_of(rest)?;
+    end(rest)?;
+    Ok(What::Await { id, seconds })
+}
+
+fn standing_of(version: Version, bytes: &[u8]) -> Result<What, WireFault>
+    ensures { GivesBody result (standing_of version bytes.now) }
 {
     let (length, rest) = log_length_of(bytes)?;
     let (waiting, rest) = byte_of(rest)?;
     let (role, rest) = role_of(rest)?;
     let (promised, rest) = promised_of(rest)?;
     let (told, rest) = lengths_of(rest)?;
+    let (differs, rest) = differs_of(version, rest)?;
     end(rest)?;
     let standing = Standing {
         length,
@@ -170,6 +181,7 @@ fn standing_of(bytes: &[u8]) -> Result<What, WireFault>
         role,
         promised,
         told,
+        differs,
     };
     Ok(What::Standing { standing })
 }
@@ -210,12 +222,13 @@ fn what_of(alloc: Global, version: Version, kind: u8, bytes: &[u8]) -> Result<Wh
         20 => empty_of(What::Stop, bytes),
         21 => empty_of(What::Status, bytes),
         22 => log_of(bytes),
+        23 => await_of(bytes),
         32 => taken_of(bytes),
         33 => told_of(version, bytes),
         34 => sheet_text_of(alloc, bytes),
-        35 => refused_of(bytes),
+        35 => refused_of(version, bytes),
         36 => empty_of(What::Fine, bytes),
-        37 => standing_of(bytes),
+        37 => standing_of(version, bytes),
         38 => entries_of(alloc, bytes),
         _ => Err(WireFault::BadBody),
     }
@@ -228,6 +241,7 @@ fn is_kind(version: Version, kind: u8) -> bool
     match version {
         Version::One | Version::Two => matches!(kind, 1..=7 | 16..=20 | 32..=36),
         Version::Three | Version::Four => matches!(kind, 1..=7 | 16..=22 | 32..=38),
+        Version::Five => matches!(kind, 1..=7 | 16..=23 | 32..=38),
     }
 }
 
@@ -237,14 +251,14 @@ fn is_desk(number: u8) -> bool
     1 <= number && number <= 5
 }
 
-/// The sender and the receiver fit the kind: 1 to 7 go from a desk to a desk, 16 to 22 from a
+/// The sender and the receiver fit the kind: 1 to 7 go from a desk to a desk, 16 to 23 from a
 /// client to a desk, 32 to 38 from a desk to a client.
 fn goes(kind: u8, from: u8, to: u8) -> bool
     ensures { result ≡ goes (way_of_kind kind) from to }
 {
     if kind <= 7 {
         is_desk(from) && is_desk(to)
-    } else if kind <= 22 {
+    } else if kind <= 23 {
         from == 0 && is_desk(to)
     } else {
         is_desk(from) && to == 0

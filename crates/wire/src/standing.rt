@@ -5,7 +5,7 @@ ghost use Rattle.std.specs.List.{AllByRecursion};
 ghost use Rattle.wire.specs.Ranges.{IsLogLength, AreLengths};
 ghost use Rattle.wire.specs.Spelling.{lengths_of};
 
-use crate::values::DeskRole;
+use crate::values::{DeskRole, Version};
 use acceptor::ballot::Ballot;
 
 /// How a desk stands.
@@ -21,6 +21,42 @@ pub struct Standing {
     pub promised: Option<Ballot>,
     /// The lengths of the logs of the hall's desks, as far as it has heard of them.
     pub told: Lengths,
+    /// How another desk differs, if this one has heard so since it was started. Versions 3 and 4
+    /// tell none.
+    pub differs: Option<Difference>,
+}
+
+/// What another desk of the hall has said that no desk says of which the file was never lost and
+/// never replaced by an older one.
+#[derive(Clone, Copy, Debug, PartialEq, Eq)]
+pub enum Difference {
+    /// This desk has said that another entry stands at a position of the log, 0 to 65,535, than
+    /// the one that does.
+    OtherEntry { desk: u8, position: u32 },
+    /// This desk has said that its log has so many entries, 0 to 65,535, after it had said that it
+    /// has more.
+    Shorter { desk: u8, length: u32 },
+}
+
+impl Standing {
+    ghost use Rattle.wire.specs.Numbers.{standing_in};
+
+    /// What a version tells of how a desk stands: before version 5 nothing of a difference.
+    pub fn in_version(self, version: Version) -> Standing
+        ensures { result ≡ standing_in version self }
+    {
+        match version {
+            Version::Five => self,
+            Version::One | Version::Two | Version::Three | Version::Four => Standing {
+                length: self.length,
+                waiting: self.waiting,
+                role: self.role,
+                promised: self.promised,
+                told: self.told,
+                differs: None,
+            },
+        }
+    }
 }
 
 /// The lengths of the logs of a hall's desks, each at most 65,536, in the order of the desks'

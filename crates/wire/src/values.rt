@@ -26,6 +26,8 @@ pub enum Version {
     Three,
     /// Version 3, and the code 25.
     Four,
+    /// Version 4, the kind Await, the refusal 10, and in a Standing how another desk differs.
+    Five,
 }
 
 /// How a sheet is printed.
@@ -97,6 +99,10 @@ pub enum ClientRefusal {
     Foreign,
     /// The connection may not ask for that: it is under no key, or under another than the hall's.
     NotAllowed,
+    /// Another desk of the hall has said something that differs from what stands in this desk's
+    /// log, or from what it said before. This desk takes no more commands until it is started
+    /// again.
+    HallDiffers,
 }
 
 /// What a desk does for a ballot of its own.
@@ -115,10 +121,16 @@ pub enum DeskRole {
 impl Version {
     ghost use Rattle.wire.specs.Fields.{numbered};
     ghost use Rattle.wire.specs.Numbers.{versions, version_number, last_event, last_code};
-    ghost use Rattle.wire.specs.Numbers.{answer_in};
+    ghost use Rattle.wire.specs.Numbers.{answer_in, last_refusal, refusal_in};
 
     /// All versions.
-    pub const ALL: [Version; 4] = [Version::One, Version::Two, Version::Three, Version::Four];
+    pub const ALL: [Version; 5] = [
+        Version::One,
+        Version::Two,
+        Version::Three,
+        Version::Four,
+        Version::Five,
+    ];
 
     /// The version's number, with which what stands after a frame's length begins.
     pub fn number(self) -> u8
@@ -129,6 +141,7 @@ impl Version {
             Version::Two => 2,
             Version::Three => 3,
             Version::Four => 4,
+            Version::Five => 5,
         }
     }
 
@@ -148,7 +161,7 @@ impl Version {
     {
         match self {
             Version::One => LAST_OF_ONE.number(),
-            Version::Two | Version::Three | Version::Four => LAST_OF_TWO.number(),
+            Version::Two | Version::Three | Version::Four | Version::Five => LAST_OF_TWO.number(),
         }
     }
 
@@ -160,7 +173,31 @@ impl Version {
         match self {
             Version::One | Version::Two => Code::Unfinished.number(),
             Version::Three => Code::NotClosed.number(),
-            Version::Four => Code::Changed.number(),
+            Version::Four | Version::Five => Code::Changed.number(),
+        }
+    }
+
+    /// The number of the last refusal that this version tells.
+    pub fn last_refusal(self) -> u8
+        ensures { result ≡ last_refusal self }
+    {
+        match self {
+            Version::One | Version::Two | Version::Three | Version::Four => {
+                ClientRefusal::NotAllowed.number()
+            }
+            Version::Five => ClientRefusal::HallDiffers.number(),
+        }
+    }
+
+    /// What this version tells of a refusal. One that it does not have is told as `Down`: the desk
+    /// takes no command any more, and another one may.
+    pub fn refusal(self, refusal: ClientRefusal) -> ClientRefusal
+        ensures { result ≡ refusal_in self refusal }
+    {
+        if refusal.number() <= self.last_refusal() {
+            refusal
+        } else {
+            ClientRefusal::Down
         }
     }
 
@@ -210,7 +247,7 @@ impl ClientRefusal {
     ghost use Rattle.wire.specs.Numbers.{refusals, refusal_number};
 
     /// All refusals, in the order of their numbers.
-    pub const ALL: [ClientRefusal; 9] = [
+    pub const ALL: [ClientRefusal; 10] = [
         ClientRefusal::Busy,
         ClientRefusal::LogFull,
         ClientRefusal::BallotsSpent,
@@ -220,6 +257,7 @@ impl ClientRefusal {
         ClientRefusal::NoSuchRound,
         ClientRefusal::Foreign,
         ClientRefusal::NotAllowed,
+        ClientRefusal::HallDiffers,
     ];
 
     /// The refusal's number in a frame.
@@ -236,6 +274,7 @@ impl ClientRefusal {
             ClientRefusal::NoSuchRound => 7,
             ClientRefusal::Foreign => 8,
             ClientRefusal::NotAllowed => 9,
+            ClientRefusal::HallDiffers => 10,
         }
     }
 

@@ -1,17 +1,18 @@
 //! Frames as bytes.
 
-ghost use Rattle.std.specs.Prelude.{◌≡◌, ◌≤◌, ◌<◌, ◌++◌, IfOk, OnOk, length};
+ghost use Rattle.std.specs.Prelude.{◌≡◌, ◌≤◌, ◌<◌, ◌∷◌, ◌++◌, IfOk, OnOk, length};
 ghost use Rattle.std.specs.Int.{w16, w32, w64, to_be_bytes};
 ghost use Rattle.wire.specs.Ranges.{IsFrame, IsBody};
 ghost use Rattle.std.specs.List.{flat_map};
 ghost use Rattle.wire.specs.Spelling.{ballot_bytes, text_bytes, entry_bytes, count_bytes};
 ghost use Rattle.wire.specs.Spelling.{promised_bytes, lengths_bytes, standing_bytes, log_bytes};
+ghost use Rattle.wire.specs.Spelling.{difference_bytes, differs_bytes};
 ghost use Rattle.wire.specs.Spelling.{report_bytes, state_bytes, body, inside};
 ghost use Rattle.wire.specs.Spelling.{spelling};
 
 use crate::NoMemory;
 use crate::frame::{Frame, What};
-use crate::standing::{Lengths, Standing};
+use crate::standing::{Difference, Lengths, Standing};
 use crate::values::{CommandState, Version, number_of};
 use acceptor::ballot::Ballot;
 use acceptor::entry::Entry;
@@ -101,7 +102,7 @@ fn put_count(out: &mut Vec<u8>, version: Version, count: usize) -> Result<(), No
 {
     match version {
         Version::One => Ok(()),
-        Version::Two | Version::Three | Version::Four => {
+        Version::Two | Version::Three | Version::Four | Version::Five => {
             out.push(count as u8)?;
             Ok(())
         }
@@ -156,13 +157,51 @@ fn put_lengths(out: &mut Vec<u8>, told: Lengths) -> Result<(), NoMemory>
     }
 }
 
-fn put_standing(out: &mut Vec<u8>, standing: Standing) -> Result<(), NoMemory>
-    ensures { OnOk result (out.new.items ≡ out.old.items ++ standing_bytes standing) }
+/// A desk and a number.
+fn put_desk(out: &mut Vec<u8>, kind: u8, desk: u8, number: u32) -> Result<(), NoMemory>
+    ensures { OnOk result
+        (out.new.items ≡ out.old.items ++ (kind ∷ desk ∷ to_be_bytes w32 number)) }
+{
+    out.extend_from_slice(&[kind, desk])?;
+    put_u32(out, number)
+}
+
+/// How a desk differs, or a zero byte.
+fn put_difference(out: &mut Vec<u8>, differs: Option<Difference>) -> Result<(), NoMemory>
+    ensures { OnOk result (out.new.items ≡ out.old.items ++ difference_bytes differs) }
+{
+    match differs {
+        None => {
+            out.push(0)?;
+            Ok(())
+        }
+        Some(Difference::OtherEntry { desk, position }) => put_desk(out, 1, desk, position),
+        Some(Difference::Shorter { desk, length }) => put_desk(out, 2, desk, length),
+    }
+}
+
+/// The same in a version, of which those before 5 do not say it.
+fn put_differs(
+    out: &mut Vec<u8>,
+    version: Version,
+    differs: Option<Difference>,
+) -> Result<(), NoMemory>
+    ensures { OnOk result (out.new.items ≡ out.old.items ++ differs_bytes version differs) }
+{
+    match version {
+        Version::One | Version::Two | Version::Three | Version::Four => Ok(()),
+        Version::Five => put_difference(out, differs),
+    }
+}
+
+fn put_standing(out: &mut Vec<u8>, version: Version, standing: Standing) -> Result<(), NoMemory>
+    ensures { OnOk result (out.new.items ≡ out.old.items ++ standing_bytes version standing) }
 {
     put_u32(out, standing.length)?;
     out.extend_from_slice(&[standing.waiting, standing.role.number()])?;
     put_promised(out, standing.promised)?;
-    put_lengths(out, standing.told)
+    put_lengths(out, standing.told)?;
+    put_differs(out, version, standing.differs)
 }
 
 /// A position, the length of the log, how many entries follow, and the entries.
@@ -231,7 +270,12 @@ fn put_body(out: &mut Vec<u8>, version: Version, what: &What) -> Result<(), NoMe
             Ok(())
         }
         What::Log { position } => put_u32(out, *position),
-        What::Standing { standing } => put_standing(out, *standing),
+        What::Await { id, seconds } => {
+            put_u64(out, *id)?;
+            out.push(*seconds)?;
+            Ok(())
+        }
+        What::Standing { standing } => put_standing(out, version, *standing),
         What::Entries {
             position,
             length,

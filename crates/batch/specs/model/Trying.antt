@@ -7,8 +7,8 @@ use Rattle.wire.specs.declared.frame.What.{What}
 use Rattle.wire.specs.declared.frame.What.TheVariants as what
 use Rattle.client.specs.declared.fault.ClientFault.TheVariants.{Refused}
 use Rattle.wire.specs.declared.values.ClientRefusal.TheVariants.{Busy}
-use Rattle.batch.specs.Asking.{AreAllTries, AreKnown, Asked, IsAnswer, IsForgotten, IsFull}
-use Rattle.batch.specs.Asking.{IsPending, IsTicked, IsUnknown, IsWaiting, ask_of, submit_of}
+use Rattle.batch.specs.Asking.{AreAllTries, AreAllWaits, AreKnown, Asked, IsAnswer, IsForgotten}
+use Rattle.batch.specs.Asking.{IsFull, IsPending, IsTicked, IsUnknown, IsWaiting, ask_of, submit_of}
 use Rattle.batch.specs.Asking.{tick_of}
 use Rattle.batch.specs.Entering.{IsOther}
 use Rattle.batch.specs.Watching.{Tells, Watched, notices_of}
@@ -28,6 +28,10 @@ abbrev pub AreTicks : Receiver → ℕ → List Asked → Type 0
 AreTicks r tries asked =
     AllByRecursion (IsTicked r) asked × (tries / 32 + length asked ≡ (tries + 1) / 32)
 
+-- one tick
+abbrev pub AreTicked : Receiver → List Asked → Type 0
+AreTicked r asked = AllByRecursion (IsTicked r) asked × (length asked ≡ 1)
+
 -- The last request failed by this fault. It was a tick; or it was this one, and where the desk's
 -- queue was full, that was so 10,000 times before.
 abbrev pub IsLastTry : BatchFault → Receiver → Frame → List Asked → Type 0
@@ -46,7 +50,7 @@ IsLastOf f r request asked =
 abbrev pub IsUnanswered : BatchFault → Receiver → ℕ → List Asked → Type 0
 IsUnanswered f r id asked =
     IsLastOf f r (ask_of r id) asked
-    ⊎ ((f ≡ fault.StillPending) × AreAllTries (IsWaiting (ask_of r id)) r asked)
+    ⊎ ((f ≡ fault.StillPending) × AreAllWaits (IsWaiting (ask_of r id)) r asked)
 
 -- each request was for the id, or a tick, and it isn't asked further: no answer says that nothing
 -- is known of the id, or the last one does, and the fault is Lost

@@ -17,7 +17,7 @@ use crate::stored_log::fault::{LogFault, fault_of_open, fault_of_run};
 use crate::{check_use, fault_of_load, open_file};
 use archive::write_log;
 use learner::log::Log;
-use sqlite::{Alter, Connection, Error, FileFrom, FileStore, Row, Start};
+use sqlite::{Alter, Connection, Error, FileFrom, FileStore, Row, Start, Unknown};
 use std::alloc::Global;
 use std::fs;
 use std::io::{ErrorKind, Write};
@@ -158,7 +158,7 @@ fn open<S: Start>(
         Ok(false) => return Err(LogFault::Damaged),
         Err(fault) => return Err(fault),
     }
-    if let Err(fault) = check_use(rt, path) {
+    if let Err(fault) = check_use(rt, path, Unknown) {
         return Err(fault_of_open(fault));
     }
     match open_file(rt, path, start) {

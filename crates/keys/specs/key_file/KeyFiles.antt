@@ -8,9 +8,9 @@ use Rattle.std.specs.declared.fs.attrs.Metadata.{Metadata}
 use Rattle.hex.specs.Hex.{decode_of, encode_lower, is_hex_digit}
 use Rattle.keys.specs.Keys.{digits_of}
 use Rattle.keys.specs.declared.key_file.fault.KeyFileFault.{KeyFileFault}
-use Rattle.keys.specs.declared.key_file.fault.KeyFileFault.TheVariants.{Unreadable, NotFile}
-use Rattle.keys.specs.declared.key_file.fault.KeyFileFault.TheVariants.{Open, Mark, Return, Zeros}
-use Rattle.keys.specs.declared.key_file.fault.KeyFileFault.TheVariants.{NoKey, NoMemory}
+use Rattle.keys.specs.declared.key_file.fault.KeyFileFault.TheVariants.{NotThere, Unreadable}
+use Rattle.keys.specs.declared.key_file.fault.KeyFileFault.TheVariants.{NotFile, Open, Mark, Return}
+use Rattle.keys.specs.declared.key_file.fault.KeyFileFault.TheVariants.{Zeros, NoKey, NoMemory}
 
 -- one of the permissions of the file's group or of others is set
 abbrev pub IsOpenToOthers : ℕ → Type 0
@@ -69,6 +69,49 @@ RefusesHad None fault = (bytes : List ℕ) × RefusesBytes bytes fault
 abbrev pub Refuses : Option (List ℕ) → KeyFileFault → Type 0
 Refuses had fault = (fault ≡ Unreadable) ⊎ (fault ≡ NoMemory) ⊎ RefusesHad had fault
 
+-- ---- files of which it is told what stands in them
+
+-- a file: what is known of it beside its bytes, and its bytes
+pub record KeyFileOf : Type 0 where
+  pub about : Metadata
+  pub bytes : List ℕ
+
+-- where the file is told, this is known of it
+abbrev pub IsAbout : Option KeyFileOf → Metadata → Type 0
+IsAbout None about = Unit {0}
+IsAbout (Some file) about = about ≡ file.about
+
+-- and a reader of it has its bytes
+abbrev pub HasBytes : Option KeyFileOf → Option (List ℕ) → Type 0
+HasBytes None had = Unit {0}
+HasBytes (Some file) had = had ≡ Some file.bytes
+
+-- the file, where it is told, is its owner's alone, and its bytes spell this key, which is not all
+-- zeros; where it is not told, some bytes do
+abbrev pub IsKeyAt : Option KeyFileOf → List ℕ → Type 0
+IsKeyAt None key = IsSpelt key
+IsKeyAt (Some file) key = IsAlone file.about × HasKey (Some file.bytes) key
+
+-- nothing is known of a file, or of its bytes: whoever was asked for them refused
+abbrev pub IsOfAsking : KeyFileFault → Type 0
+IsOfAsking NotThere = Unit {0}
+IsOfAsking Unreadable = Unit {0}
+IsOfAsking NoMemory = Unit {0}
+IsOfAsking _ = ⊥
+
+-- why the file, where it is told, gives no key
+abbrev pub RefusesAt : Option KeyFileOf → KeyFileFault → Type 0
+RefusesAt None fault = Unit {0}
+RefusesAt (Some file) fault =
+    IsOfAsking fault ⊎ (RefusesFile file.about fault ⊎ RefusesBytes file.bytes fault)
+
+-- ---- keys that are made
+
+-- the source, where that is told, gave this key
+abbrev pub IsDrawn : Option (List ℕ) → List ℕ → Type 0
+IsDrawn None key = Unit {0}
+IsDrawn (Some given) key = key ≡ given
+
 -- a key's digits in lower case and a line feed were written
 abbrev pub PrintsKey : List ℕ → Option (List ℕ) → Option (List ℕ) → Type 0
 PrintsKey key old new = Appends old new (encode_lower key ++ 10 ∷ [])
@@ -76,3 +119,8 @@ PrintsKey key old new = Appends old new (encode_lower key ++ 10 ∷ [])
 -- those of some key of 32 bytes
 abbrev pub PrintsSomeKey : Option (List ℕ) → Option (List ℕ) → Type 0
 PrintsSomeKey old new = (key : List ℕ) × (length key ≡ 32) × PrintsKey key old new
+
+-- and where the source tells what it gives, those of that key
+abbrev pub PrintsDrawn : Option (List ℕ) → Option (List ℕ) → Option (List ℕ) → Type 0
+PrintsDrawn None old new = PrintsSomeKey old new
+PrintsDrawn (Some key) old new = PrintsKey key old new

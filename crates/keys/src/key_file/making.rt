@@ -1,26 +1,17 @@
 //! A key that is made.
 
 ghost use Rattle.std.specs.Prelude.{IfOk, OnOk};
-ghost use Rattle.keys.specs.key_file.KeyFiles.{PrintsKey, PrintsSomeKey};
+ghost use Rattle.keys.specs.key_file.KeyFiles.{PrintsDrawn, PrintsKey, PrintsSomeKey};
 
 use crate::key_file::fault::MakeFault;
+use crate::key_file::files::KeySource;
 use crate::print_key;
 use std::alloc::Global;
 use std::fs;
 use std::fs::OpenOptions;
 use std::io::{ErrorKind, Write};
 use std::os::unix::fs::OpenOptionsExt;
-use std::random::RandomSource;
 use std::rt::Files;
-
-/// 32 random bytes of the system.
-fn draw_key<T: RandomSource>(source: &T) -> Result<[u8; 32], MakeFault> {
-    let mut key = [0; 32];
-    if source.fill_bytes(&mut key).is_err() {
-        return Err(MakeFault::NoRandom);
-    }
-    Ok(key)
-}
 
 /// Writes a key as its file has it: 64 hexadecimal digits in lower case and a line feed.
 ///
@@ -50,13 +41,17 @@ pub fn print_key_line<W: Write>(
 /// - `NoRandom` where the system gives no random bytes: nothing was written then.
 /// - `NoMemory` where memory runs out: nothing was written then.
 /// - `CannotWrite` where a write fails.
-pub fn make_key<T: RandomSource + AllocGlobal, W: Write>(
+pub fn make_key<T: KeySource + AllocGlobal, W: Write>(
     rt: &T,
     writer: &mut W,
 ) -> Result<(), MakeFault>
-    ensures { OnOk result (PrintsSomeKey (W.contents writer.old) (W.contents writer.new)) }
+    ensures some { OnOk result (PrintsSomeKey (W.contents writer.old) (W.contents writer.new)) }
+    ensures drawn { OnOk result
+        (PrintsDrawn (T.gives rt.now) (W.contents writer.old) (W.contents writer.new)) }
 {
-    let key = draw_key(rt)?;
+    let Some(key) = rt.draw_key() else {
+        return Err(MakeFault::NoRandom);
+    };
     print_key_line(rt.alloc(), writer, &key)
 }
 
@@ -82,11 +77,13 @@ fn create_alone<R: Files>(files: &R, path: &str) -> Result<R::File, MakeFault> {
 /// - `NoMemory` where memory runs out.
 ///
 /// Where a write fails or memory runs out, the file is removed again.
-pub fn make_key_at<R: Files + RandomSource + AllocGlobal>(
+pub fn make_key_at<R: Files + KeySource + AllocGlobal>(
     rt: &R,
     path: &str,
 ) -> Result<(), MakeFault> {
-    let key = draw_key(rt)?;
+    let Some(key) = rt.draw_key() else {
+        return Err(MakeFault::NoRandom);
+    };
     let mut file = create_alone(rt, path)?;
     let made = print_key_line(rt.alloc(), &mut file, &key);
     if made.is_err() {

@@ -1,18 +1,19 @@
 //! The key that a file has.
 
 ghost use Rattle.std.specs.Prelude.{◌↔◌, IfOk, IfErr, IsTrue, OnOk, Some};
-ghost use Rattle.keys.specs.key_file.KeyFiles.{HasKey, HasReturn, IsAlone, IsKeyText, IsSpelt};
-ghost use Rattle.keys.specs.key_file.KeyFiles.{Refuses, RefusesBytes, RefusesFile};
+ghost use Rattle.keys.specs.key_file.KeyFiles.{HasKey, HasReturn, IsAlone, IsKeyAt, IsKeyText};
+ghost use Rattle.keys.specs.key_file.KeyFiles.{IsOfAsking, IsSpelt, Refuses, RefusesAt};
+ghost use Rattle.keys.specs.key_file.KeyFiles.{RefusesBytes, RefusesFile};
 
 use crate::key_file::fault::KeyFileFault;
+use crate::key_file::files::KeyFiles;
 use crate::key_file::mode::is_open_to_others;
 use crate::read_key;
 use std::alloc::Global;
-use std::fs::{Metadata, OpenFile};
+use std::fs::Metadata;
+use std::io;
 use std::io::{ErrorKind, Read};
 use std::os::unix::fs::MetadataExt;
-use std::rt::Files;
-use std::{fs, io};
 
 /// How many bytes are read at most: one more than a key's text with a line feed, a carriage return
 /// and a line feed after it has.
@@ -22,7 +23,9 @@ const MOST_READ: u64 = 68;
 const MARK: [u8; 3] = [239, 187, 191];
 
 /// The fault of a key's file that cannot be opened or read.
-fn fault_of(error: &io::Error) -> KeyFileFault {
+fn fault_of(error: &io::Error) -> KeyFileFault
+    ensures { IsOfAsking result }
+{
     match error.kind() {
         ErrorKind::NotFound => KeyFileFault::NotThere,
         ErrorKind::OutOfMemory => KeyFileFault::NoMemory,
@@ -121,13 +124,20 @@ fn refuse_open(metadata: &Metadata) -> Result<(), KeyFileFault>
 /// - `Mark`, `Return`, `Zeros` and `NoKey` as [`key_from`] says.
 ///
 /// `NoMemory` where memory runs out.
-pub fn read_key_at<R: Files + AllocGlobal>(rt: &R, path: &str) -> Result<[u8; 32], KeyFileFault>
-    ensures { IfOk result IsSpelt }
+pub fn read_key_at<R: KeyFiles + AllocGlobal>(rt: &R, path: &str) -> Result<[u8; 32], KeyFileFault>
+    ensures spelt { IfOk result IsSpelt }
+    ensures key { IfOk result (IsKeyAt (R.file_at rt.now path.now)) }
+    ensures refused { IfErr result (RefusesAt (R.file_at rt.now path.now)) }
 {
-    let named = fs::metadata(rt, path).map_err(|e| fault_of(&e))?;
+    let named = match rt.look(path) {
+        Ok(named) => named,
+        Err(error) => return Err(fault_of(&error)),
+    };
     refuse_open(&named)?;
-    let file = fs::open(rt, path).map_err(|e| fault_of(&e))?;
-    let metadata = file.metadata().map_err(|e| fault_of(&e))?;
+    let (file, metadata) = match rt.open_to_read(path) {
+        Ok(opened) => opened,
+        Err(error) => return Err(fault_of(&error)),
+    };
     refuse_open(&metadata)?;
     key_from(rt.alloc(), file)
 }

@@ -2,7 +2,10 @@
 use Rattle.std.specs.Prelude.{◌≡◌, ◌⊎◌, ℕ, List, [], ◌∷◌, ◌++◌, length, slice_index_or}
 use Rattle.std.specs.Prelude.{Option, None, Some}
 use Rattle.guarded.specs.Guarding.{Guarding}
-use Rattle.multiplex.specs.Musts.{IsMove, IsWatched, ends_of}
+use Rattle.multiplex.specs.Musts.{IsMove, IsWatched, IsWoken, ends_of}
+use Rattle.answers.specs.Seen.{Seen}
+use Rattle.std.specs.List.{AllByRecursion}
+use Rattle.store.specs.declared.home.Home.{Home}
 use Rattle.multiplex.specs.Requests.{Request, Reading, Writing, Closing}
 use Rattle.polled.specs.declared.answers.Given.{Given}
 use Rattle.polled.specs.declared.answers.Taken.{Taken}
@@ -30,18 +33,18 @@ abbrev pub AsksSome : List Request → Type 0
 AsksSome asked = Unit {0}
 
 -- what is asked last of a client that stays
-abbrev pub IsWatchedIf : ℕ → Guarding → Option Why → List Request → Type 0
-IsWatchedIf k c None last = IsWatched k c last
-IsWatchedIf k c (Some w) last = last ≡ []
+abbrev pub IsWatchedIf : ℕ → Guest → Guest → Option Why → List Request → Type 0
+IsWatchedIf k old g None last = IsWatched k old g last
+IsWatchedIf k old g (Some w) last = last ≡ []
 
 -- a client has its turn, before and after which its connection stands so
-pub record AsksHosted (k : ℕ) (old new : Guarding) (fate : Option Why) (asked : List Request)
+pub record AsksHosted (k : ℕ) (old new : Guest) (fate : Option Why) (asked : List Request)
     : Type 0 where
   pub first : List Request
-  pub move : IsMove k old first
+  pub move : IsMove k old.talk first
   pub more : List Request
   pub last : List Request
-  pub watched : IsWatchedIf k new fate last
+  pub watched : IsWatchedIf k old new fate last
   pub all : asked ≡ first ++ (more ++ last)
 
 -- the connection of the client at this place is ended
@@ -57,3 +60,13 @@ MayClose k asked = (asked ≡ []) ⊎ (asked ≡ Closing k ∷ [])
 -- those of all that are open
 abbrev pub IsEndsOf : List Guest → List Request → Type 0
 IsEndsOf guests asked = asked ≡ ends_of guests
+
+-- all are woken whose Await is to be answered
+abbrev pub WakesAll : Home → Seen → ℕ → List Guest → List Request → Type 0
+WakesAll home x time guests asked = AllByRecursion (IsWoken home x time asked) guests
+
+-- of those that are still there too, whatever was asked
+abbrev pub KeepsWoken : List Guest → List Guest → Type 0
+KeepsWoken old new =
+    (home : Home) (x : Seen) (time : ℕ) (asked : List Request)
+    → WakesAll home x time old asked → WakesAll home x time new asked

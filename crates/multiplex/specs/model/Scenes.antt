@@ -4,23 +4,27 @@ use Rattle.std.specs.Prelude.{Bool}
 use Rattle.answers.specs.declared.desk.Desk.{Ghosts as DeskOf}
 use Rattle.serving.specs.declared.peers.Peers.{Ghosts as PeersOf}
 use Rattle.serving.specs.Making.{speaking}
-use Rattle.guarded.specs.Guarding.{fresh_guard}
+use Rattle.guarded.specs.Guarding.{begun, fresh_guard}
 use Rattle.store.specs.declared.home.Home.{Home}
 use Rattle.wire.specs.declared.values.Version.{Version}
 use Rattle.polled.specs.Telling.{Tells}
 use Rattle.multiplex.specs.Happenings.{Happened, Closed, Named, Round}
 use Rattle.multiplex.specs.Passing.{Change, Changes, Lobby, Pass, Room, Step, Takes, guest, lobby}
 use Rattle.multiplex.specs.Passing.{over_by, told, told_all, told_change}
+use Rattle.multiplex.specs.Silence.{ready_after}
 use Rattle.multiplex.specs.declared.ends.Over.{Over}
 use Rattle.multiplex.specs.declared.ends.Why.{Why}
 use Rattle.multiplex.specs.declared.table.Guest.{Guest}
 use Rattle.multiplex.specs.declared.table.Table.{Table}
 use Rattle.multiplex.specs.declared.table.Terms.{Terms}
 use Rattle.multiplex.specs.Scenes.{Scene, in_room, scene}
-use Rattle.multiplex.specs.model.Visiting.{Spot, TalksOn, spot}
+use Rattle.wire.specs.declared.standing.Difference.{Difference}
+use Rattle.multiplex.specs.Noting.{first_notes}
+use Rattle.answers.specs.Seen.{Seen}
+use Rattle.multiplex.specs.model.Visiting.{Spot, TalksOn, beside, spot}
 
 abbrev pub lobby_of : Table → Option Over → Lobby
-lobby_of t over = lobby t.guests.items t.next t.time t.own t.dear.spent over
+lobby_of t over = lobby t.guests.items t.next t.time t.own t.dear.spent t.differs over
 
 abbrev pub room_of : {V U C : Type 0} → (d : DeskOf V) → PeersOf U → (version : Version) → Table
     → Option Over → Scene V U C → Room (speaking d.handles version)
@@ -36,6 +40,7 @@ pub record Loses {C : Type 0} (happened : C → Option (List Happened)) (over : 
   pub time : new.time ≡ old.time
   pub own : new.own ≡ old.own
   pub dear : new.dear ≡ old.dear
+  pub differs : new.differs ≡ old.differs
   pub ends : over ≡ over_by gone.talk.talk.end
   pub told : Tells (happened c) (happened later) (Closed gone.number ∷ [])
 
@@ -77,15 +82,17 @@ Empties happened home t over old new c later =
 
 -- a client that came has a connection, or none for want of memory
 pub record Welcomes {C : Type 0} (happened : C → Option (List Happened)) (home : Home)
-    (t : Terms) (random : List ℕ) (old new : Table) (c later : C) : Type 0 where
+    (t : Terms) (random : List ℕ) (x : Seen) (old new : Table) (c later : C) : Type 0 where
   pub next : new.next ≡ old.next + 1
   pub time : new.time ≡ old.time
   pub own : new.own ≡ old.own
   pub dear : new.dear ≡ old.dear
+  pub differs : new.differs ≡ old.differs
   pub either :
       ((new.guests.items
       ≡ old.guests.items
-      ++ guest old.next (fresh_guard t.doors random home t.wire) old.time ∷ [])
+      ++ guest old.next (fresh_guard t.doors random home t.wire) (first_notes x) old.time
+      ∷ [])
       × Tells (happened c) (happened later) [])
       ⊎ ((new.guests.items ≡ old.guests.items)
       × Tells (happened c) (happened later) (Closed old.next ∷ []))
@@ -95,16 +102,27 @@ pub record Welcomes {C : Type 0} (happened : C → Option (List Happened)) (home
 -- the client stays the same but for its connection, and the time when it was ready
 pub record IsHosted (time : ℕ) (old new : Guest) : Type 0 where
   pub number : new.number ≡ old.number
-  pub ready : new.ready ≡ time
+  pub ready : new.ready ≡ ready_after time (begun old.talk) (begun new.talk) old.ready
 
 abbrev pub at_guest : {V U C : Type 0} → Scene V U C → Guest → Spot V U C
 at_guest s g = spot s.node s.peers s.clients g.talk
 
+-- whether a sheet or entries of the log were asked for and answered in the round, and how another
+-- desk differs
+pub record Turned : Type 0 where
+  pub spent : Bool
+  pub differs : Option Difference
+
+abbrev pub turned : Bool → Option Difference → Turned
+turned spent differs = record { spent = spent; differs = differs }
+
 abbrev pub Hosts : {V U C : Type 0} → DeskOf V → PeersOf U → (C → Option (List Happened)) → ℕ
-    → Option Why → Bool → Bool → Guest → Guest → Scene V U C → Scene V U C → Type 0
+    → Option Why → Turned → Turned → Guest → Guest → Scene V U C → Scene V U C → Type 0
 Hosts d p happened time fate spent later old new a b =
     IsHosted time old new
-    × TalksOn d p happened old.number fate spent later (at_guest a old) (at_guest b new)
+    × TalksOn d p happened old.number time fate
+    (beside spent.spent old.notes spent.differs) (beside later.spent new.notes later.differs)
+    (at_guest a old) (at_guest b new)
 
 -- the step that a client is which was named as ready; all but its name is told
 abbrev pub Answers : {V U C : Type 0} → DeskOf V → PeersOf U → (C → Option (List Happened)) → Home

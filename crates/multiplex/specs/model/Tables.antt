@@ -2,8 +2,11 @@
 use Rattle.std.specs.Prelude.{◌≡◌, ◌≤◌, ◌<◌, ℕ, Bool, ◌-◌, ◌==◌, ltb, List, length, slice_index_or}
 use Rattle.std.specs.Prelude.{Option, None, Some, take}
 use Rattle.std.specs.List.{AllByRecursion}
+use Rattle.guarded.specs.Guarding.{begun}
 use Rattle.store.specs.declared.home.Home.{Home}
+use Rattle.wire.specs.Ranges.{IsDifference}
 use Rattle.wire.specs.declared.values.Version.{Version}
+use Rattle.multiplex.specs.Silence.{waited_for}
 use Rattle.multiplex.specs.declared.ends.Why.{Why}
 use Rattle.multiplex.specs.declared.ends.Why.TheVariants as why
 use Rattle.multiplex.specs.declared.table.Guest.{Guest}
@@ -13,7 +16,7 @@ abbrev pub has_number : ℕ → Guest → Bool
 has_number k g = g.number == k
 
 abbrev pub is_silent : ℕ → ℕ → Guest → Bool
-is_silent patience time g = ltb patience (time - g.ready)
+is_silent patience time g = ltb (waited_for patience (begun g.talk)) (time - g.ready)
 
 -- none was ready longer ago than the one at this place
 pub record IsLongestAt (guests : List Guest) (i : ℕ) : Type 0 where
@@ -25,14 +28,16 @@ pub record IsLongestAt (guests : List Guest) (i : ℕ) : Type 0 where
 pub record IsKept (place : Home) (version : Version) (g : Guest) : Type 0 where
   pub home : g.talk.talk.home ≡ place
   pub wire : g.talk.talk.wire ≡ version
+  pub known : AllByRecursion (λ (len : ℕ). len ≤ 65536) g.notes.known
 
-abbrev pub AreKept : Home → Version → List Guest → Type 0
-AreKept home wire = AllByRecursion (IsKept home wire)
+-- all are, and how another desk differs is in range
+pub record AreKept (home : Home) (wire : Version) (t : Table) : Type 0 where
+  pub guests : AllByRecursion (IsKept home wire) t.guests.items
+  pub differs : IsDifference t.differs
 
 -- all that is kept stays so, whatever desk it is
 abbrev pub KeepsKept : Home → Version → Table → Table → Type 0
-KeepsKept home wire old new =
-    AreKept home wire old.guests.items → AreKept home wire new.guests.items
+KeepsKept home wire old new = AreKept home wire old → AreKept home wire new
 
 abbrev pub KeepsAll : Table → Table → Type 0
 KeepsAll old new = (home : Home) (wire : Version) → KeepsKept home wire old new

@@ -7,13 +7,19 @@ use Rattle.serving.specs.Making.{speaking}
 use Rattle.serving.specs.Sessions.{outside}
 use Rattle.serving.specs.Connection.{Begun}
 use Rattle.serving.specs.TurnLaw.{Turn, begun_in}
-use Rattle.guarded.specs.Guarding.{Guarding, IsDear, IsDone, Receives, WantsRead, after_sent}
+use Rattle.guarded.specs.Guarding.{Guarding, IsDear, IsDone, IsFree, Receives, WantsRead}
+use Rattle.guarded.specs.Guarding.{after_sent}
 use Rattle.guarded.specs.GuardTurns.{Follow, Place}
 use Rattle.wire.specs.declared.values.Version.{Version}
 use Rattle.polled.specs.Telling.{Tells}
 use Rattle.multiplex.specs.Happenings.{Happened, Gave, Took, Broke}
 use Rattle.multiplex.specs.Passing.{AreMessages, IsFate, IsLeft, Settled, Shares, SharesLast}
 use Rattle.multiplex.specs.Passing.{pieces, told_why, told_turns}
+use Rattle.answers.specs.Seen.{Seen}
+use Rattle.store.specs.declared.home.Home.{Home}
+use Rattle.wire.specs.declared.standing.Difference.{Difference}
+use Rattle.multiplex.specs.Noting.{AreDue, Ears, IsHeard, IsOff, PutsOff, ears, hear_all}
+use Rattle.multiplex.specs.declared.notes.Notes.{Notes}
 use Rattle.multiplex.specs.declared.ends.Why.{Why}
 use Rattle.multiplex.specs.declared.ends.Why.TheVariants as why
 
@@ -55,13 +61,33 @@ abbrev pub Goes : {V U C : Type 0} → DeskOf V → PeersOf U → (C → Option 
 Goes d p happened k cause most begun a b =
     (turns : List Turn) × Takes d p happened k cause most begun a b turns
 
+-- what stands beside a turn: whether a sheet or entries of the log were asked for and answered in
+-- the round, what is kept of the client, and how another desk differs
+pub record Beside : Type 0 where
+  pub spent : Bool
+  pub notes : Notes
+  pub differs : Option Difference
+
+abbrev pub beside : Bool → Notes → Option Difference → Beside
+beside spent notes differs = record { spent = spent; notes = notes; differs = differs }
+
+-- what was said was heard, and what was begun at this time was due then
+pub record Beholds (home : Home) (time : ℕ) (x : Seen) (messages last : List Begun)
+    (old new : Beside) : Type 0 where
+  pub heard : IsHeard home (ears x old.notes.known old.differs) messages new.notes.known new.differs
+  pub due : AreDue home (hear_all home (ears x old.notes.known old.differs) messages).seen time
+      old.notes.until last
+
 -- messages of desks were begun, and one other frame at most; and the connection goes on, or is to
 -- be ended
 abbrev pub TalksOn : {V U C : Type 0} → DeskOf V → PeersOf U → (C → Option (List Happened)) → ℕ
-    → Option Why → Bool → Bool → Spot V U C → Spot V U C → Type 0
-TalksOn d p happened k fate spent later a b =
-    (begun : List Begun) × Goes d p happened k fate 1 begun a b × (s : Shares begun spent later)
-    × (fate ≡ None → IsLeft s.last b.talk) × IsFate fate b.talk
+    → ℕ → Option Why → Beside → Beside → Spot V U C → Spot V U C → Type 0
+TalksOn d p happened k time fate old new a b =
+    (begun : List Begun) × Goes d p happened k fate 1 begun a b
+    × (s : Shares begun old.spent new.spent)
+    × Beholds a.talk.talk.home time (d.seen a.node) s.messages s.last old new
+    × (fate ≡ None → IsLeft (d.seen b.node) time s.last b.talk new.notes.until)
+    × IsFate fate b.talk
 
 -- true where nothing failed
 abbrev pub broken : Bool → Option Why
@@ -92,37 +118,55 @@ Reads happened k (Some w) c later old new =
 abbrev pub SettledOrDone : Guarding → Type 0
 SettledOrDone c = Settled c ⊎ IsDone c
 
--- whether a frame may be begun: it asks for nothing dear, or it is the first in this round that
--- does; and it is put off where it does and may not
-abbrev pub MayBegin : Bool → Guarding → Bool → Bool → Type 0
-MayBegin true c spent later =
+-- whether a frame may be begun that is not put off: it asks for nothing dear, or it is the first in
+-- this round that does; and it is put off where it does and may not
+abbrev pub MayShare : Bool → Guarding → Bool → Bool → Type 0
+MayShare true c spent later =
     ((IsDear c → ⊥) × (later ≡ spent)) ⊎ (IsDear c × (spent ≡ false) × (later ≡ true))
-MayBegin false c spent later = IsDear c × (later ≡ spent)
+MayShare false c spent later = IsDear c × (later ≡ spent)
+
+-- an Await that is not to be answered yet is put off whatever else may be begun
+abbrev pub MayBegin : Bool → Home → Seen → ℕ → Guarding → Notes → Notes → Bool → Bool → Type 0
+MayBegin may home x time c old new spent later =
+    (off : Bool) × PutsOff off home x time c old new
+    × (((off ≡ true) × (may ≡ false) × (later ≡ spent))
+    ⊎ ((off ≡ false) × MayShare may c spent later))
 
 -- where no frame was begun: so it is, or the next one was put off
-abbrev pub IsLeftOrDone : List Begun → Guarding → Type 0
-IsLeftOrDone [] c = SettledOrDone c ⊎ IsDear c
-IsLeftOrDone (one ∷ more) c = Unit {0}
+abbrev pub IsLeftOrDone : Seen → ℕ → List Begun → Guarding → Option ℕ → Type 0
+IsLeftOrDone x time [] c until = SettledOrDone c ⊎ (IsDear c ⊎ IsOff x time c until)
+IsLeftOrDone x time (one ∷ more) c until = Unit {0}
+
+-- where a frame was begun, one might be, and this one was due
+abbrev pub BeginsDue : Home → Seen → ℕ → Option ℕ → Guarding → List Begun → Type 0
+BeginsDue home x time until c [] = Unit {0}
+BeginsDue home x time until c (one ∷ more) = IsFree c × AreDue home x time until (one ∷ more)
 
 -- no piece came, and one frame at most was begun
 abbrev pub ServesOne : {V U C : Type 0} → DeskOf V → PeersOf U → (C → Option (List Happened)) → ℕ
-    → Option Why → Bool → Bool → Spot V U C → Spot V U C → Type 0
-ServesOne d p happened k cause spent later a b =
+    → ℕ → Option Why → Bool → Bool → Notes → Notes → Spot V U C → Spot V U C → Type 0
+ServesOne d p happened k time cause spent later old new a b =
     (begun : List Begun) × Goes d p happened k cause 0 begun a b × SharesLast begun spent later
-    × IsLeftOrDone begun b.talk
+    × BeginsDue a.talk.talk.home (d.seen a.node) time old.until a.talk begun
+    × IsLeftOrDone (d.seen b.node) time begun b.talk new.until
 
--- no piece came, and messages of desks were begun
+-- no piece came, and messages of desks were begun, and heard: so it is seen where a frame may be
+-- begun
 abbrev pub HearsDesks : {V U C : Type 0} → DeskOf V → PeersOf U → (C → Option (List Happened)) → ℕ
-    → Spot V U C → Spot V U C → Type 0
-HearsDesks d p happened k a b =
+    → Ears → List ℕ → Option Difference → Spot V U C → Spot V U C → Type 0
+HearsDesks d p happened k e known differs a b =
     (begun : List Begun) × Goes d p happened k None 0 begun a b × AreMessages begun
+    × IsHeard a.talk.talk.home e begun known differs
+    × (IsFree b.talk → d.seen b.node ≡ (hear_all a.talk.talk.home e begun).seen)
 
 -- no piece came, and messages of desks were begun, and then one frame at most
 abbrev pub ServesNext : {V U C : Type 0} → DeskOf V → PeersOf U → (C → Option (List Happened)) → ℕ
-    → Option Why → Bool → Bool → Spot V U C → Spot V U C → Type 0
-ServesNext d p happened k cause spent later a b =
-    (begun : List Begun) × Goes d p happened k cause 0 begun a b × (s : Shares begun spent later)
-    × IsLeftOrDone s.last b.talk
+    → ℕ → Option Why → Beside → Beside → Spot V U C → Spot V U C → Type 0
+ServesNext d p happened k time cause old new a b =
+    (begun : List Begun) × Goes d p happened k cause 0 begun a b
+    × (s : Shares begun old.spent new.spent)
+    × Beholds a.talk.talk.home time (d.seen a.node) s.messages s.last old new
+    × IsLeftOrDone (d.seen b.node) time s.last b.talk new.notes.until
 
 -- a write; or a read, where nothing is to be sent and all that came is served; or nothing
 abbrev pub Moves : {C : Type 0} → (C → Option (List Happened)) → ℕ → Option Why → C → C → Guarding

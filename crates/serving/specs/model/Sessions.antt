@@ -9,6 +9,7 @@ use Rattle.learner.specs.declared.event.DeskEvent.TheVariants.{Deliver, Start}
 use Rattle.store.specs.declared.home.Home.{Home}
 use Rattle.wire.specs.declared.frame.Frame.{Frame}
 use Rattle.wire.specs.declared.frame.What.{What}
+use Rattle.wire.specs.declared.standing.Difference.{Difference}
 use Rattle.wire.specs.declared.values.Version.{Version}
 use Rattle.serving.specs.Adding.{Push, Hands}
 use Rattle.serving.specs.declared.calls.Answer.{Answer}
@@ -264,20 +265,20 @@ sides_with d p version a written =
     sides (d.seen a.node) (Some written) (outside d p version a.node a.peers)
 
 -- a frame was served: the bytes of its answer, and how it ends the connection
-abbrev pub ServesFrame : {V U : Type 0} → DeskOf V → PeersOf U → Session → Permission → Frame
-    → Desks V U → Desks V U → List ℕ → Option Close → Type 0
-ServesFrame d p s may frame a b answer close =
+abbrev pub ServesFrame : {V U : Type 0} → DeskOf V → PeersOf U → Session → Permission
+    → Option Difference → Frame → Desks V U → Desks V U → List ℕ → Option Close → Type 0
+ServesFrame d p s may differs frame a b answer close =
     (fates : List Fate)
     × ServesOne s.home (sides_with d p s.wire a []) (sides_with d p s.wire b answer)
-    (record { frame = frame; may = may; fates = fates }) close
+    (record { frame = frame; may = may; differs = differs; fates = fates }) close
 
 -- a frame was not served whole, for want of memory
-abbrev pub FailsFrame : {V U : Type 0} → DeskOf V → PeersOf U → Session → Permission → Frame
-    → Desks V U → Desks V U → Type 0
-FailsFrame d p s may frame a b =
+abbrev pub FailsFrame : {V U : Type 0} → DeskOf V → PeersOf U → Session → Permission
+    → Option Difference → Frame → Desks V U → Desks V U → Type 0
+FailsFrame d p s may differs frame a b =
     (fates : List Fate)
     × FailsIn fault.NoMemory s.home (sides_with d p s.wire a []) (sides_with d p s.wire b [])
-    (record { frame = frame; may = may; fates = fates })
+    (record { frame = frame; may = may; differs = differs; fates = fates })
 
 -- the frames that waited in a connection
 abbrev pub ServesWaiting : {V U X : Type 0} → DeskOf V → PeersOf U → WriteOf X → Permission

@@ -1,6 +1,18 @@
--- A model of the code: what is kept of a round of a meet.
+-- A model of the code: what is kept of a round of a meet, and of one of a file.
+use Rattle.std.specs.Prelude.{ℕ, List}
 use Rattle.wcif_results.specs.MeetRounds.{MeetRound as Round}
 use Rattle.wcif_results.specs.declared.meet_rounds.MeetRound.{MeetRound}
+use Rattle.wcif_results.specs.declared.reading.HeldRound.{HeldRound}
 
 abbrev pub round_view : MeetRound → Round
-round_view r = record { event = r.event; number = r.number; id = r.id.items; table = r.table.now }
+round_view r =
+    record {
+      event = r.event;
+      number = r.number;
+      id = r.id.items;
+      format = r.format;
+      table = r.table.now;
+    }
+
+abbrev pub held_view : HeldRound → List ℕ × List ℕ
+held_view r = (r.id.now, r.format.now)

@@ -152,7 +152,7 @@ returns-in-ServeHall g c =
     let s =
     sides g.R.Read.remaining g.W.Write.contents c.args.reader.now c.args.reader.now
     c.args.writer.now c.run_hall_service.new.writer in
-    let d = calls g.D.Dial.dialed c.args.dial.now c.args.dial.now in
+    let d = calls g.D.Dial.dialed c.args.dial.now c.run_hall_service.new.dial in
     let t = told g.F.Write.contents c.args.faults.now c.run_hall_service.new.faults in
     subst (λ a. Ends a c.run_hall_service.result s d t) (sym c.in-ServeHall.is)
     (Keeps-refl _, c.run_hall_service.ensures.ends, c.run_hall_service.ensures.quiet)

@@ -1,6 +1,6 @@
 use Rattle.std.proofs.Common.{◌≡◌, ◌⊎◌, ℕ, inl, inr, ◌≤◌, List, length, subst, sym}
 use Rattle.desk_file.specs.Marks.{IsBegun, IsLog, IsMarked, number_of}
-use Rattle.desk_file.proofs.Marking.{both_ok, stands_in_use}
+use Rattle.desk_file.proofs.Marking.{both_ok, stands_in_use, unmoved}
 use Rattle.desk_file.proofs.mark.begin_use.Goals as goal
 
 begun_by : (n : ℕ) (log db : List ℕ) → (¬ IsMarked db) ⊎ (IsMarked db × (number_of db ≡ n))
@@ -36,3 +36,25 @@ returns-clause-crash g c mixes long free log db of_log leaves =
       | inl old ↦ inl (c.page_size_of.ensures.crash db old)
       | inr left ↦ inr (begun_by _ log db left begun)
     ]
+
+pub returns-in_err-page_size-clause-others : goal.returns-in_err-page_size-clause-others
+returns-in_err-page_size-clause-others g c = rw c.page_size_of.ensures.seen (unmoved _)
+
+pub returns-in_err-begin_log-clause-others : goal.returns-in_err-begin_log-clause-others
+returns-in_err-begin_log-clause-others g c = rw c.page_size_of.ensures.seen (unmoved _)
+
+pub returns-clause-others : goal.returns-clause-others
+returns-clause-others g c = rw c.page_size_of.ensures.seen at c.write_mark.ensures.others
+
+pub returns-in_err-page_size-clause-grows : goal.returns-in_err-page_size-clause-grows
+returns-in_err-page_size-clause-grows g c mixes long bytes most counted ch leaves =
+    counted ch (c.page_size_of.ensures.crash ch leaves)
+
+pub returns-in_err-begin_log-clause-grows : goal.returns-in_err-begin_log-clause-grows
+returns-in_err-begin_log-clause-grows g c mixes long bytes most counted ch leaves =
+    counted ch (c.page_size_of.ensures.crash ch leaves)
+
+pub returns-clause-grows : goal.returns-clause-grows
+returns-clause-grows g c mixes long bytes most counted ch leaves =
+    (rw c.page_size_of.ensures.seen at c.write_mark.ensures.grows) mixes long bytes most
+    (λ k left. counted k (c.page_size_of.ensures.crash k left)) ch leaves

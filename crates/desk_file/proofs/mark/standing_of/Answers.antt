@@ -1,17 +1,22 @@
 use Rattle.std.proofs.Common.{◌≡◌, ◌≢◌, inl, inr, length}
 use Rattle.std.proofs.Common.{slice_index, sym, refl, ◌∙◌, subst, arith, rules}
 use Rattle.std.proofs.lemmas.Bool.{false≢true}
+use Rattle.sqlite_disk.specs.Disk.{Holds}
 use Rattle.sqlite_wal.specs.Format.{IsSigned, be32}
 use Rattle.sqlite_wal.specs.Recovery.{header}
 use Rattle.desk_file.specs.Marks.{IsOfUse, IsShut}
-use Rattle.desk_file.proofs.Marking.{byte_read, cut, cut_later, header_read, is_log, number_read}
-use Rattle.desk_file.proofs.Marking.{unnamed, unsigned}
+use Rattle.desk_file.proofs.Marking.{byte_read, header_read, is_log, number_read}
+use Rattle.desk_file.proofs.Marking.{too_short, unframed, unnamed, unsigned}
 use Rattle.desk_file.proofs.mark.standing_of.Goals as goal
 
+pub returns-then-len-lt-FRONT_LEN : goal.returns-then-len-lt-FRONT_LEN
+returns-then-len-lt-FRONT_LEN c log is given = too_short c.args.number log (omega arith)
+
 pub returns-then-round-number : goal.returns-then-round-number
-returns-then-round-number c log is holds =
+returns-then-round-number c log is given =
     let front = c.args.front.now in
     let long : length front ≡ 41 = search rules in
+    let holds : Holds log 0 front = given (omega arith) in
     let r : be32 front 12 ≡ be32 log 12 = number_read log front 12 holds (omega arith) in
     let s : be32 front 16 ≡ be32 log 16 = number_read log front 16 holds (omega arith) in
     let rr = c.get_be32-round.ensures in
@@ -19,9 +24,10 @@ returns-then-round-number c log is holds =
     unnamed c.args.number log (λ same. c.if-round-number.true (omega arith))
 
 pub returns-then-front-eq0 : goal.returns-then-front-eq0
-returns-then-front-eq0 c log is holds =
+returns-then-front-eq0 c log is given =
     let front = c.args.front.now in
     let long : length front ≡ 41 = search rules in
+    let holds : Holds log 0 front = given (omega arith) in
     let r : be32 front 12 ≡ be32 log 12 = number_read log front 12 holds (omega arith) in
     let s : be32 front 16 ≡ be32 log 16 = number_read log front 16 holds (omega arith) in
     let rr = c.get_be32-round.ensures in
@@ -31,9 +37,10 @@ returns-then-front-eq0 c log is holds =
     (of_use, inl (sym z ∙ c.if-front-eq0.true))
 
 pub returns-then-not-is_signed : goal.returns-then-not-is_signed
-returns-then-not-is_signed c log is holds =
+returns-then-not-is_signed c log is given =
     let front = c.args.front.now in
     let long : length front ≡ 41 = search rules in
+    let holds : Holds log 0 front = given (omega arith) in
     let z : slice_index front 0 ≡ slice_index log 0 = byte_read log front 0 holds (omega arith) in
     let first : slice_index log 0 ≢ 0 = λ zero. c.if-front-eq0.false (z ∙ zero) in
     let h : c.header_of.result ≡ header log = header_read log front c.header_of.result holds (omega
@@ -41,23 +48,37 @@ returns-then-not-is_signed c log is holds =
     unsigned c.args.number log first
     (λ signed. false≢true (c.if-not-is_signed.ensures.1 (subst IsSigned (sym h) signed)))
 
-pub returns-then-gate-salt : goal.returns-then-gate-salt
-returns-then-gate-salt c log is holds =
+pub returns-then-has_frame : goal.returns-then-has_frame
+returns-then-has_frame c log is given =
     let front = c.args.front.now in
     let long : length front ≡ 41 = search rules in
+    let holds : Holds log 0 front = given (omega arith) in
+    let r : be32 front 12 ≡ be32 log 12 = number_read log front 12 holds (omega arith) in
+    let s : be32 front 16 ≡ be32 log 16 = number_read log front 16 holds (omega arith) in
+    let rr = c.get_be32-round.ensures in
+    let ss = c.get_be32.ensures in
+    let has = (c.has_frame.ensures log is given).0 c.if-has_frame.true in
+    ((omega arith, omega arith), has.0, inr has.2)
+
+pub returns-else-has_frame : goal.returns-else-has_frame
+returns-else-has_frame c log is given =
+    let front = c.args.front.now in
+    let long : length front ≡ 41 = search rules in
+    let holds : Holds log 0 front = given (omega arith) in
     let z : slice_index front 0 ≡ slice_index log 0 = byte_read log front 0 holds (omega arith) in
     let first : slice_index log 0 ≢ 0 = λ zero. c.if-front-eq0.false (z ∙ zero) in
     let g : slice_index front 40 ≡ slice_index log 40 = byte_read log front 40 holds (omega arith)
     in
     let t : slice_index front 16 ≡ slice_index log 16 = byte_read log front 16 holds (omega arith)
     in
-    let unshut : ¬ IsShut log = λ shut. shut (sym g ∙ c.if-gate-salt.true ∙ t) in
-    cut c.args.number log first (omega arith) unshut
+    unframed c.args.number log first (sym g ∙ c.if-gate-salt.true ∙ t)
+    (λ has. false≢true (sym c.if-has_frame.false ∙ (c.has_frame.ensures log is given).1 has))
 
-pub returns-else-gate-salt : goal.returns-else-gate-salt
-returns-else-gate-salt c log is holds =
+pub returns-then-len-lt-LOG_LEN : goal.returns-then-len-lt-LOG_LEN
+returns-then-len-lt-LOG_LEN c log is given =
     let front = c.args.front.now in
     let long : length front ≡ 41 = search rules in
+    let holds : Holds log 0 front = given (omega arith) in
     let r : be32 front 12 ≡ be32 log 12 = number_read log front 12 holds (omega arith) in
     let s : be32 front 16 ≡ be32 log 16 = number_read log front 16 holds (omega arith) in
     let rr = c.get_be32-round.ensures in
@@ -73,10 +94,11 @@ returns-else-gate-salt c log is holds =
     let of_use : IsOfUse c.args.number log = (omega arith, omega arith) in
     (of_use, inr (omega arith, signed, shut))
 
-pub returns-then-gate-salt-2 : goal.returns-then-gate-salt-2
-returns-then-gate-salt-2 c log is holds =
+pub returns-else-len-lt-LOG_LEN : goal.returns-else-len-lt-LOG_LEN
+returns-else-len-lt-LOG_LEN c log is given =
     let front = c.args.front.now in
     let long : length front ≡ 41 = search rules in
+    let holds : Holds log 0 front = given (omega arith) in
     let r : be32 front 12 ≡ be32 log 12 = number_read log front 12 holds (omega arith) in
     let s : be32 front 16 ≡ be32 log 16 = number_read log front 16 holds (omega arith) in
     let rr = c.get_be32-round.ensures in
@@ -88,37 +110,6 @@ returns-then-gate-salt-2 c log is holds =
     in
     let t : slice_index front 16 ≡ slice_index log 16 = byte_read log front 16 holds (omega arith)
     in
-    let shut : IsShut log = λ same. c.if-gate-salt-2.true (g ∙ same ∙ sym t) in
+    let shut : IsShut log = λ same. c.if-gate-salt.false (g ∙ same ∙ sym t) in
     let of_use : IsOfUse c.args.number log = (omega arith, omega arith) in
     is_log c.args.number log of_use (omega arith) signed (inl shut)
-
-pub returns-then-room-size : goal.returns-then-room-size
-returns-then-room-size c log is holds =
-    let front = c.args.front.now in
-    let long : length front ≡ 41 = search rules in
-    let z : slice_index front 0 ≡ slice_index log 0 = byte_read log front 0 holds (omega arith) in
-    let first : slice_index log 0 ≢ 0 = λ zero. c.if-front-eq0.false (z ∙ zero) in
-    let g : slice_index front 40 ≡ slice_index log 40 = byte_read log front 40 holds (omega arith)
-    in
-    let t : slice_index front 16 ≡ slice_index log 16 = byte_read log front 16 holds (omega arith)
-    in
-    let unshut : ¬ IsShut log = λ shut. shut (sym g ∙ c.if-gate-salt-2.false ∙ t) in
-    let p : be32 front 8 ≡ be32 log 8 = number_read log front 8 holds (omega arith) in
-    let pp = c.get_be32-size.ensures in
-    cut_later c.args.number log first (omega arith) unshut (omega arith)
-
-pub returns : goal.returns
-returns c log is holds =
-    let front = c.args.front.now in
-    let long : length front ≡ 41 = search rules in
-    let r : be32 front 12 ≡ be32 log 12 = number_read log front 12 holds (omega arith) in
-    let s : be32 front 16 ≡ be32 log 16 = number_read log front 16 holds (omega arith) in
-    let rr = c.get_be32-round.ensures in
-    let ss = c.get_be32.ensures in
-    let h : c.header_of.result ≡ header log = header_read log front c.header_of.result holds (omega
-    arith) c.header_of.ensures in
-    let signed : IsSigned (header log) = subst IsSigned h (c.if-not-is_signed.ensures.0 refl) in
-    let p : be32 front 8 ≡ be32 log 8 = number_read log front 8 holds (omega arith) in
-    let pp = c.get_be32-size.ensures in
-    let of_use : IsOfUse c.args.number log = (omega arith, omega arith) in
-    is_log c.args.number log of_use (omega arith) signed (inr (omega arith))

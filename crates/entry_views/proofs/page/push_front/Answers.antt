@@ -1,4 +1,4 @@
-use Rattle.std.proofs.Common.{ℕ, List, ◌++◌, ◌∙◌, ap, codes, length}
+use Rattle.std.proofs.Common.{ℕ, List, ◌++◌, ◌∙◌, ap, codes}
 use Rattle.markup.proofs.board_page.Steps.{three_parts}
 use Rattle.round_words.specs.Words.{round_words}
 use Rattle.rounds.specs.Tables.{Table}
@@ -15,13 +15,11 @@ returns c =
     let around = c.args.around.now in
     let round : Settings × Table = (c.args.round.settings, c.args.round.table.now) in
     let title = round_words c.args.id c.args.round.settings.advance in
-    let desks = around.desks.now in
-    three_parts out (top (codes "entry") title desks (length around.mirror.now))
+    three_parts out (top (codes "entry") title around)
     (card_section around c.args.id round c.args.draft c.args.past)
     (recent_section around) _ _ _
     (c.in_ok-push_top.ensures
-    ∙ ap (λ (words : List ℕ). out ++ top (codes "entry") words desks c.len.result)
-    (c.deref.ensures.value ∙ c.in_ok-title.ensures)
-    ∙ ap (λ (n : ℕ). out ++ top (codes "entry") title desks n) c.len.ensures.len)
+    ∙ ap (λ (words : List ℕ). out ++ top (codes "entry") words around)
+    (c.deref.ensures.value ∙ c.in_ok-title.ensures))
     c.in_ok-push_card.ensures
     c.in_ok-push_recent.ensures

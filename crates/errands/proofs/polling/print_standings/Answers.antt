@@ -8,7 +8,7 @@ returns-in-Ok-write_text-clause-ok g c =
     c.in-Ok-report.text.items c.deref-3.result.now c.status_of-status.result
     (outside g.D.Dial.dialed g.W.Write.contents c.args.dial.now c.polled_of.new.dial
     c.args.writer.now c.write_text.new.writer)
-    c.in-Ok.ensures c.deref.ensures.value c.deref-2.ensures.value c.in-Ok-report.ensures
+    c.in-Ok.ensures.all c.deref.ensures.value c.deref-2.ensures.value c.in-Ok-report.ensures
     c.deref-3.ensures.value c.status_of-status.ensures c.in-Ok-write_text.ensures.ok
 
 pub returns-clause-err : goal.returns-clause-err
@@ -17,5 +17,5 @@ returns-clause-err g c =
     c.in-Ok-report.text.items c.deref-3.result.now
     (outside g.D.Dial.dialed g.W.Write.contents c.args.dial.now c.polled_of.new.dial
     c.args.writer.now c.write_text.new.writer)
-    c.in-Ok.ensures c.deref.ensures.value c.in-Ok-report.ensures c.deref-3.ensures.value
+    c.in-Ok.ensures.all c.deref.ensures.value c.in-Ok-report.ensures c.deref-3.ensures.value
     c.in-Err.ensures.err

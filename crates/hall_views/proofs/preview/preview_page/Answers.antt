@@ -1,4 +1,4 @@
-use Rattle.std.proofs.Common.{[], codes, length}
+use Rattle.std.proofs.Common.{[], codes}
 use Rattle.markup.proofs.board_page.Steps.{three_parts}
 use Rattle.table_views.specs.Frame.{bottom, top}
 use Rattle.hall_views.specs.Preview.{preview_page, preview_section}
@@ -9,7 +9,6 @@ unfolding preview_page
 returns c =
     let around = c.args.around.now in
     three_parts []
-    (top (codes "hall") (codes "What would be entered") around.desks.now
-    (length around.mirror.now))
+    (top (codes "hall") (codes "What would be entered") around)
     (preview_section around c.args.back.now c.args.tried.now) bottom _ _ _ c.in_ok-page.ensures
     c.in_ok-push_section.ensures c.in_ok-push_bottom.ensures

@@ -20,7 +20,8 @@ returns-clause-served g c =
     c.serve_rounds-over.new.node c.args.links.now c.serve_rounds-over.new.links
     c.args.clients.now c.serve_rounds-over.new.clients c.let_all_go.new.clients
     (lobby_same table.0 table.1 table.2 c.in-Ok.ensures.own
-    (ap (λ (d : DearTurns). d.spent) c.in-Ok.ensures.dear) refl) c.serve_rounds-over.ensures.does
+    (ap (λ (d : DearTurns). d.spent) c.in-Ok.ensures.dear) c.in-Ok.ensures.differs refl)
+    c.serve_rounds-over.ensures.does
     (c.let_all_go.ensures.told (g.D.Desk.home_of c.args.node.now) c.args.terms over)
     c.let_all_go.ensures.empty
 
@@ -36,9 +37,17 @@ returns-clause-asks g c =
       inr
           (record {
             before = c.in-Ok.table;
-            fresh = (table.0, table.1, table.2, c.in-Ok.ensures.own, c.in-Ok.ensures.dear);
+            fresh = (
+              table.0,
+              table.1,
+              table.2,
+              c.in-Ok.ensures.own,
+              c.in-Ok.ensures.dear,
+              c.in-Ok.ensures.differs,
+            );
             after = c.serve_rounds-over.new.table;
             served = until.0;
+            seen = g.D.Desk.seen c.serve_rounds-over.new.node;
             until = until.2;
             all = ap (λ (z : List Request). until.0 ++ z) ends.2;
           }),

@@ -1,6 +1,7 @@
 use Rattle.std.proofs.Common.{subst, sym, ap, ◌∙◌, eqb, None, Some, refl, inl, inr, arith}
 use Rattle.multiplex.specs.declared.ends.Over.TheVariants as over
-use Rattle.multiplex.specs.Musts.{stand}
+use Rattle.multiplex.specs.Musts.{Musts, stand}
+use Rattle.multiplex.specs.Requests.{Asks}
 use Rattle.multiplex.specs.Scenes.{scene}
 use Rattle.multiplex.specs.model.Scenes.{Does}
 use Rattle.multiplex.specs.model.Tables.{AreKept}
@@ -60,15 +61,22 @@ loop-step-preserved g c =
           (scene c.step.new.node c.step.new.links c.step.new.clients)) at.invariant.home
           c.in_default.ensures.does);
       kept =
-          subst (λ h. AreKept h c.args.terms.wire c.step.new.table.guests.items)
+          subst (λ h. AreKept h c.args.terms.wire c.step.new.table)
           (sym c.step.ensures.home) c.step.ensures.kept;
       few = c.step.ensures.few;
       home = c.step.ensures.home ∙ at.invariant.home;
       asks =
-          steps_more g.C.Clients.requests g.L.Links.due g.L.Links.kept c.args.terms at._step
-          (stand c.args.table.now c.args.links.now) (stand at.table at.links)
-          (stand c.step.new.table c.step.new.links) c.args.clients.now at.clients
-          c.step.new.clients at.invariant.asks c.in_default.ensures.asks;
+          steps_more g.C.Clients.requests g.L.Links.due g.L.Links.kept c.args.terms
+          (d.home_of c.args.node.now) at._step
+          (stand c.args.table.now c.args.links.now (d.seen c.args.node.now))
+          (stand at.table at.links (d.seen at.node))
+          (stand c.step.new.table c.step.new.links (d.seen c.step.new.node)) c.args.clients.now
+          at.clients c.step.new.clients at.invariant.asks
+          (subst
+          (λ h. Asks g.C.Clients.requests at.clients c.step.new.clients
+          (Musts g.L.Links.due g.L.Links.kept c.args.terms h (d.seen c.step.new.node) None at.table
+          c.step.new.table at.links c.step.new.links)) at.invariant.home
+          c.in_default.ensures.asks);
     }
 
 pub returns-clause-does : goal.returns-clause-does
@@ -85,27 +93,40 @@ returns-clause-does g c =
 
 pub returns-then-table-terms-clause-asks : goal.returns-then-table-terms-clause-asks
 returns-then-table-terms-clause-asks g c =
+    let d = g.D.Desk in
     let at = c.loop-step in
     let none =
     is_empty at.table.guests.items
     (c.if-is_empty.ensures ∙ ap (λ n. eqb n 0) at.table.guests.ok.0) in
-    until_here g.C.Clients.requests g.L.Links.due g.L.Links.kept c.args.terms over.All at._step
-    (stand c.args.table.now c.args.links.now) (stand at.table at.links) c.args.clients.now
-    at.clients at.invariant.asks (inl (refl, none, c.if-table-terms.true, refl, refl))
+    until_here g.C.Clients.requests g.L.Links.due g.L.Links.kept c.args.terms
+    (d.home_of c.args.node.now) over.All at._step
+    (stand c.args.table.now c.args.links.now (d.seen c.args.node.now))
+    (stand at.table at.links (d.seen at.node)) c.args.clients.now at.clients at.invariant.asks
+    (inl (refl, none, c.if-table-terms.true, refl, refl))
 
 pub returns-in-Some-clause-asks : goal.returns-in-Some-clause-asks
 returns-in-Some-clause-asks g c =
+    let d = g.D.Desk in
     let at = c.loop-step in
-    until_step g.C.Clients.requests g.L.Links.due g.L.Links.kept c.args.terms c.in-Some.over
-    at._step (stand c.args.table.now c.args.links.now) (stand at.table at.links)
-    (stand c.step.new.table c.step.new.links) c.args.clients.now at.clients c.step.new.clients
-    at.invariant.asks c.in-Some.ensures.asks
+    until_step g.C.Clients.requests g.L.Links.due g.L.Links.kept c.args.terms
+    (d.home_of c.args.node.now) c.in-Some.over at._step
+    (stand c.args.table.now c.args.links.now (d.seen c.args.node.now))
+    (stand at.table at.links (d.seen at.node))
+    (stand c.step.new.table c.step.new.links (d.seen c.step.new.node)) c.args.clients.now
+    at.clients c.step.new.clients at.invariant.asks
+    (subst
+    (λ h. Asks g.C.Clients.requests at.clients c.step.new.clients
+    (Musts g.L.Links.due g.L.Links.kept c.args.terms h (d.seen c.step.new.node)
+    (Some c.in-Some.over) at.table c.step.new.table at.links c.step.new.links))
+    at.invariant.home c.in-Some.ensures.asks)
 
 pub returns-clause-asks : goal.returns-clause-asks
 returns-clause-asks g c =
+    let d = g.D.Desk in
     let at = c.loop-step in
-    until_here g.C.Clients.requests g.L.Links.due g.L.Links.kept c.args.terms over.Tired at._step
-    (stand c.args.table.now c.args.links.now) (stand at.table at.links) c.args.clients.now
-    at.clients at.invariant.asks
+    until_here g.C.Clients.requests g.L.Links.due g.L.Links.kept c.args.terms
+    (d.home_of c.args.node.now) over.Tired at._step
+    (stand c.args.table.now c.args.links.now (d.seen c.args.node.now))
+    (stand at.table at.links (d.seen at.node)) c.args.clients.now at.clients at.invariant.asks
     (inr
     (inl (refl, omega (arith, c.loop-step-test.false, c.loop-step.auto._step-end), refl, refl)))

@@ -14,10 +14,11 @@ invariant-loop-step g l =
       does : Does d g.L.Peers g.C.Clients.happened (d.home_of l.initial.node) l.terms None
           l.initial.table l.table (scene l.initial.node l.initial.links l.initial.clients)
           (scene l.node l.links l.clients);
-      kept : AreKept (d.home_of l.node) l.terms.wire l.table.guests.items;
+      kept : AreKept (d.home_of l.node) l.terms.wire l.table;
       few : length l.table.guests.items ≤ 512;
       home : d.home_of l.node ≡ d.home_of l.initial.node;
-      asks : AsksSteps g.C.Clients.requests g.L.Links.due g.L.Links.kept l.terms l._step
-          (stand l.initial.table l.initial.links) (stand l.table l.links) l.initial.clients
-          l.clients;
+      asks : AsksSteps g.C.Clients.requests g.L.Links.due g.L.Links.kept l.terms
+          (d.home_of l.initial.node) l._step
+          (stand l.initial.table l.initial.links (d.seen l.initial.node))
+          (stand l.table l.links (d.seen l.node)) l.initial.clients l.clients;
     }

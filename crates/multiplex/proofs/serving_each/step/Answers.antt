@@ -41,7 +41,8 @@ returns-in-Failed-clause-does g c =
 
 pub returns-in-Waits-clause-asks : goal.returns-in-Waits-clause-asks
 returns-in-Waits-clause-asks g c =
-    musts_ask g.C.Clients.requests g.L.Links.due g.L.Links.kept c.args.terms c.admit.result
+    musts_ask g.C.Clients.requests g.L.Links.due g.L.Links.kept c.args.terms
+    (g.D.Desk.home_of c.args.node.now) (g.D.Desk.seen c.args.node.now) c.admit.result
     c.args.table.now c.admit.new.table c.args.links.now c.args.links.now c.args.clients.now
     c.ready.new.self c.admit.new.clients c.wait_of.result ready_is.Waits
     c.admit.ensures.asks.0 c.wait_of.ensures c.in-Waits.ensures.requests
@@ -49,7 +50,8 @@ returns-in-Waits-clause-asks g c =
 
 pub returns-in-Peer-clause-asks : goal.returns-in-Peer-clause-asks
 returns-in-Peer-clause-asks g c =
-    musts_ask g.C.Clients.requests g.L.Links.due g.L.Links.kept c.args.terms c.visit.result
+    musts_ask g.C.Clients.requests g.L.Links.due g.L.Links.kept c.args.terms
+    (g.D.Desk.home_of c.args.node.now) (g.D.Desk.seen c.visit.new.node) c.visit.result
     c.args.table.now c.visit.new.table c.args.links.now c.visit.new.peers c.args.clients.now
     c.ready.new.self c.visit.new.clients c.wait_of.result (ready_is.Peer c.in-Peer.number)
     c.visit.ensures.asks.0 c.wait_of.ensures c.in-Peer.ensures.requests
@@ -57,8 +59,9 @@ returns-in-Peer-clause-asks g c =
 
 pub returns-in-Round-clause-asks : goal.returns-in-Round-clause-asks
 returns-in-Round-clause-asks g c =
-    musts_ask g.C.Clients.requests g.L.Links.due g.L.Links.kept c.args.terms c.end_round.result
+    musts_ask g.C.Clients.requests g.L.Links.due g.L.Links.kept c.args.terms
+    (g.D.Desk.home_of c.args.node.now) (g.D.Desk.seen c.end_round.new.node) c.end_round.result
     c.args.table.now c.end_round.new.table c.args.links.now c.end_round.new.links
     c.args.clients.now c.ready.new.self c.end_round.new.clients c.wait_of.result
-    (ready_is.Round c.in-Round.now) c.end_round.ensures.asks.0 c.wait_of.ensures
-    c.in-Round.ensures.requests c.end_round.ensures.asks.1 c.end_round.ensures.ends
+    (ready_is.Round c.in-Round.now) c.end_round.ensures.ends.0 c.wait_of.ensures
+    c.in-Round.ensures.requests c.end_round.ensures.ends.1 c.end_round.ensures.ends.2

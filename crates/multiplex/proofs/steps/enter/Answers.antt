@@ -5,13 +5,17 @@ use Rattle.multiplex.specs.Requests.{Accepting, Request}
 use Rattle.multiplex.specs.declared.clients.Accepted.TheVariants as accepted_is
 use Rattle.multiplex.specs.model.Asking.{MayClose}
 use Rattle.multiplex.proofs.Asked.{accepts_came, accepts_full, asks_both}
-use Rattle.multiplex.proofs.Shutting.{enters, no_socket}
+use Rattle.multiplex.proofs.Shutting.{enters, no_socket, welcome_keeps}
 use Rattle.multiplex.proofs.steps.enter.Goals as goal
 
 pub returns-in-Came-clause-alters : goal.returns-in-Came-clause-alters
 returns-in-Came-clause-alters g c =
-    enters _ _ c.args.terms _ _ _ _ _ _ c.requires.wanted c.requires.room c.in-Came.ensures.told
+    enters _ _ c.args.terms _ _ _ _ _ _ _ c.requires.wanted c.requires.room c.in-Came.ensures.told
     c.welcome.ensures.welcomes
+
+pub returns-in-Came-clause-kept : goal.returns-in-Came-clause-kept
+returns-in-Came-clause-kept g c =
+    welcome_keeps _ _ c.args.terms _ _ _ _ _ _ c.welcome.ensures.most c.welcome.ensures.welcomes
 
 pub returns-in-Full-clause-alters : goal.returns-in-Full-clause-alters
 returns-in-Full-clause-alters g c =

@@ -14,6 +14,8 @@ loop-guest-preserved g c =
       time = table.time;
       own = table.own;
       dear = table.dear;
+      differs = table.differs;
+      said = table.said;
     } in
     let requests = g.C.Clients.requests in
     let gone = c.in-Some.guest in
@@ -21,7 +23,7 @@ loop-guest-preserved g c =
       told = λ home t over.
           empties_more g.C.Clients.happened home t over c.args.table.now table left
           c.in-Some.guest c.args.clients.now c.loop-guest.clients c.close.new.self
-          c.in-Some.ensures.items refl refl refl refl
+          c.in-Some.ensures.items refl refl refl refl refl
           (c.loop-guest.invariant.told home t over) c.close.ensures.told;
       asks = ends_more requests c.args.clients.now c.loop-guest.clients c.close.new.self
           c.args.table.now.guests.items table.guests.items c.pop.new.self.items gone
@@ -38,9 +40,11 @@ returns-clause-told g c home t over =
       time = table.time;
       own = table.own;
       dear = table.dear;
+      differs = table.differs;
+      said = table.said;
     })
     c.args.clients.now c.loop-guest.clients
-    c.in_default.ensures.items refl refl refl refl
+    c.in_default.ensures.items refl refl refl refl refl
     (c.loop-guest.invariant.told home t over)
 
 pub returns-clause-asks : goal.returns-clause-asks

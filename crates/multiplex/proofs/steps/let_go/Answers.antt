@@ -1,6 +1,8 @@
 use Rattle.std.proofs.Common.{◌<◌, ◌-◌, refl, sym, subst, ◌∙◌, arith}
+use Rattle.guarded.specs.Guarding.{begun}
+use Rattle.multiplex.specs.Silence.{waited_for}
 use Rattle.multiplex.specs.declared.ends.Why.TheVariants as why
-use Rattle.multiplex.proofs.Asked.{asks_some, none_silent}
+use Rattle.multiplex.proofs.Asked.{asks_some, keeps_woken, none_silent}
 use Rattle.multiplex.proofs.Shutting.{alters_both, shut_fewer, shut_keeps, shuts}
 use Rattle.multiplex.proofs.Shutting.{silent_cause}
 use Rattle.multiplex.proofs.steps.let_go.Goals as goal
@@ -12,7 +14,7 @@ returns-in-Some-shut-clause-alters g c home t same =
     (shuts _ home t why.Silent c.in-Some.place _ _ _ _ _
     (λ before after gone len found. (
       refl,
-      subst (λ p. p < table.time - gone.ready) (sym same)
+      subst (λ p. waited_for p (begun gone.talk) < table.time - gone.ready) (sym same)
           (silent_cause c.args.patience table.time table.guests.items before gone after
           c.in-Some.place len found (sym c.place_of_silent.ensures ∙ c.in-Some.is)),
     ))
@@ -24,6 +26,13 @@ returns-in-Some-shut-clause-kept g c home wire h =
     c.shut.new.table c.loop-place.clients c.shut.new.clients c.shut.ensures.shut home wire
     (c.loop-place.invariant.kept home wire h)
 
+pub returns-in-Some-shut-clause-woken : goal.returns-in-Some-shut-clause-woken
+returns-in-Some-shut-clause-woken g c home x time asked h =
+    keeps_woken c.loop-place.table.guests.items c.shut.ensures.shut.0 c.shut.ensures.shut.2
+    c.shut.ensures.shut.1 c.shut.new.table.guests.items c.shut.ensures.shut.4.found
+    c.shut.ensures.shut.4.left home x time asked
+    (c.loop-place.invariant.woken home x time asked h)
+
 pub loop-place-preserved : goal.loop-place-preserved
 loop-place-preserved g c =
     let table = c.loop-place.table in
@@ -34,7 +43,7 @@ loop-place-preserved g c =
           (shuts _ home t why.Silent c.in-Some.place _ _ _ _ _
           (λ before after gone len found. (
             refl,
-            subst (λ p. p < table.time - gone.ready) (sym same)
+            subst (λ p. waited_for p (begun gone.talk) < table.time - gone.ready) (sym same)
                 (silent_cause c.args.patience table.time table.guests.items before gone after
                 c.in-Some.place len found (sym c.place_of_silent.ensures ∙ c.in-Some.is)),
           ))
@@ -44,6 +53,12 @@ loop-place-preserved g c =
           shut_keeps g.C.Clients.happened c.in-Some.place c.shut.result table
           c.shut.new.table c.loop-place.clients c.shut.new.clients c.shut.ensures.shut home wire
           (c.loop-place.invariant.kept home wire h);
+      woken =
+          λ home x time asked h.
+          keeps_woken table.guests.items c.shut.ensures.shut.0 c.shut.ensures.shut.2
+          c.shut.ensures.shut.1 c.shut.new.table.guests.items c.shut.ensures.shut.4.found
+          c.shut.ensures.shut.4.left home x time asked
+          (c.loop-place.invariant.woken home x time asked h);
       fewer =
           omega (
             arith,
@@ -77,3 +92,6 @@ returns-clause-time g c = c.loop-place.invariant.time
 
 pub returns-clause-asks : goal.returns-clause-asks
 returns-clause-asks g c = c.loop-place.invariant.asks
+
+pub returns-clause-woken : goal.returns-clause-woken
+returns-clause-woken g c = c.loop-place.invariant.woken

@@ -1,7 +1,7 @@
 use Rattle.std.proofs.Common.{◌≡◌, ◌≤◌, length, None}
 use Rattle.multiplex.specs.declared.table.Terms.{Terms}
 use Rattle.multiplex.specs.Requests.{Asks}
-use Rattle.multiplex.specs.model.Asking.{AsksSome}
+use Rattle.multiplex.specs.model.Asking.{AsksSome, KeepsWoken}
 use Rattle.multiplex.specs.model.Scenes.{AltersSome}
 use Rattle.multiplex.specs.model.Tables.{KeepsAll}
 use Rattle.store.specs.declared.home.Home.{Home}
@@ -14,6 +14,7 @@ invariant-loop-place g l = record {
       → AltersSome g.C.Clients.happened home t None l.initial.table l.table l.initial.clients
       l.clients;
   kept : KeepsAll l.initial.table l.table;
+  woken : KeepsWoken l.initial.table.guests.items l.table.guests.items;
   fewer : length l.table.guests.items ≤ length l.initial.table.guests.items;
   time : l.table.time ≡ l.initial.table.time;
   asks : Asks g.C.Clients.requests l.initial.clients l.clients AsksSome;

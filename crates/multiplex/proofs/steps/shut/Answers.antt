@@ -22,6 +22,7 @@ returns-clause-shut g c =
         time = refl;
         own = refl;
         dear = refl;
+        differs = refl;
         ends = c.over_by.ensures ∙ ap over_by c.end.ensures;
         told = c.close.ensures.told;
       },

@@ -4,7 +4,7 @@ use Rattle.multiplex.specs.Passing.{Lobby}
 use Rattle.multiplex.specs.Scenes.{scene}
 use Rattle.multiplex.specs.model.Asking.{AsksHosted, ClosesAt}
 use Rattle.multiplex.proofs.Visits.{answers_leave, answers_nobody, answers_stay, leave_keeps}
-use Rattle.multiplex.proofs.Visits.{leaving, met, turned}
+use Rattle.multiplex.proofs.Visits.{leaving, met, stay_keeps, visited}
 use Rattle.multiplex.proofs.Asked.{asks_as, asks_both, asks_none, attends_leave}
 use Rattle.multiplex.proofs.Asked.{attends_nobody, attends_stay}
 use Rattle.multiplex.proofs.steps.visit.Goals as goal
@@ -27,10 +27,26 @@ returns-in-None-clause-answers g c =
     met home c.args.terms.wire c.args.number table place old new
     (sym c.place_of.ensures ∙ c.in-Some.is) c.index_mut-guest.ensures.value c.requires.kept in
     answers_stay g.D.Desk g.P.Peers g.C.Clients.happened home c.args.terms c.args.number place
-    table (turned table place new c.host.new.dear) old new at.before at.after
+    table (visited table place new c.host.new.dear c.host.new.differs) old new at.before at.after
     (scene c.args.node.now c.args.peers.now c.args.clients.now)
     (scene c.host.new.node c.host.new.peers c.host.new.clients) at.split at.number at.same refl
     refl refl refl c.in-None.ensures.hosts
+
+pub returns-in-None-clause-kept : goal.returns-in-None-clause-kept
+returns-in-None-clause-kept g c =
+    let home = g.D.Desk.home_of c.args.node.now in
+    let table = c.args.table.now in
+    let place = c.in-Some.place in
+    let old = c.index_mut-guest.result.now in
+    let new = c.host.new.guest in
+    let at =
+    met home c.args.terms.wire c.args.number table place old new
+    (sym c.place_of.ensures ∙ c.in-Some.is) c.index_mut-guest.ensures.value c.requires.kept in
+    stay_keeps g.D.Desk g.P.Peers g.C.Clients.happened home c.args.terms.wire place table
+    (visited table place new c.host.new.dear c.host.new.differs) old new at.before at.after
+    (scene c.args.node.now c.args.peers.now c.args.clients.now)
+    (scene c.host.new.node c.host.new.peers c.host.new.clients) at.split refl
+    c.in-None.ensures.hosts c.host.ensures.noted c.requires.kept
 
 pub returns-in-Some-host-clause-answers : goal.returns-in-Some-host-clause-answers
 returns-in-Some-host-clause-answers g c =
@@ -43,10 +59,10 @@ returns-in-Some-host-clause-answers g c =
     met home c.args.terms.wire c.args.number table place old new
     (sym c.place_of.ensures ∙ c.in-Some.is) c.index_mut-guest.ensures.value c.requires.kept in
     answers_leave g.D.Desk g.P.Peers g.C.Clients.happened home c.args.terms c.args.number
-    c.in-Some-host.field-0 place c.shut.result table (turned table place new c.host.new.dear)
-    c.shut.new.table old new at.before at.after (scene c.args.node.now c.args.peers.now c.args.clients.now)
-    c.host.new.node c.host.new.peers c.host.new.clients c.shut.new.clients at.split at.number
-    at.same refl refl refl refl c.in-Some-host.ensures.hosts c.shut.ensures.shut
+    c.in-Some-host.field-0 place c.shut.result table
+    (visited table place new c.host.new.dear c.host.new.differs) c.shut.new.table old new at.before
+    at.after (scene c.args.node.now c.args.peers.now c.args.clients.now) c.host.new.node
+    c.host.new.peers c.host.new.clients c.shut.new.clients at.split at.number at.same refl refl refl refl c.in-Some-host.ensures.hosts c.shut.ensures.shut
 
 pub returns-in-Some-host-clause-kept : goal.returns-in-Some-host-clause-kept
 returns-in-Some-host-clause-kept g c =
@@ -59,8 +75,9 @@ returns-in-Some-host-clause-kept g c =
     met home c.args.terms.wire c.args.number table place old new
     (sym c.place_of.ensures ∙ c.in-Some.is) c.index_mut-guest.ensures.value c.requires.kept in
     leave_keeps g.C.Clients.happened home c.args.terms.wire place c.shut.result table
-    (turned table place new c.host.new.dear) c.shut.new.table old new at.before at.after
-    c.host.new.clients c.shut.new.clients at.split refl refl refl refl c.shut.ensures.shut c.requires.kept
+    (visited table place new c.host.new.dear c.host.new.differs) c.shut.new.table old new at.before
+    at.after c.host.new.clients c.shut.new.clients at.split refl refl refl refl c.shut.ensures.shut
+    c.host.ensures.noted.1 c.requires.kept
 
 pub returns-in_default-clause-asks : goal.returns-in_default-clause-asks
 returns-in_default-clause-asks g c =
@@ -78,9 +95,9 @@ returns-in-None-clause-asks g c =
     let at =
     met home c.args.terms.wire c.args.number table place old new
     (sym c.place_of.ensures ∙ c.in-Some.is) c.index_mut-guest.ensures.value c.requires.kept in
-    let items = (turned table place new c.host.new.dear).guests.items in
+    let items = (visited table place new c.host.new.dear c.host.new.differs).guests.items in
     asks_as g.C.Clients.requests c.args.clients.now c.host.new.clients
-    (AsksHosted old.number old.talk new.talk None)
+    (AsksHosted old.number old new None)
     (Attends c.args.number table.guests.items items)
     (λ xs h.
     attends_stay c.args.number place table items old new at.before at.after xs at.split at.number
@@ -98,13 +115,13 @@ returns-in-Some-host-clause-asks g c =
     met home c.args.terms.wire c.args.number table place old new
     (sym c.place_of.ensures ∙ c.in-Some.is) c.index_mut-guest.ensures.value c.requires.kept in
     let w = c.in-Some-host.field-0 in
-    let mid = turned table place new c.host.new.dear in
+    let mid = visited table place new c.host.new.dear c.host.new.differs in
     let left =
     leaving g.C.Clients.happened place c.shut.result table mid c.shut.new.table old new at.before
     at.after c.host.new.clients c.shut.new.clients at.split refl refl refl refl
     c.shut.ensures.shut in
     asks_both g.C.Clients.requests c.args.clients.now c.host.new.clients c.shut.new.clients
-    (AsksHosted old.number old.talk new.talk (Some w))
+    (AsksHosted old.number old new (Some w))
     (ClosesAt place mid.guests.items)
     (Attends c.args.number table.guests.items c.shut.new.table.guests.items)
     (λ xs ys h k.

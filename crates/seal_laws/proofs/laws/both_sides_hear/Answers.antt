@@ -1,4 +1,4 @@
-use Rattle.seal_laws.proofs.Connected.{connected}
+use Rattle.seal_laws.proofs.Connected.{connected, entry_connected}
 use Rattle.seal_laws.proofs.Hearing.{both_hear}
 use Rattle.seal_laws.proofs.laws.both_sides_hear.Goals as goal
 
@@ -7,3 +7,6 @@ returns-clause-hear c = both_hear
 
 pub returns-clause-example : goal.returns-clause-example
 returns-clause-example c = connected
+
+pub returns-clause-entry_example : goal.returns-clause-entry_example
+returns-clause-entry_example c = entry_connected

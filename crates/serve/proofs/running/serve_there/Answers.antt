@@ -9,6 +9,6 @@ returns-in-Err-links_to-clause-err g c = inl (c.in-Err-links_to.ensures.err, Kee
 pub returns-clause-err : goal.returns-clause-err
 returns-clause-err g c =
     failed_there g.K.Keeper g.W.Write c.args.service c.args.doors c.terms_of.result
-    c.period_of.result c.args.node.now
-    c.serve_node.new.node c.args.writer.now c.serve_node.new.writer c.serve_node.result
-    c.terms_of.ensures c.period_of.ensures c.serve_node.ensures.err
+    c.period_of.result c.args.node.now c.serve_node-ended.new.node c.args.writer.now
+    c.serve_node-ended.new.writer c.serve_node-ended.result
+    c.terms_of.ensures c.period_of.ensures c.serve_node-ended.ensures.err

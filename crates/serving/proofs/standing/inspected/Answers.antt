@@ -1,4 +1,5 @@
 use Rattle.std.proofs.Common.{refl, rules}
+use Rattle.wire.proofs.Told.{standing_told}
 use Rattle.serving.proofs.Standings.{promise_fits}
 use Rattle.serving.proofs.standing.inspected.Goals as goal
 
@@ -7,13 +8,14 @@ returns-clause-in_range g c =
     λ version high. record {
       body = (
         high,
-        record {
+        standing_told version _ (record {
           log = search rules;
           queue = search rules;
           promised = promise_fits _ _ _ (search rules) (search rules) c.promised.ensures.real
               c.promised_of-promised.ensures;
           told = c.lengths_of_hall.ensures.in_range;
-        },
+          differs = c.requires;
+        }),
       );
       way = refl;
     }

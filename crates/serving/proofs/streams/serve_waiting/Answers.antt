@@ -13,7 +13,7 @@ loop-may-init g c = record {
 }
 
 pub advance-requires : goal.advance-requires
-advance-requires g c = record { home = c.loop-may.invariant.home }
+advance-requires g c = record { home = c.loop-may.invariant.home; differs = tt }
 
 pub returns-then-is_err-clause-waiting : goal.returns-then-is_err-clause-waiting
 returns-then-is_err-clause-waiting g c =

@@ -6,10 +6,11 @@ use Rattle.card_forms.specs.Asking.{Asks, IsCommandText}
 use Rattle.card_forms.specs.Cards.{form_id_of}
 use Rattle.card_forms.specs.Entries.{entry_with}
 use Rattle.card_forms.specs.Pairs.{value_of}
+use Rattle.card_forms.specs.Remarks.{noted}
 use Rattle.outbox.specs.Items.{ItemsOf}
 use Rattle.table_views.specs.declared.around.Around.{Around}
 use Rattle.table_service.specs.declared.plan.Plan.{Plan}
-use Rattle.table_service.specs.Plans.{PlansCommand, page_after}
+use Rattle.table_service.specs.Plans.{PlansCommand, page_after, remark_in}
 use Rattle.table_service.specs.Taking.{PlansEntries}
 use Rattle.table_service.proofs.commanding.plan_command.Goals as goal
 
@@ -17,7 +18,7 @@ module _ (around : Around) (q : ItemsOf) (pairs : List Pair) (id : ℕ) (text : 
     (named : form_id_of (value_of (codes "id") pairs) ≡ Some id) (fit : IsCommandText text)
     (asks : Asks pairs text) (back : List ℕ) (is : back ≡ page_after pairs) where
   asked : (r : Result Plan AllocError)
-      → IfOk r (PlansEntries q around back (entry_with id text ∷ []))
+      → IfOk r (PlansEntries q around back (entry_with id (noted (remark_in around) text) ∷ []))
       → IfOk r (PlansCommand around q pairs)
   asked (Ok plan) plans = inr (inr record {
     id = id;
@@ -25,7 +26,10 @@ module _ (around : Around) (q : ItemsOf) (pairs : List Pair) (id : ℕ) (text : 
     named = named;
     fit = fit;
     asks = asks;
-    plans = subst (λ (b : List ℕ). PlansEntries q around b (entry_with id text ∷ []) plan) is plans;
+    plans = subst
+        (λ (b : List ℕ).
+        PlansEntries q around b (entry_with id (noted (remark_in around) text) ∷ []) plan)
+        is plans;
   })
   asked (Err error) plans = tt
 

@@ -29,7 +29,7 @@ module _ (q : ItemsOf) (around : Around) (place : List ℕ) (entries : List Entr
 
 pub returns-in-Some : goal.returns-in-Some
 returns-in-Some c =
-    told c.args.outbox.now.list c.args.around.now c.args.place.items c.args.entries.items
+    told c.args.outbox.now.list c.args.around.now c.args.back.items c.args.entries.items
     c.in-Some.known.now c.in-Some.sent.now
     (c.in-Some.ensures
     ∙ ap (λ (es : List Entry). other_in c.args.outbox.now.list es) c.deref.ensures.value)

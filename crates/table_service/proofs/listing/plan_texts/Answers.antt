@@ -1,7 +1,8 @@
-use Rattle.std.proofs.Common.{◌∙◌, ◌||◌, List, ap, sym}
+use Rattle.std.proofs.Common.{◌∙◌, ◌||◌, List, ap, map, sym, ℕ}
 use Rattle.std.specs.List.{list_all}
 use Rattle.acceptor.specs.declared.entry.Entry.{Entry}
 use Rattle.card_forms.specs.Entries.{command_entries}
+use Rattle.card_forms.specs.Remarks.{noted}
 use Rattle.command_lists.specs.Answered.{first_refusal, is_done}
 use Rattle.texts.specs.declared.answer.Answer.{Answer}
 use Rattle.mirror.specs.Answered.{answers_after}
@@ -44,5 +45,10 @@ returns c =
     (c.deref.ensures.value ∙ answers))
     ∙ c.if-not-goes_on.false)
     c.in_ok-place.place.items (c.in_ok-place.ensures.items ∙ c.page_after-back.ensures)
-    c.in_ok-entries.entries.items c.in_ok-entries.ensures c.plan_entries.result
+    c.in_ok-entries.entries.items
+    (c.in_ok-entries.ensures
+    ∙ ap (command_entries c.args.id)
+    (c.in_ok-noted.ensures
+    ∙ ap (λ (remark : List ℕ). map (noted remark) c.args.texts.now) c.remark_in.ensures))
+    c.plan_entries.result
     c.plan_entries.ensures

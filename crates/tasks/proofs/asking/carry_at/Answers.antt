@@ -1,4 +1,4 @@
-use Rattle.std.proofs.Common.{inl, inr, refl}
+use Rattle.std.proofs.Common.{false, inl, inr, refl}
 use Rattle.std.specs.Io.KnownBytes.{Keeps}
 use Rattle.tasks.specs.Asking.{EndsErrand, errand_of}
 use Rattle.tasks.specs.Places.{reach}
@@ -17,7 +17,7 @@ returns-in-Ok-carry-clause-ends g c =
       patience = c.args.patience;
       key = c.in-Ok.found.key;
     })
-    (g.D.Dial.dialed c.found_at.new.dial) (g.F.Write.contents c.found_at.new.faults)
+    (g.D.Dial.dialed c.found_at.new.dial) (g.F.Write.contents c.found_at.new.faults) false
     c.in-Ok.ensures.ok c.as_str.ensures.value refl refl
     (inl (refl, c.in-Ok-carry.ensures.ok))
 
@@ -34,6 +34,6 @@ returns-clause-ends g c =
       patience = c.args.patience;
       key = c.in-Ok.found.key;
     })
-    (g.D.Dial.dialed c.found_at.new.dial) (g.F.Write.contents c.found_at.new.faults)
+    (g.D.Dial.dialed c.found_at.new.dial) (g.F.Write.contents c.found_at.new.faults) false
     c.in-Ok.ensures.ok c.as_str.ensures.value refl refl
     (inr (c.in-Err-carry.fault, c.tell_asked.ensures, c.in-Err-carry.ensures.err))

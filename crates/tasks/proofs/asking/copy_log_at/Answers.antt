@@ -1,4 +1,4 @@
-use Rattle.std.proofs.Common.{inl, inr, refl}
+use Rattle.std.proofs.Common.{false, inl, inr, refl}
 use Rattle.std.specs.Io.KnownBytes.{Keeps}
 use Rattle.tasks.specs.Asking.{EndsCopy}
 use Rattle.tasks.specs.Places.{reach}
@@ -18,7 +18,7 @@ returns-in-Ok-print_log-clause-ends g c =
       patience = c.args.patience;
       key = c.in-Ok.found.key;
     })
-    (g.D.Dial.dialed c.found_at.new.dial) (g.F.Write.contents c.found_at.new.faults)
+    (g.D.Dial.dialed c.found_at.new.dial) (g.F.Write.contents c.found_at.new.faults) false
     c.in-Ok.ensures.ok c.as_str.ensures.value refl refl
     (inl (refl, c.in-Ok-print_log.ensures.ok))
 
@@ -35,6 +35,6 @@ returns-clause-ends g c =
       patience = c.args.patience;
       key = c.in-Ok.found.key;
     })
-    (g.D.Dial.dialed c.found_at.new.dial) (g.F.Write.contents c.found_at.new.faults)
+    (g.D.Dial.dialed c.found_at.new.dial) (g.F.Write.contents c.found_at.new.faults) false
     c.in-Ok.ensures.ok c.as_str.ensures.value refl refl
     (inr (c.in-Err-print_log.fault, c.tell_asked.ensures, c.in-Err-print_log.ensures.err))

@@ -1,6 +1,6 @@
 use Rattle.std.proofs.Common.{inl, inr, refl}
 use Rattle.std.specs.Io.KnownBytes.{Keeps}
-use Rattle.tasks.specs.Entering.{EndsOne, Single}
+use Rattle.tasks.specs.Entering.{EndsOne, Probed, Single}
 use Rattle.tasks.specs.Places.{reach}
 use Rattle.tasks.proofs.Ending.{done}
 use Rattle.tasks.proofs.entering.enter_at.Goals as goal
@@ -14,15 +14,18 @@ returns-in-Ok-enter_one g c =
     done c.args.place c.args.patience 0
     (reach g.D.Dial.dialed g.F.Write.contents c.args.dial.now c.enter_one.new.dial
     c.args.faults.now)
-    (Keeps old new) (λ one _ t. EndsOne 0 one single t old new)
+    (Keeps old new) (λ one _ t. Probed one t (λ u. EndsOne 0 one single u old new))
     c.in-Ok.found (record {
       address = c.as_str.result;
       patience = c.args.patience;
       key = c.in-Ok.found.key;
     })
     (g.D.Dial.dialed c.found_at.new.dial) (g.F.Write.contents c.found_at.new.faults)
-    c.in-Ok.ensures.ok c.as_str.ensures.value refl refl
-    (inl (refl, c.in-Ok-enter_one.ensures.ok))
+    c.knows_await.result c.in-Ok.ensures.ok c.as_str.ensures.value refl refl (
+      g.D.Dial.dialed c.knows_await.new.dial,
+      c.knows_await.ensures,
+      inl (refl, c.in-Ok-enter_one.ensures.ok),
+    )
 
 pub returns : goal.returns
 returns g c =
@@ -33,12 +36,16 @@ returns g c =
     done c.args.place c.args.patience c.tell_asked.result
     (reach g.D.Dial.dialed g.F.Write.contents c.args.dial.now c.enter_one.new.dial
     c.args.faults.now)
-    (Keeps old new) (λ one _ t. EndsOne c.tell_asked.result one single t old new)
+    (Keeps old new)
+    (λ one _ t. Probed one t (λ u. EndsOne c.tell_asked.result one single u old new))
     c.in-Ok.found (record {
       address = c.as_str.result;
       patience = c.args.patience;
       key = c.in-Ok.found.key;
     })
     (g.D.Dial.dialed c.found_at.new.dial) (g.F.Write.contents c.found_at.new.faults)
-    c.in-Ok.ensures.ok c.as_str.ensures.value refl refl
-    (inr (c.in-Err-enter_one.fault, c.tell_asked.ensures, c.in-Err-enter_one.ensures.err))
+    c.knows_await.result c.in-Ok.ensures.ok c.as_str.ensures.value refl refl (
+      g.D.Dial.dialed c.knows_await.new.dial,
+      c.knows_await.ensures,
+      inr (c.in-Err-enter_one.fault, c.tell_asked.ensures, c.in-Err-enter_one.ensures.err),
+    )

@@ -1,7 +1,7 @@
 use Rattle.std.proofs.Common.{inl, inr, refl}
 use Rattle.std.specs.Io.KnownBytes.{Keeps}
 use Rattle.lines.specs.Bytes.{sides}
-use Rattle.tasks.specs.Entering.{EndsInput}
+use Rattle.tasks.specs.Entering.{EndsInput, Probed}
 use Rattle.tasks.specs.Places.{reach}
 use Rattle.tasks.proofs.Ending.{done}
 use Rattle.tasks.proofs.entering.enter_lines_at.Goals as goal
@@ -14,15 +14,19 @@ returns-in-Ok-enter_all g c =
     done c.args.place c.args.patience 0
     (reach g.D.Dial.dialed g.F.Write.contents c.args.dial.now c.enter_all.new.dial
     c.args.faults.now)
-    (Keeps s.had s.left × Keeps s.old s.new) (λ one _ t. EndsInput 0 one c.args.lines s t)
+    (Keeps s.had s.left × Keeps s.old s.new)
+    (λ one _ t. Probed one t (EndsInput 0 one c.args.lines s))
     c.in-Ok.found (record {
       address = c.as_str.result;
       patience = c.args.patience;
       key = c.in-Ok.found.key;
     })
     (g.D.Dial.dialed c.found_at.new.dial) (g.F.Write.contents c.found_at.new.faults)
-    c.in-Ok.ensures.ok c.as_str.ensures.value refl refl
-    (inl (refl, c.in-Ok-enter_all.ensures.ok))
+    c.knows_await.result c.in-Ok.ensures.ok c.as_str.ensures.value refl refl (
+      g.D.Dial.dialed c.knows_await.new.dial,
+      c.knows_await.ensures,
+      inl (refl, c.in-Ok-enter_all.ensures.ok),
+    )
 
 pub returns : goal.returns
 returns g c =
@@ -33,12 +37,15 @@ returns g c =
     (reach g.D.Dial.dialed g.F.Write.contents c.args.dial.now c.enter_all.new.dial
     c.args.faults.now)
     (Keeps s.had s.left × Keeps s.old s.new)
-    (λ one _ t. EndsInput c.tell_asked.result one c.args.lines s t)
+    (λ one _ t. Probed one t (EndsInput c.tell_asked.result one c.args.lines s))
     c.in-Ok.found (record {
       address = c.as_str.result;
       patience = c.args.patience;
       key = c.in-Ok.found.key;
     })
     (g.D.Dial.dialed c.found_at.new.dial) (g.F.Write.contents c.found_at.new.faults)
-    c.in-Ok.ensures.ok c.as_str.ensures.value refl refl
-    (inr (c.in-Err-enter_all.fault, c.tell_asked.ensures, c.in-Err-enter_all.ensures.err))
+    c.knows_await.result c.in-Ok.ensures.ok c.as_str.ensures.value refl refl (
+      g.D.Dial.dialed c.knows_await.new.dial,
+      c.knows_await.ensures,
+      inr (c.in-Err-enter_all.fault, c.tell_asked.ensures, c.in-Err-enter_all.ensures.err),
+    )

@@ -9,8 +9,13 @@ returns-in-Ok-clause-turn g c =
     let free = subst IsFree (sym c.self.view_is) is_free in
     let few = c.self.invariant.3 free.unended in
     let ok = c.in-Ok.ensures.ok in
-    advances_as g.D.Desk g.P.Peers _ _ _ _ c.args.may _ _ _ c.self.view_is (
-      record { frame = c.in-Some.frame; may = c.args.may; fates = ok.0 },
+    advances_as g.D.Desk g.P.Peers _ _ _ _ c.args.may c.args.differs _ _ _ c.self.view_is (
+      record {
+        frame = c.in-Some.frame;
+        may = c.args.may;
+        differs = c.args.differs;
+        fates = ok.0;
+      },
       record {
         free = free;
         next = c.in-Some.ensures.items;
@@ -22,5 +27,6 @@ returns-in-Ok-clause-turn g c =
       },
       left_at c.self.inside.session.home _ _ _ _ _ _ _ c.in-Ok.reply.close _ _ free.taken
           c.end_after-self-inside.ensures (omega (arith, few)) ok.1,
+      refl,
       refl,
     )

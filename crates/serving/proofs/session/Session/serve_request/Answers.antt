@@ -4,7 +4,7 @@ use Rattle.serving.specs.Answering.{standing}
 use Rattle.serving.specs.Asking.{IsAskedIn}
 use Rattle.serving.proofs.OneFrame.{in_version}
 use Rattle.serving.proofs.Answered.{asks, prints, inspects, copies, stops, estranges, denies}
-use Rattle.serving.proofs.Answered.{ignores}
+use Rattle.serving.proofs.Answered.{ignores, withholds}
 use Rattle.serving.proofs.session.Session.serve_request.Goals as goal
 
 pub returns-in-Asked-clause-ok : goal.returns-in-Asked-clause-ok
@@ -20,8 +20,9 @@ returns-in-Printed-clause-ok g c =
 pub returns-in-Inspected-clause-ok : goal.returns-in-Inspected-clause-ok
 returns-in-Inspected-clause-ok g c =
     let seen = g.D.Desk.seen c.args.node.now in
-    inspects c.args.self.home c.args.request _ _ _ c.in-Inspected.is
-    (c.inspected.ensures.what ∙ ap (λ home. what.Standing (standing home seen)) c.requires.home)
+    inspects c.args.self.home c.args.request c.in-Inspected.differs _ _ _ c.in-Inspected.is
+    (c.inspected.ensures.what
+    ∙ ap (λ home. what.Standing (standing home seen c.in-Inspected.differs)) c.requires.home)
 
 pub returns-in-Copied-clause-ok : goal.returns-in-Copied-clause-ok
 returns-in-Copied-clause-ok g c =
@@ -36,6 +37,10 @@ returns-in-Strange-clause-ok g c = estranges c.args.self.home c.args.request _ _
 
 pub returns-in-Denied-clause-ok : goal.returns-in-Denied-clause-ok
 returns-in-Denied-clause-ok g c = denies c.args.self.home c.args.request _ _ c.in-Denied.is
+
+pub returns-in-Withheld-clause-ok : goal.returns-in-Withheld-clause-ok
+returns-in-Withheld-clause-ok g c =
+    withholds c.args.self.home c.args.request _ _ c.in-Withheld.is
 
 pub returns-in-Ignored-clause-ok : goal.returns-in-Ignored-clause-ok
 returns-in-Ignored-clause-ok g c = ignores c.args.self.home c.args.request _ _ c.in-Ignored.is

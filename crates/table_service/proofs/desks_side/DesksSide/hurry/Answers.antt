@@ -2,5 +2,9 @@ use Rattle.table_service.specs.Steps.{Mirrors}
 use Rattle.table_service.proofs.Steps.{step}
 use Rattle.table_service.proofs.desks_side.DesksSide.hurry.Goals as goal
 
-pub returns : goal.returns
-returns g c = step Mirrors c.args.service.now c.hurry.new.self c.hurry.ensures.others
+pub returns-in-Some : goal.returns-in-Some
+returns-in-Some g c =
+    step Mirrors c.args.service.now c.await_next.new.self c.await_next.ensures.others
+
+pub returns-in-None : goal.returns-in-None
+returns-in-None g c = step Mirrors c.args.service.now c.hurry.new.self c.hurry.ensures.others

@@ -1,0 +1,31 @@
+use Rattle.std.proofs.Common.{◌≡◌, Bool, Bor, IsTrue, List, Option, ℕ, false, inl, inr, refl, rules}
+use Rattle.std.proofs.Common.{true}
+use Rattle.arguments.specs.declared.task.HallService.{HallService}
+use Rattle.batch.specs.Dialing.{Dialed}
+use Rattle.hall_file.specs.declared.hall_file.HallFile.{HallFile}
+use Rattle.tasks.specs.Begun.{AsksFirst, HasAsked}
+use Rattle.desk.proofs.served.may_serve.Goals as goal
+
+asked_by : (may : Bool) (file : Bor (List ℕ)) (wanted : HallService) (hall : HallFile)
+    (texts : List (List ℕ)) (old new : Option (List Dialed)) → IsTrue wanted.makes
+    → HasAsked file wanted hall texts may old new → AsksFirst file wanted hall texts may old new
+asked_by true file wanted hall texts old new makes has = inr (makes, has)
+asked_by false file wanted hall texts old new makes has = (makes, has)
+
+pub returns-clause-asked : goal.returns-clause-asked
+returns-clause-asked g c =
+    let m = c.may_make.ensures in
+    asked_by c.may_make.result c.args.file c.args.wanted c.args.hall.now _ _ _ (search rules) (
+      record {
+        hall = c.args.hall.now.hall;
+        addresses = c.args.addresses;
+        patience = 2;
+        key = c.in-Ok.key;
+      },
+      c.in-Ok.key,
+      c.in-Ok.ensures.ok,
+      record { hall_is = refl; there = refl; key_is = refl; patience_is = refl },
+      m.0,
+      m.1,
+      m.2,
+    )

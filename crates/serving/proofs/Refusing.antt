@@ -1,0 +1,13 @@
+-- Each refusal is an answer in each version.
+use Rattle.std.proofs.Common.{refl}
+use Rattle.wire.specs.declared.frame.What.TheVariants as what
+use Rattle.wire.specs.declared.values.ClientRefusal.{ClientRefusal}
+use Rattle.wire.specs.declared.values.Version.{Version}
+use Rattle.wire.proofs.Told.{refusal_told}
+use Rattle.serving.specs.Answering.{IsAnswer, IsAnswerIn}
+
+pub refuses : (r : ClientRefusal) → IsAnswer (what.Refused r)
+refuses r = record { body = λ version. refusal_told version r; way = λ version. refl }
+
+pub refuses_in : (version : Version) (r : ClientRefusal) → IsAnswerIn version (what.Refused r)
+refuses_in version r = record { body = refusal_told version r; way = refl }

@@ -1,0 +1,160 @@
+//! Whether a hall's day has begun, asked before the store of one of its desks is made.
+
+ghost use Rattle.std.specs.Prelude.{◌≡◌, ◌≤◌, ◌+◌, ◌∷◌, ◌↔◌, [], length, IsTrue};
+ghost use Rattle.std.specs.Io.KnownBytes.{Keeps};
+ghost use Rattle.batch.specs.Dialing.{Adds, asked_so};
+ghost use Rattle.client.specs.Standings.{status_request};
+ghost use Rattle.tasks.specs.Begun.{AsksEach, IsFree, MayMake, joined, known_by, place_at};
+ghost use Rattle.wire.specs.Ranges.{IsDesk};
+
+use batch::{BatchFault, Contact, Dial, ask_over};
+use client::status_request;
+use errands::Inquiry;
+use std::alloc::Global;
+use std::io::Write;
+use wire::What;
+
+/// What the desks of a hall tell that answer.
+#[derive(Clone, Copy, Debug, PartialEq, Eq)]
+struct Known {
+    /// Whether one answers.
+    answers: bool,
+    /// The greatest length of a log that one has.
+    have: u32,
+    /// The greatest length that one was told by the desk whose store is to be made.
+    had: u32,
+}
+
+/// What a desk tells that was asked how it stands, of the one of this number, too.
+fn known_by(lost: u8, answer: &Result<What, BatchFault>) -> Known
+    ensures { result ≡ known_by lost answer.now }
+{
+    match answer {
+        Ok(What::Standing { standing }) => {
+            let told = standing.told.as_slice();
+            let place = usize::from(lost.saturating_sub(1));
+            Known {
+                answers: true,
+                have: standing.length,
+                had: if place < told.len() { told[place] } else { 0 },
+            }
+        }
+        _ => Known {
+            answers: false,
+            have: 0,
+            had: 0,
+        },
+    }
+}
+
+/// What two desks tell.
+fn joined(one: Known, more: Known) -> Known
+    ensures { result ≡ joined one more }
+{
+    Known {
+        answers: one.answers || more.answers,
+        have: one.have.max(more.have),
+        had: one.had.max(more.had),
+    }
+}
+
+/// Asks at an address how the desk of a number stands.
+fn ask_one<D: Dial>(
+    alloc: Global,
+    dial: &mut D,
+    inquiry: Inquiry<'_>,
+    desk: u8,
+    address: &str,
+) -> Result<What, BatchFault>
+    requires { IsDesk desk }
+    ensures { Adds (place_at inquiry.entry address.now) (D.dialed dial.old) (D.dialed dial.new)
+        (asked_so (status_request inquiry.entry.hall desk) result ∷ []) }
+{
+    let contact = Contact {
+        address,
+        patience: inquiry.patience,
+        key: inquiry.key,
+    };
+    ask_over(alloc, dial, contact, &status_request(inquiry.hall, desk))
+}
+
+/// Asks at these addresses, at the first for the desk of this number, and at each further one for
+/// the next.
+fn ask_all<D: Dial>(
+    alloc: Global,
+    dial: &mut D,
+    inquiry: Inquiry<'_>,
+    lost: u8,
+    desk: u8,
+    addresses: &[&str],
+) -> Known
+    requires from { 1 ≤ desk }
+    requires few { desk + length addresses.now ≤ 6 }
+    ensures { AsksEach inquiry.entry lost desk addresses.now result
+        (D.dialed dial.old) (D.dialed dial.new) }
+{
+    let [address, rest @ ..] = addresses else {
+        return Known {
+            answers: false,
+            have: 0,
+            had: 0,
+        };
+    };
+    let answer = ask_one(alloc, dial, inquiry, desk, address);
+    let one = known_by(lost, &answer);
+    let more = ask_all(alloc, dial, inquiry, lost, desk + 1, rest);
+    joined(one, more)
+}
+
+/// Whether none that answers has a command, or was told of one.
+fn is_free(known: Known) -> bool
+    ensures { IsTrue result ↔ IsFree known }
+{
+    known.have == 0 && known.had == 0
+}
+
+/// Says why the store of this desk is not made, or that none answers.
+fn tell_known<F: Write>(faults: &mut F, known: Known, desk: u8)
+    ensures { IsTrue known.answers → IsFree known
+        → Keeps (F.contents faults.old) (F.contents faults.new) }
+{
+    let (have, had) = (known.have, known.had);
+    let page = "see HALL, 'A disk died'";
+    if had > 0 {
+        let _ = writeln!(
+            faults,
+            "desk {desk} had {had} commands: its file is lost; {page}"
+        );
+        return;
+    }
+    if have > 0 {
+        let _ = writeln!(
+            faults,
+            "the day has begun with {have} commands: desk {desk} is not made; {page}"
+        );
+        return;
+    }
+    if !known.answers {
+        let what = "if the hall has commands, end desk";
+        let _ = writeln!(faults, "no other desk answers: {what} {desk}; {page}");
+    }
+}
+
+/// Asks the desks of a hall whether its day has begun, before the store of the desk of this number
+/// is made, and returns whether it may be: none that answers has a command, or was told of one by
+/// this desk. Where it may not, and where none answers, a line says so.
+pub fn may_make<D: Dial, F: Write>(
+    alloc: Global,
+    dial: &mut D,
+    inquiry: Inquiry<'_>,
+    desk: u8,
+    faults: &mut F,
+) -> bool
+    requires { length inquiry.addresses.now ≤ 5 }
+    ensures { MayMake inquiry.entry desk result (D.dialed dial.old) (D.dialed dial.new)
+        (F.contents faults.old) (F.contents faults.new) }
+{
+    let known = ask_all(alloc, dial, inquiry, desk, 1, inquiry.addresses);
+    tell_known(faults, known, desk);
+    is_free(known)
+}

@@ -1,0 +1,79 @@
+//! What is told of an export that is made.
+
+ghost use Rattle.std.specs.Prelude.{◌≡◌};
+ghost use Rattle.wcif_results.specs.Notes.{any_runs, is_running};
+
+use crate::quoted::Quoted;
+use formats::{Event, Format};
+use std::fmt;
+
+/// What is told of an export that is made.
+#[derive(Drop)]
+pub enum Note {
+    /// The round is not closed.
+    Running {
+        event: Event,
+        round: u8,
+    },
+    /// The file has no round with the id, and the round has no result.
+    LeftOut {
+        event: Event,
+        round: u8,
+    },
+    /// The file's round has another format, or none.
+    OtherFormat {
+        event: Event,
+        round: u8,
+        format: Format,
+        other: Quoted,
+    },
+}
+
+impl fmt::Display for Note {
+    fn fmt<W: fmt::Write>(&self, f: &mut fmt::Formatter<W>) -> fmt::Result {
+        match self {
+            Note::Running { event, round } => {
+                write!(f, "{}-r{round}: the round still runs", event.name())
+            }
+            Note::LeftOut { event, round } => write!(
+                f,
+                "{}-r{round}: left out: it has no result, and the file has no such round",
+                event.name()
+            ),
+            Note::OtherFormat {
+                event,
+                round,
+                format,
+                other,
+            } => write!(
+                f,
+                "{}-r{round}: the format is {}, and in the file {other}",
+                event.name(),
+                format.name()
+            ),
+        }
+    }
+}
+
+/// Whether it says that a round still runs.
+fn is_running(note: &Note) -> bool
+    ensures { result ≡ is_running note.now }
+{
+    match note {
+        Note::Running { .. } => true,
+        Note::LeftOut { .. } => false,
+        Note::OtherFormat { .. } => false,
+    }
+}
+
+/// Whether a round still runs.
+pub fn any_runs(notes: &[Note]) -> bool
+    ensures { result ≡ any_runs notes.now }
+{
+    for note in notes {
+        if is_running(note) {
+            return true;
+        }
+    }
+    false
+}
