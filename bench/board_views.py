@@ -93,16 +93,23 @@ def results(table, who, shown):
     return place, shown[0], shown[1], attempts
 
 
-def section(meet, what, which, position):
+def is_high(table, who):
+    """A place of 1 to 3, with a result."""
+    return table.places()[who] <= 3 and any(isinstance(it, int) for it in table.entrants[who])
+
+
+def section(meet, what, which, position, podium=False):
     table = meet.rounds[what, which]
     going = set(table.as_next_sees_it().advancing())
     head = ["place", "number", "name", "average", "best"]
     head += [str(count) for count in range(1, rules.ATTEMPTS[table.form] + 1)] + ["advances"]
-    out = f'<section id="{what}-{which}"><h2>{in_words(what, which, table)}</h2>\n'
-    out += f'<p class="told">{settings(what, table)}, <strong>{state(table)}</strong></p>\n'
-    out += "<table><thead><tr>"
+    out = f'<section id="{what}-{which}"><table><caption><h2>{in_words(what, which, table)}</h2>\n'
+    out += f'<p class="told">{settings(what, table)}, <strong>{state(table)}</strong></p>'
+    out += "</caption>\n<thead><tr>"
     out += "".join(f'<th scope="col">{name}</th>' for name in head) + "</tr></thead><tbody>\n"
     for _, who, shown, _ in rules.rows(table):
+        if podium and not is_high(table, who):
+            continue
         place, average, best, attempts = results(table, who, shown)
         if who in going:
             kind, mark = ("yes", "yes") if table.closed else ("would", "would advance")
@@ -113,13 +120,19 @@ def section(meet, what, which, position):
         out += f'<tr class="{kind}"><td>{place}</td><td>{who}</td>'
         out += f'<th scope="row" dir="auto"><a href="/person/{who}">{name}</a></th>'
         out += "".join(f"<td>{text}</td>" for text in [average, best, *attempts, mark]) + "</tr>\n"
-    return out + f'</tbody></table>\n<p class="at">position {position}</p></section>\n'
+    return out + below(position)
+
+
+def below(position):
+    return f'</tbody></table>\n<p class="at">as of result {position}</p></section>\n'
 
 
 def person(meet, who, position):
-    out = f'<section class="person"><h2 dir="auto">{escaped(meet.names[who].decode())}</h2>\n'
+    name = escaped(meet.names[who].decode())
+    out = '<section class="person"><table><caption>'
+    out += f"<h2><bdi>{name}</bdi>, number {who}</h2></caption>\n"
     head = ["round", "place", "average", "best", "attempts", "state"]
-    out += "<table><thead><tr>" + "".join(f'<th scope="col">{name}</th>' for name in head)
+    out += "<thead><tr>" + "".join(f'<th scope="col">{name}</th>' for name in head)
     out += "</tr></thead><tbody>\n"
     for what, which in opened(meet):
         table = meet.rounds[what, which]
@@ -131,7 +144,24 @@ def person(meet, who, position):
             out += f"{in_words(what, which, table)}</a></th>"
             cells = [place, average, best, "".join(f" {text}" for text in attempts), state(table)]
             out += "".join(f"<td>{text}</td>" for text in cells) + "</tr>\n"
-    return out + f'</tbody></table>\n<p class="at">position {position}</p></section>\n'
+    return out + below(position)
+
+
+def people(meet, position):
+    out = '<section class="people"><table><caption><h2>Competitors</h2></caption>\n<thead><tr>'
+    out += '<th scope="col">number</th><th scope="col">name</th></tr></thead><tbody>\n'
+    for who in sorted(meet.names):
+        out += f'<tr><td>{who}</td><th scope="row" dir="auto"><a href="/person/{who}">'
+        out += f"{escaped(meet.names[who].decode())}</a></th></tr>\n"
+    return out + below(position)
+
+
+def podiums(meet, position):
+    out = '<p class="told">The first three of each final.</p>\n'
+    for what, which in opened(meet):
+        if meet.rounds[what, which].advance == ("final",):
+            out += section(meet, what, which, position, podium=True)
+    return out
 
 
 def opened(meet):
@@ -139,31 +169,34 @@ def opened(meet):
             if (what, which) in meet.rounds]
 
 
-def framed(kind, title, links, inside):
+def framed(kind, shows, title, links, inside):
     title = escaped(title)
     return f"""<!DOCTYPE html>
 <html lang="en"><head><meta charset="utf-8">
 <meta name="viewport" content="width=device-width, initial-scale=1">
-<title>{title}</title><link rel="stylesheet" href="/style.css">
+<title>{shows} - {title}</title><link rel="stylesheet" href="/style.css">
 <noscript><meta http-equiv="refresh" content="5"></noscript>
 <script src="/update.js" defer></script></head>
 <body class="{kind}"><main>
 <h1 dir="auto">{title}</h1>
 <nav>
 <a href="/">all rounds</a>
+<a href="/people">find a name</a>
+<a href="/podiums">podiums</a>
 {links}<a href="/hall">projector</a></nav>
 {inside}</main></body></html>
 """
 
 
-def every_round(kind, title, log):
+def every_round(kind, shows, title, log):
     meet = meet_of(log)
     links, inside = "", ""
     for what, which in opened(meet):
         words = in_words(what, which, meet.rounds[what, which])
         links += f'<a href="/{what}-{which}">{words}</a>\n'
         inside += section(meet, what, which, len(log))
-    return framed(kind, title, links, inside or '<p class="none">No round is open yet.</p>\n')
+    inside = inside or '<p class="none">No round is open yet.</p>\n'
+    return framed(kind, shows, title, links, inside)
 
 
 def archive(log):
@@ -175,13 +208,18 @@ def page(title, log, path):
     """Kind, keeping, position and body of the page at a path, or none."""
     now = len(log)
     if path in ("/", "/hall"):
-        kind = "all" if path == "/" else "hall"
-        return "text/html", "no-cache", now, every_round(kind, title, log)
+        kind, shows = ("all", "All rounds") if path == "/" else ("hall", "Projector")
+        return "text/html", "no-cache", now, every_round(kind, shows, title, log)
+    if path in ("/podiums", "/people"):
+        shows, inside = ("Podiums", podiums) if path == "/podiums" else ("Competitors", people)
+        shown = inside(meet_of(log), now)
+        return "text/html", "no-cache", now, framed("one", shows, title, "", shown)
     if found := re.fullmatch("/person/([1-9][0-9]{0,3})", path):
         meet, who = meet_of(log), int(found[1])
         if who not in meet.names:
             return None
-        return "text/html", "no-cache", now, framed("one", title, "", person(meet, who, now))
+        shows, shown = escaped(meet.names[who].decode()), person(meet, who, now)
+        return "text/html", "no-cache", now, framed("one", shows, title, "", shown)
     if path == "/log.txt":
         return "text/plain", "no-cache", now, archive(log)
     found = re.fullmatch(f"/(hall/|at/{POSITION}/)?{ROUND}(\\.csv)?", path)
@@ -196,8 +234,10 @@ def page(title, log, path):
     if found[5]:
         return "text/csv", keeping, position, text
     kind = "hall" if path.startswith("/hall/") else "one"
-    shown = section(meet_of(log[:position]), what, which, position)
-    return "text/html", keeping, position, framed(kind, title, "", shown)
+    meet = meet_of(log[:position])
+    shown = section(meet, what, which, position)
+    shows = in_words(what, which, meet.rounds[what, which])
+    return "text/html", keeping, position, framed(kind, shows, title, "", shown)
 
 
 def main():

@@ -5,7 +5,6 @@ does not stand there is a fault.
 """
 
 import http.client
-import itertools
 import json
 import os
 import re
@@ -151,12 +150,6 @@ class Runbook:
         self.last = out
         return err
 
-    def prints(wanted, status=0):
-        return lambda self, block: self.told(block, wanted, status)
-
-    def shown(self, block):
-        """An output of which the runbook shows an example: nothing is compared."""
-
     def same(self, block):
         """The output of the block before it, to the byte."""
         expect("what the runbook says is printed", self.last.splitlines(),
@@ -169,53 +162,42 @@ class Runbook:
         wait_for("three desks", lambda: firsts <= set(said.read_text().splitlines()))
         self.hall_of_one = process, said
 
-    def stop_all(self, block):
-        self.told(block, "ok\nok\nok\n")
+    def stop_all(self):
+        """The first hall is stopped, as HALL.md says in its text."""
+        self.told([f"./desk stop --desk {desk}" for desk in (1, 2, 3)], r"(ok: desk \d at \S+\n){3}")
         process, said = self.hall_of_one
         expect("status of the desks' shell", process.wait(LONGEST), 0)
         expect("desks that served", len(re.findall(r"^served \d+$", said.read_text(), re.M)), 3)
 
-    def status_again(self, block):
-        """The hall's status, whose own lines come next or are an example."""
-        def asked():
-            self.last, _, status = self.machine.run("\n".join(block))
-            return status == 0
-        wait_for("the status of the hall", asked)
-
     def entered(self, block):
-        err = self.told(block, "".join(f"done {n} {n - 1} Done\n" for n in range(1, 16)))
-        expect("what is said at the end", "15 accepted, 0 refused\n" in err, True)
+        err = self.told(block, "".join(f"done {n} {n - 1} Done\n" for n in range(1, 9)))
+        expect("what is said at the end", "8 accepted, 0 refused\n" in err, True)
 
-    def replayed(self, block):
-        """The sheet again, after a line for each command of the log that was refused."""
-        self.told(block, r"(refused \d+ \w+\n)*333 round 1 ao5 closed .*")
-        expect("the sheet of the log", re.sub(r"^(refused .*\n)*", "", self.last), self.sheet)
-
-    def sheet_now(self, block):
-        self.told(block, "333 round 1 ao5 .*")
-        self.sheet = self.last
+    def corrected(self, block):
+        """A card again, the close, and the sheet, which the next block shows."""
+        decided = r"done \d+ 8 Done\ndone \d+ 9 Done\n"
+        self.told(block, decided + "333 round 1 ao5 closed .*")
+        self.last = re.sub(f"^{decided}", "", self.last)
 
     # --- a hall of three machines ---
 
     def a_new_hall(self, block):
-        """Three machines, each with the box in a folder of its own, and the hall's file copied."""
+        """Three machines, each with the box in a folder of its own, and in it what the first one
+        makes for it in a folder inside."""
+        self.stop_all()
         self.folders = {desk: self.machine.new_folder() for desk in (3, 2, 1)}
-        self.told(block, "")
+        made_in = self.folders[1] / "hall"
+        made_in.mkdir()
+        if os.geteuid() == 0:
+            os.chown(made_in, NOBODY, NOBODY)
+        self.told(["cd hall", *block], ".*")
         (self.folders[1] / "competition.json").write_text(json.dumps(COMPETITION))
         (self.folders[1] / "results.txt").write_text(RESULTS)
-        self.copy("hall.toml")
-
-    def copy(self, *names):
-        """Copies files of the first machine to the others, with the rights that they have there."""
-        for desk, name in itertools.product((2, 3), names):
-            shutil.copy2(self.folders[1] / name, self.folders[desk] / name)
-            if os.geteuid() == 0:
-                os.chown(self.folders[desk] / name, NOBODY, NOBODY)
-
-    def make_keys(self, block):
-        """The hall's key and an entry key, which all desks of the second hall get."""
-        self.told(block, "")
-        self.copy("hall.toml", "hall.key", "entry.key")
+        for desk, folder in self.folders.items():
+            for made in (made_in / f"desk-{desk}").iterdir():
+                shutil.copy2(made, folder / made.name)
+                if os.geteuid() == 0:
+                    os.chown(folder / made.name, NOBODY, NOBODY)
 
     def serve(self, block, desk):
         """Starts a desk on its machine, by the runbook's words with its own number."""
@@ -236,14 +218,6 @@ class Runbook:
         for desk in (1, 2, 3):
             self.of_desks[desk] = self.serve(block, desk)
 
-    def start_again(self, block):
-        """The same desks with an entry key, too."""
-        for desk in (1, 2, 3):
-            os.killpg(self.of_desks[desk].pid, signal.SIGINT)
-            self.of_desks[desk].wait(LONGEST)
-            (self.folders[desk] / "said.txt").unlink()
-        self.start_desks(block)
-
     def imported(self, block):
         self.told(block, "")
         lines, _ = wcif.imported(COMPETITION)
@@ -251,11 +225,12 @@ class Runbook:
                (self.folders[1] / "setup.txt").read_text().splitlines(), lines)
 
     def status(self, block):
-        """The status of the first hall, or of the second one, into which setup.txt is entered then,
-        as HALL.md says in its text."""
-        self.status_again(block)
-        if not self.of_desks:
-            return
+        """The status of the second hall, into which setup.txt is entered then, as HALL.md says in
+        its text."""
+        def asked():
+            self.last, _, status = self.machine.run("\n".join(block))
+            return status == 0
+        wait_for("the status of the hall", asked)
         expect("the status", self.last.splitlines()[-1], "all 3 desks have all 0 commands")
         count = len(wcif.imported(COMPETITION)[0])
         err = self.told(["./desk enter-lines --wait --progress < setup.txt"],
@@ -297,12 +272,16 @@ class Runbook:
         wait_for("a card that is saved", lambda: 'class="saved"' in self.page(
             self.of_table, "/card/333-1")[1])
 
-    def many(self, block):
-        """Results from a file, the last one by the score table, and the close of the round."""
-        err = self.told(block, r"(done \d+ \d+ Done\n){9}")
+    def by_words(self, block):
+        """A competitor, results from a file, and a card that is refused. Then the last result by
+        the score table, the close of the round and its sheet."""
+        refused = r"done \d+ \d+ UnknownCompetitor: .*\n"
+        err = self.told(block, r"(done \d+ \d+ Done\n){10}" + refused, status=1)
         expect("what is said at the end", "9 accepted, 0 refused\n" in err, True)
         self.enter_card()
         self.told(["./desk enter --wait 'CLOSE 333 1'"], r"done \d+ \d+ Done\n")
+        self.told(["./desk sheet 333 1"], "333 round 1 ao5 closed .*")
+        self.sheet = self.last
 
     def board(self, block):
         self.machine.begin(f"exec {block[0]}", self.folders[1])
@@ -313,14 +292,14 @@ class Runbook:
                  lambda: self.page(browser, "/333-1.csv") == (200, table))
 
     def stop(self, block):
-        """All desks of the first hall are stopped, and one of the second."""
-        if len(block) == 3:
-            return self.stop_all(block)
-        self.told(block, "ok\n")
+        """One desk of the second hall."""
+        self.told(block, r"ok: desk 1 at \S+\n")
         expect("a desk that was stopped", self.of_desks[1].wait(LONGEST), 0)
 
-    def exported(self, block):
-        self.told(block, "")
+    def archived(self, block):
+        """The sheet again, and the competition's file with the results."""
+        self.told(block, "333 round 1 ao5 closed .*")
+        expect("the sheet of the log", self.last, self.sheet)
         whole = json.loads((self.folders[1] / "competition-results.json").read_text())
         results = whole["events"][0]["rounds"][0]["results"]
         expect("results in the competition's file",
@@ -328,35 +307,19 @@ class Runbook:
                [(1, 1, 5), (2, 2, 5)])
 
     HOW = {
-        "./desk --help": prints("The results desk of .*Usage: desk <COMMAND>.*", 2),
         "./desk hall-file --hall 7 127.0.0.1:7001 127.0.0.1:7002 127.0.0.1:7003 > hall.toml":
-            prints(""),
-        "./desk serve --config hall.toml --desk 1 --store desk-1.db --new &": one_hall,
+            one_hall,
         "./desk status": status,
-        "desk 1 of 3  idle  0 commands  0 waiting  127.0.0.1:7001": same,
         "./desk enter-lines --first-id 1 --wait <<'END'": entered,
-        "./desk enter --wait 'COR 333 1 5 1 T:1150:0'":
-            prints(r"done \d+ 15 Done\ndone \d+ 16 Done\n"),
-        "./desk sheet 333 1": sheet_now,
-        "333 round 1 ao5 closed position 17": same,
-        "./desk stop --desk 1": stop,
-        "./desk log --store desk-1.db > log-1.txt": replayed,
-        "./desk hall-file --hall 7 10.0.0.1:7001 10.0.0.2:7001 10.0.0.3:7001 > hall.toml":
-            a_new_hall,
-        "./desk key --file hall.key": make_keys,
+        "./desk enter --wait 'CARD 333 1 1 1000,1200,1100,1300,DNF =/=/=/=/T:1150:0'": corrected,
+        "333 round 1 ao5 closed position 10": same,
+        "../desk hall-file --keys --hall 7 10.0.0.1:7001 10.0.0.2:7001 10.0.0.3:7001": a_new_hall,
         "./desk serve --config hall.toml --desk 1 --store desk-1.db --new": make_stores,
         "./desk import --wcif competition.json > setup.txt": imported,
-        "./desk serve --config hall.toml --desk 1 --store desk-1.db": start_desks,
-        "./desk serve --config hall.toml --desk 1 --store desk-1.db --entry-key entry.key "
-        "--open-sheets": start_again,
-        "desk 1 of 3  idle  1010 commands  0 waiting  10.0.0.1:7001": shown,
-        "desk 3 at 10.0.0.3:7001: connection refused": shown,
+        "./desk serve --config hall.toml --desk 1 --store desk-1.db --open-sheets": start_desks,
         "./scoretable --listen 127.0.0.1:8081": table,
-        "./desk enter --wait 'REG 3 Cy Li'": prints(r"done \d+ \d+ Done\n"),
-        "./desk enter-lines --wait --progress < results.txt": many,
-        "./desk enter --wait 'CARD 333 1 17 - T:1043:0/T:998:1/DNF/T:1200:0/T:1131:0 # A 14:02'":
-            prints(r"done \d+ \d+ UnknownCompetitor: .*\n"),
+        "./desk enter --wait 'REG 3 Cy Li'": by_words,
         "./board --listen 127.0.0.1:8080": board,
-        "store device": shown,
-        "./desk export --wcif competition.json < log-1.txt > competition-results.json": exported,
+        "./desk stop --desk 1": stop,
+        "./desk log --store desk-1.db > log-1.txt": archived,
     }

@@ -140,7 +140,7 @@ class Pages:
                 f"{inside}</main></body></html>\n")
 
     def recent(self):
-        out = '<section id="recent"><h2>Last entered</h2>\n<ol aria-live="polite">\n'
+        out = '<section id="recent"><h2>Last entered</h2>\n<ol>\n'
         newest = next((one for one, state, text in self.sent
                        if state[0] == "s" and CARD.fullmatch(text)), None)
         for one, state, text in self.sent:
@@ -420,7 +420,7 @@ class Pages:
         return "".join(f'<option value="{value}">{words}</option>\n' for value, words in pairs)
 
     def people(self):
-        free = next((who for who in range(1, 9999) if who not in self.meet.names), 9999)
+        free = max((who for who in self.meet.names if who < 9999), default=0) + 1
         first = [(what, self.meet.rounds[what, 1]) for what in WORDS
                  if (what, 1) in self.meet.rounds]
         out = ("<section><h1>Competitors</h1>\n<p><a href=\"/import\">From a competition's file or "
@@ -456,11 +456,12 @@ class Pages:
 
     def person(self, who):
         back, number = f"/person/{who}", hidden("number", who) + "\n"
-        events = "".join(f" {what}" for what in WORDS
-                         if (what, 1) in self.meet.rounds
-                         and who in self.meet.rounds[what, 1].entrants)
+        within = "".join(f' <a href="/card/{what}-{which}?number={who}">{what}-{which}</a>'
+                         for what in WORDS for which in range(1, 5)
+                         if (what, which) in self.meet.rounds
+                         and who in self.meet.rounds[what, which].entrants)
         out = (f'<section><h1 dir="auto">{self.name(who)}</h1>\n'
-               f"<p>Number {who}, events:{events}</p>\n")
+               f"<p>Number {who}, rounds:{within}</p>\n")
         if self.meet.edition < 4:
             out += self.edition_form(back)
         else:

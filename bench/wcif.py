@@ -97,6 +97,24 @@ def desk_names(persons, same_names):
     return names
 
 
+def quoted(name):
+    """A text in double quotes, with escapes for what is not seen."""
+    known = {'"': '\\"', "\\": "\\\\", "\n": "\\n", "\r": "\\r", "\t": "\\t", "\0": "\\0"}
+    return '"' + "".join(known.get(c, c if c.isprintable() else "\\u{%x}" % ord(c))
+                         for c in name) + '"'
+
+
+def name_fault(name):
+    """What is wrong with a name that a desk refuses."""
+    if not name:
+        return "the name is missing"
+    if len(name.encode()) > 160:
+        return "the name has more than 160 bytes"
+    if '"' in name:
+        return "the name has a double quote"
+    return "the name has a space too many, or a character that is not seen"
+
+
 def person_faults(place, person, persons, names, held):
     out = []
     number = whole(member(person, "registrantId"))
@@ -108,7 +126,7 @@ def person_faults(place, person, persons, names, held):
     elif any(whole(member(p, "registrantId")) == number for _, p in front):
         out.append("another accepted person has this registrantId")
     if not is_name(names[place]):
-        out.append("the desk refuses the name")
+        out.append(name_fault(names[place]))
     elif any(names[i] == names[place] for i, _ in front):
         out.append("another accepted person has this name")
     ids = ids_of(person)
@@ -122,7 +140,8 @@ def person_faults(place, person, persons, names, held):
                 out.append(f"event {item} of the registration is not held")
             elif event in ids[:item - 1]:
                 out.append(f"event {item} of the registration stands there twice")
-    return [f"person {place}: {fault}" for fault in out]
+    who = quoted(text(person, "name") or "") + ("" if number is None else f" ({number})")
+    return [f"person {place}, {who}: {fault}" for fault in out]
 
 
 def settings(event, item, cumulative):
@@ -220,6 +239,21 @@ def imported(value, cumulative="refuse", same_names="refuse", edition=4):
         lines.append(f"OPEN {event['id']} 1 {fields}")
     lines += [f"ENT {event} {number}" for number, _, p in order for event in ids_of(p)]
     return lines, []
+
+
+def later(value, cumulative="refuse"):
+    """What is said of rounds that are not opened, as comments, of a file without faults."""
+    lines = []
+    for event in listed(value, "events"):
+        rounds = event["rounds"]
+        for number, item in enumerate(rounds, 1):
+            fields, _ = settings(event["id"], item, cumulative)
+            if number > 1:
+                lines.append(f"# OPEN {event['id']} {number} {fields}")
+            if fields.endswith(" final") and number < len(rounds):
+                lines.append(f"# {event['id']}-r{number}: nobody advances, "
+                             "and the file has a next round")
+    return lines
 
 
 def large():
@@ -407,7 +441,8 @@ RAW = [
 
 def printed(value, options):
     lines, faults = imported(value, *options)
-    return "".join(f"{line}\n" for line in lines) + "".join(f"fault: {f}\n" for f in faults)
+    lines += [f"fault: {fault}" for fault in faults] or later(value, options[0])
+    return "".join(f"{line}\n" for line in lines)
 
 
 def cases(which):

@@ -107,13 +107,6 @@ def ordered(meet):
             for which in range(1, 5) if (what, which) in meet.rounds}
 
 
-def quoted(name):
-    """A text in double quotes, with escapes for what is not seen."""
-    known = {'"': '\\"', "\\": "\\\\", "\n": "\\n", "\r": "\\r", "\t": "\\t", "\0": "\\0"}
-    return '"' + "".join(known.get(c, c if c.isprintable() else "\\u{%x}" % ord(c))
-                         for c in name) + '"'
-
-
 def held_rounds(value):
     """The formats of the file's rounds by their ids: of each id the first."""
     held = {}
@@ -147,16 +140,16 @@ def faults(meet, given, rounds, value):
                 continue
             yield f"{name}: the file has no such round"
         for who in table.standings():
-            here = f"{name}: number {who} is {quoted(meet.names[who].decode())}, and"
+            here = f"{name}: number {who} is {wcif.quoted(meet.names[who].decode())}, and"
             person = accepted.get(str(who), everyone.get(str(who)))
             there = text(person, "name")
             names = (there.encode(), (there + " " + text(person, "wcaId")).encode())
             if person is None:
                 yield f"{here} nobody in the file"
             elif str(who) not in accepted:
-                yield f"{here} in the file {quoted(there)}, not accepted"
+                yield f"{here} in the file {wcif.quoted(there)}, not accepted"
             elif not any((who, called) in given for called in names):
-                yield f"{here} in the file {quoted(there)}"
+                yield f"{here} in the file {wcif.quoted(there)}"
 
 
 FORMATS = {"ao5": "a", "mo3": "m", "bo1": "1", "bo2": "2", "bo3": "3"}
@@ -172,7 +165,7 @@ def notes(rounds, value):
         if not table.closed:
             yield f"{name}: the round still runs"
         if held[name] != FORMATS[table.form]:
-            yield f"{name}: the format is {table.form}, and in the file {quoted(held[name])}"
+            yield f"{name}: the format is {table.form}, and in the file {wcif.quoted(held[name])}"
 
 
 def within(value, name, change):

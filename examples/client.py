@@ -10,7 +10,24 @@ not understood it says so in one line:
     examples/client.py status --hall 7 --to 127.0.0.1:7001 127.0.0.1:7002 127.0.0.1:7003
 
 `sheet` without a position gives the newest sheet. `--key FILE` is the hall's key, or its entry key,
-where the desks have keys. Files of halls it does not read, and `enter` does not wait.
+if the desks have keys. Files of halls it does not read, and `enter` does not wait.
+
+To write another client: connect to the desk's address, write one frame of kind 16 to 23, `from` 0
+and `to` the desk's number, and read four bytes, the length, and then that many bytes. That is the
+answer if `from` is the desk that was asked, `to` is 0, hall and kind are the wanted ones, and the
+id or the position, if the kind has one, is the one that was asked. A Refused counts from whatever
+hall and desk. Anything else, and an end before that, is no answer. A desk answers up to 64 frames
+on a connection, in their order, and then closes it. A request over one that the desk has ended
+meanwhile was not read: make it again over a new one.
+
+Taken says that the command waits in the desk's queue. Await its id, a second or two each time,
+until Told says that it is done; a desk of an earlier program ends the connection at that, and is
+asked by Ask. Pending for long: send a Tick. Unknown after Taken, or no answer: send the Submit
+again with the same id, since a command that comes twice counts once. Refused 1 and 4: try again
+later. So each command has an id of its own, which the client remembers before it sends it. If two
+clients choose one, both learn where the first one's command is: call a command done only if the
+entry at its position (Log) is this id and this text. For a desk's log ask from position 0 on, and
+then from where the entries end that have come, until there are as many as the answer says.
 """
 
 import argparse

@@ -38,8 +38,8 @@ class Driver:
         threading.Thread(target=self.program.stdout.read, daemon=True).start()
         self.browsers = []
 
-    def browser(self):
-        self.browsers.append(Browser(self.address))
+    def browser(self, script=True):
+        self.browsers.append(Browser(self.address, script))
         return self.browsers[-1]
 
     def end(self):
@@ -54,11 +54,14 @@ class Driver:
 
 
 class Browser:
-    """A browser with one page."""
+    """A browser with one page, with scripts or without."""
 
-    def __init__(self, address):
+    def __init__(self, address, script=True):
         self.path = f"{address}/session"
-        wanted = {"goog:chromeOptions": {"args": ARGUMENTS}, "unhandledPromptBehavior": "ignore"}
+        options = {"args": ARGUMENTS}
+        if not script:
+            options["prefs"] = {"profile.managed_default_content_settings.javascript": 2}
+        wanted = {"goog:chromeOptions": options, "unhandledPromptBehavior": "ignore"}
         made = self.ask("POST", "", {"capabilities": {"alwaysMatch": wanted}})
         self.path += "/" + made["sessionId"]
         self.pressed = 0
@@ -88,10 +91,20 @@ class Browser:
         self.pressed += len(keys)
         self.ask("POST", "/actions", {"actions": [{"type": "key", "id": "k", "actions": steps}]})
 
+    def source(self):
+        return self.ask("GET", "/source")
+
     def click(self, selector):
+        self.ask("POST", f"/element/{self.element(selector)}/click")
+
+    def choose(self, selector, path):
+        """Chooses a file in a field."""
+        self.ask("POST", f"/element/{self.element(selector)}/value", {"text": str(path)})
+
+    def element(self, selector):
         found = self.ask("POST", "/element", {"using": "css selector", "value": selector})
         [element] = found.values()
-        self.ask("POST", f"/element/{element}/click")
+        return element
 
     def asked(self):
         """What the page asks in a dialog that is open. None where none is."""

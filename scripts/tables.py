@@ -53,7 +53,8 @@ class Hall:
     def ask(self, name, *rest, **more):
         words = [self.program, name, "--hall", str(HALL), "--desk", "1", "--to", self.desks[0]]
         ran = subprocess.run([*words, *rest], capture_output=True, timeout=LONGEST, **more)
-        expect(f"{name} {rest}", (ran.stderr, ran.returncode), (b"", 0))
+        # a line there may say that it waits for a desk
+        expect(f"{name} {rest}: {ran.stderr}", ran.returncode, 0)
         return ran.stdout.decode()
 
     def log(self):

@@ -58,10 +58,10 @@ request_ids (request.Sheet event round position style) name rows h = tt
 request_ids request.Tick name rows h = tt
 request_ids request.Stop name rows h = tt
 
-entered_ids : (id : Option ℕ) (text : Text) (rows : List Row) → IsEntered id text rows
+entered_ids : (id : Option ℕ) (words : List Text) (rows : List Row) → IsEntered id words rows
     → IfSome id IsId
-entered_ids None text rows h = tt
-entered_ids (Some id) text rows h = h.0
+entered_ids None words rows h = tt
+entered_ids (Some id) words rows h = h.0
 
 -- what was found has its ids in their range
 pub found_ids : (found : Option (Text × List Row)) (t : Task) → Finds found t → HasIds t
@@ -70,14 +70,14 @@ found_ids found (task.Import file options) h = tt
 found_ids found (task.Export file running) h = tt
 found_ids found task.Results h = tt
 found_ids found (task.Hall desks) h = tt
-found_ids found (task.HallFile hall addresses) h = tt
+found_ids found (task.HallFile hall addresses keys) h = tt
 found_ids found (task.Key file) h = tt
 found_ids found (task.Carry place patience request) h = request_ids request h.0 h.1 h.3.0
 found_ids found (task.Newest place patience event round style) h = tt
-found_ids found (task.Enter place patience id text waits) h = entered_ids id text.now h.1 h.3.2
+found_ids found (task.Enter place patience id words waits) h = entered_ids id _ h.1 h.3.2
 found_ids found (task.EnterLines place patience lines) h = h.3.2.first_id.in_range
 found_ids found (task.Log store) h = tt
-found_ids found (task.CopyLog place patience start) h = tt
-found_ids found (task.Status desks patience json watches) h = tt
+found_ids found (task.CopyLog place patience start form) h = tt
+found_ids found (task.Status desks patience json watches all) h = tt
 found_ids found (task.Serve service) h = tt
 found_ids found (task.ServeHall file wanted) h = tt

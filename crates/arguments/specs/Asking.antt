@@ -1,7 +1,7 @@
 -- What the arguments of the program ask for, as its parser reads them: `clap` says which argument
 -- is the value of which name.
-use Rattle.std.specs.Prelude.{◌≡◌, ◌≤◌, true, false, Bool, ℕ, List, [], ◌∷◌, codes, length, map}
-use Rattle.std.specs.Prelude.{Option, None, Some, IfSome}
+use Rattle.std.specs.Prelude.{◌≡◌, ◌≤◌, ◌&&◌, true, false, Bool, ℕ, List, [], ◌∷◌, codes, decimal}
+use Rattle.std.specs.Prelude.{length, map, nat_le, Option, None, Some, IfSome}
 use Rattle.clap.specs.Words.{App, Row, Text, all_of, first_of, new_app, subcommand_of}
 use Rattle.clap.specs.Words.{with_rule, with_subcommand}
 use Rattle.wire.specs.declared.values.SheetStyle.{SheetStyle}
@@ -32,6 +32,9 @@ use Rattle.arguments.specs.declared.places.Place.{Place}
 use Rattle.arguments.specs.declared.places.Place.TheVariants as place
 use Rattle.arguments.specs.declared.task.HallService.{HallService}
 use Rattle.arguments.specs.declared.task.Lines.{Lines}
+use Rattle.arguments.specs.declared.task.LogForm.{LogForm}
+use Rattle.arguments.specs.declared.task.LogForm.TheVariants as log_form
+use Rattle.formats.specs.Events.{event_of_name}
 use Rattle.arguments.specs.declared.task.Request.{Request}
 use Rattle.arguments.specs.declared.task.Request.TheVariants as request
 use Rattle.arguments.specs.declared.task.Task.{Task}
@@ -46,8 +49,9 @@ hall_arguments = with_rule (new_app (codes "hall")) (value_rule (codes "desks") 
 
 abbrev pub hall_file_arguments : App
 hall_file_arguments =
-    with_rule (with_rule (new_app (codes "hall-file"))
+    with_rule (with_rule (with_rule (new_app (codes "hall-file"))
     (option_rule (codes "hall") (numbers 0 4294967295)))
+    (flag_rule (codes "keys")))
     (values_rule (codes "addr") any_text)
 
 abbrev pub key_arguments : App
@@ -57,7 +61,7 @@ key_arguments =
 abbrev pub serve_arguments : App
 serve_arguments =
     with_rule (with_rule (with_rule (with_rule (with_rule (with_rule (with_rule (with_rule
-    (with_rule (with_rule (with_rule (with_rule (located_arguments (codes "serve"))
+    (with_rule (with_rule (with_rule (with_rule (with_rule (located_arguments (codes "serve"))
     (option_rule (codes "desk") (numbers 0 255)))
     (option_rule (codes "store") any_text))
     (bound (flag_rule (codes "new"))))
@@ -67,23 +71,28 @@ serve_arguments =
     (optional_rule (codes "tick") 100 60000))
     (flag_rule (codes "quiet")))
     (optional_value_rule (codes "entry-key") any_text))
+    (bound (optional_value_rule (codes "old-key") any_text)))
     (flag_rule (codes "open-sheets")))
     explain_rule)
     (bound (optional_values_rule (codes "addr") any_text))
 
 abbrev pub log_arguments : App
 log_arguments =
-    with_rule (with_rule (errand_arguments (codes "log"))
+    with_rule (with_rule (with_rule (with_rule (errand_arguments (codes "log"))
     (bound (optional_value_rule (codes "store") any_text)))
-    (optional_rule (codes "from") 0 65536)
+    (optional_rule (codes "from") 0 65536))
+    (flag_rule (codes "long")))
+    (several 1 5 (optional_value_rule (codes "who") any_text))
 
 abbrev pub status_arguments : App
 status_arguments =
-    with_rule (with_rule (with_rule (with_rule (with_rule (located_arguments (codes "status"))
+    with_rule (with_rule (with_rule (with_rule (with_rule (with_rule
+    (located_arguments (codes "status"))
     (bound (several 1 5 (optional_value_rule (codes "to") any_text))))
     wait_seconds_rule)
     (flag_rule (codes "json")))
     (flag_rule (codes "watch")))
+    (bound (flag_rule (codes "all"))))
     explain_rule
 
 -- the edition, how cumulative limits and how same names are imported, as it is typed
@@ -123,10 +132,9 @@ results_arguments = with_rule (new_app (codes "results")) (required_flag_rule (c
 
 abbrev pub enter_arguments : App
 enter_arguments =
-    with_rule (with_rule (with_rule (errand_arguments (codes "enter"))
+    with_rule (with_rule (errand_arguments (codes "enter"))
     (flag_rule (codes "wait")))
-    (value_rule (codes "first") any_text))
-    (last_value_rule (codes "second") any_text)
+    (values_rule (codes "words") any_text)
 
 abbrev pub lines_arguments : App
 lines_arguments =
@@ -242,12 +250,24 @@ AreDesks (desks.Addresses hall addresses key) rows =
 AreDesks (desks.File file key) rows =
     IsHallFile file.now (codes "to") rows × IsText (codes "key") rows key
 
--- a command's id and its text, or its text alone
-abbrev pub IsEntered : Option ℕ → Text → List Row → Type 0
-IsEntered (Some id) text rows =
-    IsId id × IsNumberAt (codes "first") rows id × (first_of (codes "second") rows ≡ Some text)
-IsEntered None text rows =
-    (first_of (codes "first") rows ≡ Some text) × (first_of (codes "second") rows ≡ None)
+-- a word begins as the first one of a command does, with a capital letter
+abbrev pub is_verb : Text → Bool
+is_verb [] = false
+is_verb (byte ∷ bytes) = nat_le 65 byte && nat_le byte 90
+
+-- words are a command without an id before it: one, or several of which the first begins a command
+abbrev pub are_command : List Text → Bool
+are_command [] = false
+are_command (word ∷ []) = true
+are_command (word ∷ another ∷ more) = is_verb word
+
+-- a command's id and its words, or its words alone
+abbrev pub IsEntered : Option ℕ → List Text → List Row → Type 0
+IsEntered (Some id) words rows =
+    IsId id × (all_of (codes "words") rows ≡ Some (decimal id ∷ words))
+    × (are_command (decimal id ∷ words) ≡ false)
+IsEntered None words rows =
+    (all_of (codes "words") rows ≡ Some words) × (are_command words ≡ true)
 
 -- the id of the first line, or that none is given
 pub record IsFirstId (id : Option ℕ) (rows : List Row) : Type 0 where
@@ -285,6 +305,7 @@ pub record IsService (s : Service) (rows : List Row) : Type 0 where
   pub quiet : IsFlag (codes "quiet") rows s.quiet
   pub key : IsText (codes "key") rows s.key
   pub entry_key : IsText (codes "entry-key") rows s.entry_key
+  pub old_key : IsText (codes "old-key") rows s.old_key
   pub open_sheets : IsFlag (codes "open-sheets") rows s.open_sheets
   pub addresses : all_of (codes "addr") rows ≡ Some (map (λ a. a.now) s.addresses.now)
 
@@ -301,6 +322,7 @@ pub record IsHallService (s : HallService) (rows : List Row) : Type 0 where
   pub quiet : IsFlag (codes "quiet") rows s.quiet
   pub key : IsText (codes "key") rows s.key
   pub entry_key : IsText (codes "entry-key") rows s.entry_key
+  pub old_key : IsText (codes "old-key") rows s.old_key
   pub open_sheets : IsFlag (codes "open-sheets") rows s.open_sheets
 
 -- the file of a stopped desk; no desk that runs is named beside it
@@ -309,6 +331,23 @@ pub record IsStored (store : Text) (rows : List Row) : Type 0 where
   pub no_file : first_of (codes "config") rows ≡ None
   pub no_hall : first_of (codes "hall") rows ≡ None
   pub no_address : first_of (codes "to") rows ≡ None
+
+-- words that name a result: an event, a round and a competitor's number
+abbrev pub AreWhose : List Text → LogForm → Type 0
+AreWhose words (log_form.ChangesOf event round number) =
+    (name : Text) × (event_of_name name ≡ Some event) × (1 ≤ round) × (round ≤ 4)
+    × (1 ≤ number) × (number ≤ 9999)
+    × (words ≡ name ∷ decimal round ∷ decimal number ∷ [])
+AreWhose words _ = ⊥
+
+-- the form of a log: lines, or with `--long` rows, or with `--who` those of one result
+abbrev pub IsForm : List Row → LogForm → Type 0
+IsForm rows log_form.Lines =
+    IsFlag (codes "long") rows false × (all_of (codes "who") rows ≡ None)
+IsForm rows log_form.Rows = IsFlag (codes "long") rows true × (all_of (codes "who") rows ≡ None)
+IsForm rows (log_form.ChangesOf event round number) =
+    (words : List Text) × (all_of (codes "who") rows ≡ Some words)
+    × AreWhose words (log_form.ChangesOf event round number)
 
 -- a desk that runs, and the position from which on its log is copied, 0 where none is given
 pub record IsCopied (p : Place) (patience start : ℕ) (rows : List Row) : Type 0 where
@@ -354,27 +393,30 @@ IsTask (task.Export file running) name rows =
 IsTask task.Results name rows = (name ≡ codes "results") × IsFlag (codes "json") rows true
 IsTask (task.Hall desks) name rows =
     (name ≡ codes "hall") × IsNumberAt (codes "desks") rows desks
-IsTask (task.HallFile hall addresses) name rows =
+IsTask (task.HallFile hall addresses keys) name rows =
     (name ≡ codes "hall-file") × IsNumberAt (codes "hall") rows hall
     × (all_of (codes "addr") rows ≡ Some (map (λ a. a.now) addresses.now))
+    × IsFlag (codes "keys") rows keys
 IsTask (task.Key file) name rows = (name ≡ codes "key") × IsText (codes "file") rows file
 IsTask (task.Carry place patience request) name rows =
     IsRequest request name rows × IsPlaced place patience rows
 IsTask (task.Newest place patience event round style) name rows =
     (name ≡ codes "sheet") × IsPlaced place patience rows × IsRound rows event round
     × IsAsked rows style × (first_of (codes "position") rows ≡ None)
-IsTask (task.Enter place patience id text waits) name rows =
-    (name ≡ codes "enter") × IsPlaced place patience rows × IsEntered id text.now rows
+IsTask (task.Enter place patience id words waits) name rows =
+    (name ≡ codes "enter") × IsPlaced place patience rows
+    × IsEntered id (map (λ w. w.now) words.now) rows
     × IsFlag (codes "wait") rows waits
 IsTask (task.EnterLines place patience lines) name rows =
     (name ≡ codes "enter-lines") × IsPlaced place patience rows × AreLines lines rows
 IsTask (task.Log store) name rows = (name ≡ codes "log") × IsStored store.now rows
-IsTask (task.CopyLog place patience start) name rows =
-    (name ≡ codes "log") × IsCopied place patience start rows
-IsTask (task.Status desks patience json watches) name rows =
+IsTask (task.CopyLog place patience start form) name rows =
+    (name ≡ codes "log") × IsCopied place patience start rows × IsForm rows form
+IsTask (task.Status desks patience json watches all) name rows =
     (name ≡ codes "status") × AreDesks desks rows
     × IsNumberOr (codes "patience") 10 rows patience
     × IsFlag (codes "json") rows json × IsFlag (codes "watch") rows watches
+    × IsFlag (codes "all") rows all
 IsTask (task.Serve service) name rows =
     (name ≡ codes "serve") × IsService service rows × IsFlag (codes "new") rows false
 IsTask (task.ServeHall file wanted) name rows =
@@ -394,15 +436,15 @@ HasIds (task.Import file options) = Unit {0}
 HasIds (task.Export file running) = Unit {0}
 HasIds task.Results = Unit {0}
 HasIds (task.Hall desks) = Unit {0}
-HasIds (task.HallFile hall addresses) = Unit {0}
+HasIds (task.HallFile hall addresses keys) = Unit {0}
 HasIds (task.Key file) = Unit {0}
 HasIds (task.Carry place patience request) = HasId request
 HasIds (task.Newest place patience event round style) = Unit {0}
-HasIds (task.Enter place patience id text waits) = IfSome id IsId
+HasIds (task.Enter place patience id words waits) = IfSome id IsId
 HasIds (task.EnterLines place patience lines) = IfSome lines.first_id IsId
 HasIds (task.Log store) = Unit {0}
-HasIds (task.CopyLog place patience start) = Unit {0}
-HasIds (task.Status desks patience json watches) = Unit {0}
+HasIds (task.CopyLog place patience start form) = Unit {0}
+HasIds (task.Status desks patience json watches all) = Unit {0}
 HasIds (task.Serve service) = Unit {0}
 HasIds (task.ServeHall file wanted) = Unit {0}
 

@@ -14,11 +14,11 @@ const ABOUT: &str = "Asks a desk what happened to a command.";
 const AFTER: &str = "\
 Prints one of these lines:
 
-  unknown ID             the command is neither in the desk's log nor in its queue
-  pending ID             the command waits in the desk's queue
-  done ID POSITION Done  it is in the log at this position, and it was accepted
-  done ID POSITION CODE  it is in the log at this position, and it was refused;
-                         docs/FORMATS.md explains each CODE
+  unknown ID      the command is neither in the desk's log nor in its queue
+  pending ID      the command waits in the desk's queue
+  done ID N Done  it is in the log, after N others, and it was accepted
+  done ID N CODE  it is in the log, after N others, and it was refused;
+                  docs/FORMATS.md explains each CODE
 
 Exit status: 0 answered; 2 invalid arguments, or help; 3 bad desk number, bad hall file, a key that
 is refused, or refused NAME; 4 cannot connect, cannot write, or no answer; 5 no memory.";

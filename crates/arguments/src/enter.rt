@@ -1,29 +1,32 @@
 //! The subcommand `enter`: its arguments and its help.
 
-ghost use Rattle.std.specs.Prelude.{◌≡◌, codes, IfOk, IfSome};
+ghost use Rattle.std.specs.Prelude.{◌≡◌, codes, map, IfOk, IfSome};
 ghost use Rattle.clap.specs.Words.{app_of, found_of, rows_of, with_subcommand};
-ghost use Rattle.arguments.specs.Asking.{enter_arguments, IsTask};
+ghost use Rattle.arguments.specs.Asking.{are_command, enter_arguments, is_verb, IsTask};
 
-use crate::described::{Argument, FLAG, Subcommand, VALUE, with_described};
+use crate::described::{Argument, FLAG, Subcommand, Takes, VALUE, with_described};
 use crate::places::{ERRAND, placed};
 use crate::task::Task;
-use crate::values::id_at;
+use crate::values::id_in;
 use clap::{ArgMatches, Command};
-use replay_arguments::{flag_at, text_at};
+use replay_arguments::flag_at;
 use std::alloc::{AllocError, Global};
 
 const ABOUT: &str = "Enters a command at a desk, so that the desks of its hall agree on it.";
 
 const AFTER: &str = "\
 Prints `taken ID`: the command waits in the desk's queue. `desk ask` says what happened to it later.
-With --wait it prints what `desk ask` prints once the command is decided, and what a refusal means.
+With --wait it prints what `desk ask` prints once the command is decided, and what a refusal means;
+what is no command in any edition is named on standard error then, and nothing is sent.
 
-A value alone is the command; it gets a random ID, which is printed. Each command has an ID of its
-own: once the desks have agreed on a command, another one with the same ID is refused as a repeat.
+TEXT is the command, in quotes or without, as desk enter --wait ATT 333 1 1 17 DNF. Without an ID
+before it the command gets a random one, which is printed. Each command has an ID of its own: once
+the desks have agreed on a command, another one with the same ID is refused as a repeat.
 
-Exit status: 0 taken, or with --wait decided; 2 invalid arguments, or help; 3 bad desk number, bad
-hall file, a key that is refused, text too long, still pending, command lost, another command's id,
-or refused NAME; 4 cannot connect, cannot write, or no answer; 5 no memory.";
+Exit status: 0 taken, or with --wait accepted; 1 with --wait refused by the rules; 2 invalid
+arguments, or help; 3 bad desk number, bad hall file, a key that is refused, text too long, not a
+command, still pending, command lost, another command's id, or refused NAME; 4 cannot connect,
+cannot write, or no answer; 5 no memory.";
 
 /// The subcommand `enter`.
 const ENTER: Subcommand<'static> = Subcommand {
@@ -38,16 +41,10 @@ const ENTER: Subcommand<'static> = Subcommand {
             ..FLAG
         },
         Argument {
-            id: "first",
-            name: "ID|TEXT",
-            help: "The command's id, 1 to 9223372036854775807, or the command itself",
-            ..VALUE
-        },
-        Argument {
-            id: "second",
+            id: "words",
             name: "TEXT",
-            help: "After an id the command, as 'ENT 333 1', at most 600 bytes",
-            required: false,
+            help: "The command, at most 600 bytes; before it its id may stand, 1 to 2^63 - 1",
+            takes: Takes::Texts,
             ..VALUE
         },
     ],
@@ -61,33 +58,54 @@ pub fn with_enter<'a>(alloc: Global, command: Command<'a>) -> Result<Command<'a>
     with_described(alloc, command, &ENTER)
 }
 
+/// Whether a word begins as the first one of a command does, with a capital letter.
+fn is_verb(word: &str) -> bool
+    ensures { result ≡ is_verb word.now }
+{
+    match word.as_bytes().first() {
+        Some(byte) => *byte >= b'A' && *byte <= b'Z',
+        None => false,
+    }
+}
+
+/// Whether words are a command without an id before it: one word, or several of which the first one
+/// begins a command.
+fn are_command(words: &[&str]) -> bool
+    ensures { result ≡ are_command (map (λ w. w.now) words.now) }
+{
+    match words {
+        [] => false,
+        [_] => true,
+        [first, ..] => is_verb(first),
+    }
+}
+
 /// What the arguments of `enter` ask for.
-pub fn enter_of<'a>(found: &ArgMatches<'a>) -> Option<Task<'a>>
+pub fn enter_of<'m, 'a: 'm>(found: &'m ArgMatches<'a>) -> Option<Task<'m>>
     ensures { IfSome result
         (λ task. IsTask task (codes "enter") (rows_of (found_of found.now))) }
 {
     let (place, patience) = placed(found)?;
     let waits = flag_at(found, "wait");
-    match found.get_str("second") {
-        Some(text) => {
-            let id = Some(id_at(found, "first")?);
-            Some(Task::Enter {
-                place,
-                patience,
-                id,
-                text,
-                waits,
-            })
-        }
-        None => {
-            let text = text_at(found, "first")?;
-            Some(Task::Enter {
-                place,
-                patience,
-                id: None,
-                text,
-                waits,
-            })
-        }
+    let words = found.get_strs("words")?;
+    if are_command(words) {
+        return Some(Task::Enter {
+            place,
+            patience,
+            id: None,
+            words,
+            waits,
+        });
     }
+    let [first, rest @ ..] = words else {
+        return None;
+    };
+    let id = id_in(first)?;
+    Some(Task::Enter {
+        place,
+        patience,
+        id: Some(id),
+        words: rest,
+        waits,
+    })
 }

@@ -26,7 +26,7 @@ At most 65,536 lines, 10,000 bytes a line and 39,387,136 bytes in all are read.
 Standard output gets a line for each message that is sent, as `m3 1 2 Prepare 1.1 0`: its number,
 its sender, its receiver, its kind and its fields. It gets a line `refused N FAULT` where the desk
 refuses the event of line N. At the end it gets the logs of the desks, a line for each entry, as
-`desk 1 0 7 REG 1 Ann Li`: the desk, the position, the id and the command.
+`desk 1 0 7 REG 1 Ann Li`: the desk, how many came before, the id, the command.
 
 Exit status: 0 the script was run; 2 invalid arguments, or help; 3 bad number of desks, bad line N,
 or input too long; 4 cannot read, or cannot write; 5 no memory.";

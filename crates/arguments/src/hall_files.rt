@@ -4,11 +4,12 @@ ghost use Rattle.std.specs.Prelude.{◌≡◌, codes, IfOk, IfSome};
 ghost use Rattle.clap.specs.Words.{app_of, found_of, rows_of, with_subcommand};
 ghost use Rattle.arguments.specs.Asking.{hall_file_arguments, IsTask};
 
-use crate::described::{Argument, OPTION, Subcommand, Takes, with_described};
+use crate::described::{Argument, FLAG, OPTION, Subcommand, Takes, with_described};
 use crate::serve::ADDRESSES;
 use crate::task::Task;
 use crate::values::four_bytes_at;
 use clap::{ArgMatches, Command};
+use replay_arguments::flag_at;
 use std::alloc::{AllocError, Global};
 
 const ABOUT: &str = "Prints a file that describes a hall, as --config takes it.";
@@ -18,8 +19,14 @@ The ADDRs are where the desks of the hall listen, in the order of their numbers,
 There are three or five, and no two are the same. With the text in hall.toml the other subcommands
 need no --hall, --desk and --to in the folder of that file.
 
-Exit status: 0 the file was printed; 2 invalid arguments, or help; 3 bad hall file (another number
-of ADDRs, an ADDR that is no address, or one that is there twice); 4 cannot write; 5 no memory.";
+With --keys nothing is printed but the names of what is made in this folder, where nothing of these
+may be there before: the hall's file, a new key of the hall and one for entries, as hall.toml,
+hall.key and entry.key; and a folder with what each machine needs of them, and nothing else: desk-1
+and so on, scoretable and board. Only the owner may read the keys.
+
+Exit status: 0 the file was printed, or all was made; 2 invalid arguments, or help; 3 bad hall file
+(another number of ADDRs, an ADDR that is no address, or one that is there twice), or there already;
+4 cannot read (there are no random numbers), or cannot write; 5 no memory.";
 
 /// The subcommand `hall-file`.
 const HALL_FILE: Subcommand<'static> = Subcommand {
@@ -38,6 +45,11 @@ const HALL_FILE: Subcommand<'static> = Subcommand {
             },
             required: true,
             ..OPTION
+        },
+        Argument {
+            id: "keys",
+            help: "Make two keys, and a folder for each machine",
+            ..FLAG
         },
         ADDRESSES,
     ],
@@ -58,5 +70,10 @@ pub fn hall_file_of<'m, 'a: 'm>(found: &'m ArgMatches<'a>) -> Option<Task<'m>>
 {
     let hall = four_bytes_at(found, "hall")?;
     let addresses = found.get_strs("addr")?;
-    Some(Task::HallFile { hall, addresses })
+    let keys = flag_at(found, "keys");
+    Some(Task::HallFile {
+        hall,
+        addresses,
+        keys,
+    })
 }

@@ -21,6 +21,7 @@ FILE is a competition in the WCA Competition Interchange Format, as the WCA's si
 commands are printed one a line, as `desk enter-lines` takes them: `EDITION 4`, a `REG` for each
 accepted person, an `OPEN` for the first round of each event, and an `ENT` for each event of each
 registration. With `--edition 3` the first one is `EDITION 3`, for desks of an earlier program.
+After them stands in comments how FILE has later rounds, as `# OPEN 333 2 ao5 - 60000 top:8`.
 
 Where a desk cannot hold something of the competition, nothing is printed, and standard error gets
 a line for each such thing, as `333bf-r1: cumulative limit: enter the limit that holds for one

@@ -27,4 +27,4 @@ mod values;
 pub use laws::replay_is_asked_alike;
 pub use parsing::parse;
 pub use places::{Desks, Place};
-pub use task::{Asked, HallService, Lines, Request, Task, task_of};
+pub use task::{Asked, HallService, Lines, LogForm, Request, Task, task_of};

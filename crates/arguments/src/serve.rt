@@ -38,8 +38,9 @@ The desk serves all its clients side by side, at most 512 at once.
 With a key (--key, or the hall file's `key`) only whoever has that key is answered: the other desks,
 and clients that have it, which may do everything. Whoever has the key of --entry-key may enter
 commands, ask, and send ticks, but cannot stop the desk or speak as another one. With --open-sheets
-whoever has no key may ask for sheets, answers, the log and how the desk stands. Both come with a
-key alone. `desk key` makes a key. Nothing that is sent is secret.
+whoever has no key may ask for sheets, answers, the log and how the desk stands. With --old-key, in
+the place of --entry-key, that key counts as the hall's too, while the hall's is changed at one desk
+after the other. They come with a key alone. `desk key` makes a key. Nothing that is sent is secret.
 
 Prints `desk D of N len LENGTH` once clients can connect: N is the number of desks, and LENGTH is
 the length of the desk's log. At the end it prints `served CONNECTIONS`. On standard error it says
@@ -110,7 +111,7 @@ const SERVE: Subcommand<'static> = Subcommand {
         Argument {
             id: "connections",
             name: "K",
-            help: "Ends after so many connections, 1 to 1000000; without this option it goes on",
+            help: "End after K connections, 1 to 1000000; without this option when it is stopped",
             takes: Takes::Number {
                 low: 1,
                 high: 1_000_000,
@@ -142,7 +143,14 @@ How long until a Tick of the desk's own, 100 to 60000; without it 1000, with --h
         },
         Argument {
             id: "entry-key",
-            help: "The file with a second key: whoever has it may enter and ask, and nothing else",
+            help: "\
+The file with a second key, which may only enter and ask; without it entry.key beside FILE, if any",
+            ..OPTION
+        },
+        Argument {
+            id: "old-key",
+            help: "The file with the key that was the hall's, while that is changed",
+            without: &["entry-key"],
             ..OPTION
         },
         Argument {
@@ -194,6 +202,7 @@ pub fn serve_of<'m, 'a: 'm>(found: &'m ArgMatches<'a>) -> Option<Task<'m>>
     let quiet = flag_at(found, "quiet");
     let key = given_text(found, "key");
     let entry_key = given_text(found, "entry-key");
+    let old_key = given_text(found, "old-key");
     let open_sheets = flag_at(found, "open-sheets");
     if found.get_str("hall").is_none() {
         let file = hall_file_at(found, "addr")?;
@@ -209,6 +218,7 @@ pub fn serve_of<'m, 'a: 'm>(found: &'m ArgMatches<'a>) -> Option<Task<'m>>
             quiet,
             key,
             entry_key,
+            old_key,
             open_sheets,
         };
         return Some(Task::ServeHall { file, wanted });
@@ -231,6 +241,7 @@ pub fn serve_of<'m, 'a: 'm>(found: &'m ArgMatches<'a>) -> Option<Task<'m>>
         quiet,
         key,
         entry_key,
+        old_key,
         open_sheets,
         addresses,
     };

@@ -17,10 +17,10 @@ use wire::SheetStyle;
 const ABOUT: &str = "Fetches the result sheet of a round from a desk and prints it.";
 
 const AFTER: &str = "\
-The sheet is that of the first POSITION commands of the desk's log; POSITION 0 is the empty log.
-Without POSITION it is the newest sheet: that of the whole log. Each sheet says its position.
-Where `desk ask` prints `done ID 4 Done`, the sheet with that command has POSITION 5. All desks
-print the same bytes for the same POSITION.
+The sheet is that of the first COUNT commands of the desk's log; COUNT 0 is the empty log. Without
+COUNT it is the newest sheet: that of the whole log. Each sheet says how many it counts. Where `desk
+ask` prints `done ID 4 Done`, the first sheet with that command has COUNT 5. All desks print the
+same bytes for the same COUNT.
 
 Exit status: 0 the sheet was printed; 2 invalid arguments, or help; 3 bad desk number, bad hall
 file, a key that is refused, or refused NAME (NotThere: the desk's log is shorter; NoSuchRound: none
@@ -39,7 +39,7 @@ const SHEET: Subcommand<'static> = Subcommand {
 const LAST: [Argument<'static>; 2] = [
     Argument {
         id: "position",
-        name: "POSITION",
+        name: "COUNT",
         help: "How many commands of the log the sheet counts; without it all that the desk has",
         takes: Takes::Number {
             low: 0,

@@ -20,6 +20,10 @@ its role (idle, gathering, proposing or leading), how many commands its log has,
 its address; or why it says nothing, as `no answer`. At the end a line says what it means, as
 `all 3 desks have all 1010 commands`. A desk that was asked under another number is said so.
 
+With --all further lines say what else has to fit before the day: whether each desk's program is of
+this version, what the clock of this machine says, whether its disk has room, and which keys stand
+in the folder of FILE. Ask so on each machine.
+
 Exit status: 0 a majority answered, and none lacks a command; 1 a majority answered, and one of
 these lacks commands; 2 invalid arguments, or help; 3 no majority answered, or FILE is no hall's
 file; 4 cannot write; 5 no memory.";
@@ -50,6 +54,12 @@ const STATUS: Subcommand<'static> = Subcommand {
             help: "Ask and print again each second, until it is ended",
             ..FLAG
         },
+        Argument {
+            id: "all",
+            help: "Say what else has to fit, of the desks' programs and of this machine",
+            without: &["json", "watch"],
+            ..FLAG
+        },
         EXPLAIN,
     ],
 };
@@ -71,10 +81,12 @@ pub fn status_of<'m, 'a: 'm>(found: &'m ArgMatches<'a>) -> Option<Task<'m>>
     let patience = number_or(found, "patience", PATIENCE)?;
     let json = flag_at(found, "json");
     let watches = flag_at(found, "watch");
+    let all = flag_at(found, "all");
     Some(Task::Status {
         desks,
         patience,
         json,
         watches,
+        all,
     })
 }

@@ -61,6 +61,21 @@ pub struct Lines {
     pub sends_all: bool,
 }
 
+/// In which form the log of a desk that runs is printed.
+#[derive(Clone, Copy)]
+pub enum LogForm {
+    /// As lines that `replay` reads.
+    Lines,
+    /// As rows for people: who entered what and when.
+    Rows,
+    /// So the changes of the result of a competitor in a round.
+    ChangesOf {
+        event: Event,
+        round: u8,
+        number: u16,
+    },
+}
+
 /// What is asked of a desk that is to serve, of the hall that a file describes.
 #[derive(Clone, Copy)]
 pub struct HallService<'a> {
@@ -84,6 +99,8 @@ pub struct HallService<'a> {
     pub key: Option<&'a str>,
     /// The path of the file with the key for entries alone.
     pub entry_key: Option<&'a str>,
+    /// The path of the file with the key that was the hall's.
+    pub old_key: Option<&'a str>,
     /// Whether whoever has no key may ask for sheets.
     pub open_sheets: bool,
 }
@@ -114,10 +131,11 @@ pub enum Task<'a> {
     Hall {
         desks: u8,
     },
-    /// The file that describes a hall.
+    /// The file that describes a hall; with its keys, and a folder for each machine, or printed.
     HallFile {
         hall: u32,
         addresses: &'a [&'a str],
+        keys: bool,
     },
     /// A new key, in a file that is made, or on standard output.
     Key {
@@ -137,12 +155,13 @@ pub enum Task<'a> {
         round: u8,
         style: SheetStyle,
     },
-    /// To enter a command at a desk; without an id one is chosen.
+    /// To enter a command at a desk, whose words stand between single spaces; without an id one is
+    /// chosen.
     Enter {
         place: Place<'a>,
         patience: u32,
         id: Option<u64>,
-        text: &'a str,
+        words: &'a [&'a str],
         waits: bool,
     },
     /// To enter the lines of an input at a desk.
@@ -160,13 +179,15 @@ pub enum Task<'a> {
         place: Place<'a>,
         patience: u32,
         from: u32,
+        form: LogForm,
     },
-    /// How the desks of a hall stand.
+    /// How the desks of a hall stand, and this machine too where `all` is wanted.
     Status {
         desks: Desks<'a>,
         patience: u32,
         json: bool,
         watches: bool,
+        all: bool,
     },
     /// To run a desk.
     Serve {

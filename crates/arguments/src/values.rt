@@ -1,6 +1,6 @@
 //! How the values of arguments are read.
 
-ghost use Rattle.std.specs.Prelude.{◌≡◌, IfSome};
+ghost use Rattle.std.specs.Prelude.{◌≡◌, decimal, IfSome};
 ghost use Rattle.clap.specs.Words.{first_of, found_of, rows_of};
 ghost use Rattle.arguments.specs.Arguments.{IsGiven, IsNumberAt, IsNumberOr, IsText};
 ghost use Rattle.wire.specs.Ranges.{IsId};
@@ -39,16 +39,24 @@ pub fn byte_at(found: &ArgMatches<'_>, id: &str) -> Option<u8>
     Some(number as u8)
 }
 
+/// A text as an id, 1 to 9,223,372,036,854,775,807. No id where it has a sign or leading zeros.
+pub fn id_in(text: &str) -> Option<u64>
+    ensures id { IfSome result (λ n. text.now ≡ decimal n) }
+    ensures in_range { IfSome result IsId }
+{
+    let number = plain_number(text)?;
+    if number == 0 || number > 9_223_372_036_854_775_807 {
+        return None;
+    }
+    Some(number)
+}
+
 /// As `number_at`, where the number is an id: 1 to 9,223,372,036,854,775,807.
 pub fn id_at(found: &ArgMatches<'_>, id: &str) -> Option<u64>
     ensures id { IfSome result (λ n. IsNumberAt id.now (rows_of (found_of found.now)) n) }
     ensures in_range { IfSome result IsId }
 {
-    let number = number_at(found, id)?;
-    if number == 0 || number > 9_223_372_036_854_775_807 {
-        return None;
-    }
-    Some(number)
+    id_in(text_at(found, id)?)
 }
 
 /// The number that is given, or `Some(None)` where none is. None: it has a sign or leading zeros,

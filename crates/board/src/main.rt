@@ -2,12 +2,12 @@
 //! projector and for phones.
 #![tactic(auto)]
 
-mod arguments;
+mod options;
 
-use arguments::run_given;
 use board_service::PROGRAM;
 use command_line::given;
 use hall_file::hall_options::tell_no_arguments;
+use options::run_given;
 use prompt_lines::PromptLines;
 use std::process::ExitCode;
 

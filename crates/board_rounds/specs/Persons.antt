@@ -1,5 +1,6 @@
--- The rounds that a competitor is in, in HTML.
-use Rattle.std.specs.Prelude.{ℕ, Bool, List, [], ◌++◌, codes, flat_map, option_map, unwrap_or}
+-- Competitors, and the rounds that one of them is in, in HTML.
+use Rattle.std.specs.Prelude.{ℕ, ◌+◌, Bool, List, [], ◌∷◌, ◌++◌, codes, decimal, flat_map}
+use Rattle.std.specs.Prelude.{option_map, unwrap_or}
 use Rattle.std.specs.List.{range_with_len}
 use Rattle.attempts.specs.declared.Value.{Value}
 use Rattle.attempts.specs.declared.Unit.{Unit as Measure}
@@ -13,9 +14,12 @@ use Rattle.texts.specs.declared.command.Command.{Command}
 use Rattle.texts.specs.declared.command.RoundId.{RoundId}
 use Rattle.texts.specs.declared.command.Settings.{Settings}
 use Rattle.markup.specs.board_page.Escaped.{escaped}
+use Rattle.markup.specs.Pieces.{joined}
 use Rattle.board_rounds.specs.Rounds.{below, heading}
-use Rattle.board_rounds.specs.Rows.{attempt_words, cell, line_end, place_words, result_cells}
+use Rattle.board_rounds.specs.Rows.{attempt_words, cell, line_end, name_cell, place_words}
+use Rattle.board_rounds.specs.Rows.{result_cells}
 use Rattle.round_words.specs.Words.{round_name, round_words, state_words}
+use Rattle.board_rounds.specs.declared.persons.TheConstants.{PEOPLE}
 
 -- the round, whose own page stands behind it
 unfoldable pub round_cell : List ℕ → List ℕ → List ℕ
@@ -51,10 +55,12 @@ entry_in n id r = unwrap_or (option_map (entry_of id r) (entrant r.1 n)) []
 abbrev pub entry : List Command → ℕ → RoundId → List ℕ
 entry cs n id = unwrap_or (option_map (entry_in n id) (round_of cs id.event id.round)) []
 
-unfoldable pub person_start : List ℕ → List ℕ
-person_start name =
-    codes "<section class=\"person\"><h2 dir=\"auto\">" ++ escaped name
-    ++ codes "</h2>\n<table><thead><tr>"
+-- name and number
+unfoldable pub person_start : ℕ → List ℕ → List ℕ
+person_start n name = joined (
+    codes "<section class=\"person\"><table><caption><h2><bdi>" ∷ escaped name
+    ∷ codes "</bdi>, number " ∷ decimal n ∷ codes "</h2></caption>\n<thead><tr>" ∷ []
+    )
 
 abbrev pub person_headings : List ℕ
 person_headings =
@@ -62,11 +68,29 @@ person_headings =
     ++ heading (codes "best") ++ heading (codes "attempts") ++ heading (codes "state")
     ++ codes "</tr></thead><tbody>\n"
 
--- a competitor of this name, in those of these rounds that the competitor is in
+-- a competitor of this number and name, in those of these rounds that the competitor is in
 unfoldable pub person : List Command → ℕ → ℕ → List RoundId → List ℕ → List ℕ
 person cs position n ids name =
-    person_start name ++ person_headings ++ flat_map (entry cs n) ids ++ below position
+    person_start n name ++ person_headings ++ flat_map (entry cs n) ids ++ below position
 
 -- a competitor, where the number is registered
 abbrev pub person_of : List Command → ℕ → ℕ → List RoundId → List ℕ
 person_of cs position n ids = unwrap_or (option_map (person cs position n ids) (name_of cs n)) []
+
+-- ---- all competitors
+
+-- number and name, behind which the competitor's own page stands
+abbrev pub competitor : ℕ → List ℕ → List ℕ
+competitor n name = codes "<tr>" ++ cell (decimal n) ++ name_cell n name ++ line_end
+
+-- the competitor of the next number, where it is registered
+abbrev pub next_competitor : List Command → ℕ → List ℕ
+next_competitor cs n =
+    unwrap_or (option_map (competitor (n + 1)) (name_of cs (n + 1))) []
+
+-- those whose numbers are up to this one
+unfoldable pub competitors : List Command → ℕ → List ℕ
+competitors cs last = flat_map (next_competitor cs) (range_with_len 0 last)
+
+unfoldable pub people : List Command → ℕ → List ℕ
+people cs position = PEOPLE.now ++ competitors cs 9999 ++ below position

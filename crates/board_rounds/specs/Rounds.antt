@@ -1,15 +1,17 @@
 -- A round in HTML.
-use Rattle.std.specs.Prelude.{ℕ, ◌+◌, List, [], ◌++◌, codes, decimal, flat_map, option_map}
-use Rattle.std.specs.Prelude.{unwrap_or}
+use Rattle.std.specs.Prelude.{ℕ, ◌+◌, Bool, true, false, List, [], ◌++◌, codes, decimal}
+use Rattle.std.specs.Prelude.{flat_map, option_map, unwrap_or}
 use Rattle.std.specs.List.{range_with_len}
 use Rattle.commands.specs.Accepted.{round_of, seen_of}
+use Rattle.formats.specs.declared.advance.Advance.{Advance}
+use Rattle.formats.specs.declared.advance.Advance.TheVariants.{Final, Top, Percent}
 use Rattle.formats.specs.Events.{attempts_of, unit_of}
 use Rattle.rounds.specs.Tables.{Table, standings}
 use Rattle.sheets.specs.Sheet.{goes_through}
 use Rattle.texts.specs.declared.command.Command.{Command}
 use Rattle.texts.specs.declared.command.RoundId.{RoundId}
 use Rattle.texts.specs.declared.command.Settings.{Settings}
-use Rattle.board_rounds.specs.Rows.{line_of}
+use Rattle.board_rounds.specs.Rows.{listed}
 use Rattle.round_words.specs.Words.{round_name, round_words, settings_words, state_words}
 
 -- ---- above the lines
@@ -34,22 +36,22 @@ headings count =
 -- the round's name, by which pages refer to it, and its title
 unfoldable pub title : List ℕ → List ℕ → List ℕ
 title name words =
-    codes "<section id=\"" ++ name ++ codes "\"><h2>" ++ words ++ codes "</h2>\n"
+    codes "<section id=\"" ++ name ++ codes "\"><table><caption><h2>" ++ words ++ codes "</h2>\n"
 
 -- its settings, and how far it is
 unfoldable pub conditions : List ℕ → List ℕ → List ℕ
 conditions settings state =
     codes "<p class=\"told\">" ++ settings ++ codes ", <strong>" ++ state
-    ++ codes "</strong></p>\n"
+    ++ codes "</strong></p></caption>\n"
 
 unfoldable pub table_start : ℕ → List ℕ
 table_start count =
-    codes "<table><thead><tr>" ++ headings count ++ codes "</tr></thead><tbody>\n"
+    codes "<thead><tr>" ++ headings count ++ codes "</tr></thead><tbody>\n"
 
--- the position that it stands at
+-- the position that it stands at, as people read it
 unfoldable pub below : ℕ → List ℕ
 below position =
-    codes "</tbody></table>\n<p class=\"at\">position " ++ decimal position
+    codes "</tbody></table>\n<p class=\"at\">as of result " ++ decimal position
     ++ codes "</p></section>\n"
 
 -- ---- a round
@@ -60,17 +62,32 @@ above id r =
     ++ conditions (settings_words id.event r.0) (state_words r.1.is_closed r.0.advance)
     ++ table_start (attempts_of r.0.format)
 
-unfoldable pub section_of : List Command → RoundId → ℕ → Settings × Table → List ℕ
-section_of cs id position r =
+-- all its entrants, or its podium alone
+unfoldable pub section_of : Bool → List Command → RoundId → ℕ → Settings × Table → List ℕ
+section_of podium cs id position r =
     above id r
-    ++ flat_map (line_of (unit_of id.event) cs r.0 r.1
+    ++ flat_map (listed podium (unit_of id.event) cs r.0 r.1
     (goes_through (seen_of cs id.event id.round))) (standings r.1)
     ++ below position
 
 -- a round, where it was opened
 abbrev pub section : List Command → ℕ → RoundId → List ℕ
 section cs position id =
-    unwrap_or (option_map (section_of cs id position) (round_of cs id.event id.round)) []
+    unwrap_or (option_map (section_of false cs id position) (round_of cs id.event id.round)) []
+
+-- the podium of a round from which nobody goes on
+abbrev pub podium_by : Advance → List Command → RoundId → ℕ → Settings × Table → List ℕ
+podium_by Final cs id position r = section_of true cs id position r
+podium_by (Top number) cs id position r = []
+podium_by (Percent percent) cs id position r = []
+
+abbrev pub podium_of : List Command → RoundId → ℕ → Settings × Table → List ℕ
+podium_of cs id position r = podium_by r.0.advance cs id position r
+
+-- the podium of a final, where it was opened
+abbrev pub podium : List Command → ℕ → RoundId → List ℕ
+podium cs position id =
+    unwrap_or (option_map (podium_of cs id position) (round_of cs id.event id.round)) []
 
 -- ---- a link to a round's own page
 

@@ -1,8 +1,9 @@
 -- What stands of an entrant in a round: the texts of its sheet (`sheets`), but for what people read
 -- otherwise: no place where there is no attempt, the attempts that do not count in parentheses, and
 -- who would advance where the round is open.
-use Rattle.std.specs.Prelude.{ℕ, Bool, true, false, List, [], ◌∷◌, ◌++◌, codes, decimal, flat_map}
-use Rattle.std.specs.Prelude.{slice_get, option_map, unwrap_or, Option, None, Some}
+use Rattle.std.specs.Prelude.{ℕ, Bool, true, false, not, ◌&&◌, nat_le, if◌then◌else◌, List, []}
+use Rattle.std.specs.Prelude.{◌∷◌, ◌++◌, codes, decimal, flat_map, slice_get, option_map, unwrap_or}
+use Rattle.std.specs.Prelude.{is_some, Option, None, Some}
 use Rattle.std.specs.List.{range_with_len}
 use Rattle.attempts.specs.declared.Value.{Value}
 use Rattle.attempts.specs.declared.Unit.{Unit as Measure}
@@ -12,7 +13,7 @@ use Rattle.formats.specs.declared.advance.Advance.TheVariants.{Final, Top, Perce
 use Rattle.formats.specs.declared.events.Format.{Format}
 use Rattle.formats.specs.declared.results.Averaged.{Averaged}
 use Rattle.formats.specs.Events.{attempts_of}
-use Rattle.formats.specs.Results.{average_of, average_text}
+use Rattle.formats.specs.Results.{average_of, average_text, best_of, number_of}
 use Rattle.rounds.specs.Tables.{Entrant, Table, entrant, place}
 use Rattle.sheets.specs.Sheet.{best_text, name_text}
 use Rattle.texts.specs.declared.command.Command.{Command}
@@ -108,3 +109,21 @@ entrant_line unit settings t goes number name e =
 abbrev pub line_of : Measure → List Command → Settings → Table → (ℕ → Bool) → ℕ → List ℕ
 line_of unit cs settings t goes n =
     unwrap_or (option_map (entrant_line unit settings t goes n (name_text cs n)) (entrant t n)) []
+
+-- ---- podiums
+
+-- this place with this best attempt is on the podium: 1 to 3, which several have where they tie,
+-- and with a result
+abbrev pub is_high : ℕ → Value → Bool
+is_high place best = nat_le place 3 && is_some (number_of best)
+
+abbrev pub stands_high : Table → Entrant → Bool
+stands_high t e = is_high (place t e) (best_of e.values)
+
+abbrev pub is_on_podium : Table → ℕ → Bool
+is_on_podium t n = unwrap_or (option_map (stands_high t) (entrant t n)) false
+
+-- the line of the entrant with a number; where the podium alone is shown, of who is on it
+abbrev pub listed : Bool → Measure → List Command → Settings → Table → (ℕ → Bool) → ℕ → List ℕ
+listed podium unit cs settings t goes n =
+    if podium && not (is_on_podium t n) then [] else line_of unit cs settings t goes n

@@ -109,7 +109,7 @@ pub(crate) fn push_line_start(
     }
 }
 
-fn push_name(out: &mut Vec<u8>, number: u16, name: &[u8]) -> Result<(), NoMemory>
+pub(crate) fn push_name(out: &mut Vec<u8>, number: u16, name: &[u8]) -> Result<(), NoMemory>
     ensures { OnOk result (out.new.items ≡ out.old.items ++ name_cell number name.now) }
 {
     out.extend_from_slice(b"<th scope=\"row\" dir=\"auto\"><a href=\"/person/")?;
@@ -121,7 +121,7 @@ fn push_name(out: &mut Vec<u8>, number: u16, name: &[u8]) -> Result<(), NoMemory
 }
 
 #[tactic(auto, unfolding(crate::specs::Rows::cell))]
-fn push_number(out: &mut Vec<u8>, number: u16) -> Result<(), NoMemory>
+pub(crate) fn push_number(out: &mut Vec<u8>, number: u16) -> Result<(), NoMemory>
     ensures { OnOk result (out.new.items ≡ out.old.items ++ cell (decimal number)) }
 {
     out.extend_from_slice(b"<td>")?;

@@ -1,7 +1,8 @@
 //! Rounds and competitors of a meet in HTML, in people's words.
 //!
 //! [`push_round`] makes a round's table with what is said of the round, [`push_link`] a link to
-//! it, and [`push_person`] the rounds that a competitor is in.
+//! it, [`push_podium`] the first three of a final, [`push_person`] the rounds that a competitor is
+//! in, and [`push_people`] all competitors.
 #![tactic(auto)]
 
 mod cells;
@@ -11,5 +12,5 @@ mod persons;
 mod rounds_shown;
 mod shown;
 
-pub use persons::push_person;
-pub use rounds_shown::{push_link, push_round};
+pub use persons::{push_people, push_person};
+pub use rounds_shown::{push_link, push_podium, push_round};

@@ -1,21 +1,31 @@
-//! The rounds that a competitor is in, in HTML.
+//! Competitors, and the rounds that one of them is in, in HTML.
 
-ghost use Rattle.std.specs.Prelude.{◌≡◌, ◌++◌, OnOk, IfOk, flat_map};
-ghost use Rattle.board_rounds.specs.Persons.{attempts_words, entry, person_headings};
+ghost use Rattle.std.specs.Prelude.{◌≡◌, ◌<◌, ◌≤◌, ◌++◌, OnOk, IfOk, flat_map};
+ghost use Rattle.board_rounds.specs.Persons.{attempts_words, competitor, competitors, entry, people};
+ghost use Rattle.board_rounds.specs.Persons.{next_competitor, person_headings};
 ghost use Rattle.board_rounds.specs.Persons.{person_of, person_start, round_cell, state_end};
 ghost use Rattle.round_words.specs.Words.{round_name, round_words};
 ghost use Rattle.board_rounds.specs.model.Shown.{entry_shown};
 
-use crate::cells::{attempt_text, place_text, push_cell, push_results};
+use crate::cells::{attempt_text, place_text, push_cell, push_name, push_number, push_results};
 use crate::rounds_shown::{push_below, push_heading};
 use crate::shown::{Shown, shown_round};
 use attempts::{NoMemory, Unit, Value};
 use commands::Meet;
 use formats::{Advance, Format, attempts_of, unit_of};
-use markup::board_page::push_escaped;
+use markup::{Piece, push_pieces};
 use round_words::{push_round_name, push_round_words, state_words};
 use std::alloc::Global;
 use texts::RoundId;
+
+/// The greatest number of a competitor.
+const LAST_NUMBER: u16 = 9_999;
+
+/// What stands above the lines of all competitors.
+const PEOPLE: &[u8] = b"\
+<section class=\"people\"><table><caption><h2>Competitors</h2></caption>
+<thead><tr><th scope=\"col\">number</th><th scope=\"col\">name</th></tr></thead><tbody>
+";
 
 fn push_round_cell(out: &mut Vec<u8>, id: RoundId, advance: Advance) -> Result<(), NoMemory>
     ensures { OnOk result (out.new.items ≡ out.old.items
@@ -102,13 +112,20 @@ fn push_entries(
     Ok(())
 }
 
-fn push_start(out: &mut Vec<u8>, name: &[u8]) -> Result<(), NoMemory>
-    ensures { OnOk result (out.new.items ≡ out.old.items ++ person_start name.now) }
+#[tactic(auto, unfolding(crate::specs::Persons::person_start))]
+fn push_start(out: &mut Vec<u8>, number: u16, name: &[u8]) -> Result<(), NoMemory>
+    ensures { OnOk result (out.new.items ≡ out.old.items ++ person_start number name.now) }
 {
-    out.extend_from_slice(b"<section class=\"person\"><h2 dir=\"auto\">")?;
-    push_escaped(out, name)?;
-    out.extend_from_slice(b"</h2>\n<table><thead><tr>")?;
-    Ok(())
+    push_pieces(
+        out,
+        &[
+            Piece::Html(b"<section class=\"person\"><table><caption><h2><bdi>"),
+            Piece::Text(name),
+            Piece::Html(b"</bdi>, number "),
+            Piece::Number(number as u64),
+            Piece::Html(b"</h2></caption>\n<thead><tr>"),
+        ],
+    )
 }
 
 fn push_person_headings(out: &mut Vec<u8>) -> Result<(), NoMemory>
@@ -123,9 +140,9 @@ fn push_person_headings(out: &mut Vec<u8>) -> Result<(), NoMemory>
     out.extend_from_slice(b"</tr></thead><tbody>\n")
 }
 
-/// Adds a competitor of a meet in HTML, as it stands after so many commands: the name, and each of
-/// these rounds that the competitor is in, with the place, the results and how far the round is. It
-/// adds nothing where the number is not registered.
+/// Adds a competitor of a meet in HTML, as it stands after so many commands: name and number, and
+/// each of these rounds that the competitor is in, with the place, the results and how far the
+/// round is. It adds nothing where the number is not registered.
 ///
 /// # Errors
 ///
@@ -144,8 +161,57 @@ pub fn push_person(
     let Some(name) = meet.name(number) else {
         return Ok(());
     };
-    push_start(out, name)?;
+    push_start(out, number, name)?;
     push_person_headings(out)?;
     push_entries(out, meet, number, ids)?;
+    push_below(out, position)
+}
+
+fn push_competitor(out: &mut Vec<u8>, number: u16, name: &[u8]) -> Result<(), NoMemory>
+    ensures { OnOk result (out.new.items ≡ out.old.items ++ competitor number name.now) }
+{
+    out.extend_from_slice(b"<tr>")?;
+    push_number(out, number)?;
+    push_name(out, number, name)?;
+    out.extend_from_slice(b"</tr>\n")
+}
+
+/// Adds the competitor of the number after this one, where it is registered.
+fn push_next_competitor(out: &mut Vec<u8>, meet: &Meet, number: u16) -> Result<(), NoMemory>
+    requires { number < 9999 }
+    ensures { OnOk result (out.new.items
+        ≡ out.old.items ++ next_competitor meet.now.accepted number) }
+{
+    match meet.name(number + 1) {
+        Some(name) => push_competitor(out, number + 1, name),
+        None => Ok(()),
+    }
+}
+
+/// Adds the competitors whose numbers are up to this one.
+#[tactic(auto, unfolding(crate::specs::Persons::competitors))]
+fn push_competitors(out: &mut Vec<u8>, meet: &Meet, last: u16) -> Result<(), NoMemory>
+    requires { last ≤ 9999 }
+    ensures { OnOk result (out.new.items
+        ≡ out.old.items ++ competitors meet.now.accepted last) }
+{
+    for number in 0..last {
+        push_next_competitor(out, meet, number)?;
+    }
+    Ok(())
+}
+
+/// Adds all competitors of a meet in HTML, as it stands after so many commands, in order of their
+/// numbers: each number and name, which is a link to the competitor's own page, `/person/17`.
+///
+/// # Errors
+///
+/// Where memory runs out. A front part may have been added then.
+#[tactic(auto, unfolding(crate::specs::Persons::people))]
+pub fn push_people(out: &mut Vec<u8>, meet: &Meet, position: u32) -> Result<(), NoMemory>
+    ensures { OnOk result (out.new.items ≡ out.old.items ++ people meet.now.accepted position) }
+{
+    out.extend_from_slice(PEOPLE)?;
+    push_competitors(out, meet, LAST_NUMBER)?;
     push_below(out, position)
 }

@@ -2,7 +2,7 @@
 
 ghost use Rattle.std.specs.Prelude.{◌≡◌, ◌++◌, OnOk, decimal};
 ghost use Rattle.board_rounds.specs.Rounds.{above, attempt_headings, below, conditions, heading};
-ghost use Rattle.board_rounds.specs.Rounds.{headings, link, section, table_start, title};
+ghost use Rattle.board_rounds.specs.Rounds.{headings, link, podium, section, table_start, title};
 ghost use Rattle.round_words.specs.Words.{round_name, round_words, settings_words, state_words};
 ghost use Rattle.board_rounds.specs.model.Shown.{IsOpened, link_shown, section_shown};
 
@@ -59,7 +59,7 @@ fn push_headings(out: &mut Vec<u8>, count: u8) -> Result<(), NoMemory>
 fn push_table_start(out: &mut Vec<u8>, count: u8) -> Result<(), NoMemory>
     ensures { OnOk result (out.new.items ≡ out.old.items ++ table_start count) }
 {
-    out.extend_from_slice(b"<table><thead><tr>")?;
+    out.extend_from_slice(b"<thead><tr>")?;
     push_headings(out, count)?;
     out.extend_from_slice(b"</tr></thead><tbody>\n")?;
     Ok(())
@@ -71,7 +71,7 @@ fn push_title(out: &mut Vec<u8>, id: RoundId, advance: Advance) -> Result<(), No
 {
     out.extend_from_slice(b"<section id=\"")?;
     push_round_name(out, id)?;
-    out.extend_from_slice(b"\"><h2>")?;
+    out.extend_from_slice(b"\"><table><caption><h2>")?;
     push_round_words(out, id, advance)?;
     out.extend_from_slice(b"</h2>\n")?;
     Ok(())
@@ -90,7 +90,7 @@ fn push_conditions(
     push_settings(out, event, settings)?;
     out.extend_from_slice(b", <strong>")?;
     push_state_words(out, closed, settings.advance)?;
-    out.extend_from_slice(b"</strong></p>\n")?;
+    out.extend_from_slice(b"</strong></p></caption>\n")?;
     Ok(())
 }
 
@@ -110,19 +110,25 @@ fn push_above(out: &mut Vec<u8>, shown: Shown<'_>) -> Result<(), NoMemory>
 pub(crate) fn push_below(out: &mut Vec<u8>, position: u32) -> Result<(), NoMemory>
     ensures { OnOk result (out.new.items ≡ out.old.items ++ below position) }
 {
-    out.extend_from_slice(b"</tbody></table>\n<p class=\"at\">position ")?;
+    out.extend_from_slice(b"</tbody></table>\n<p class=\"at\">as of result ")?;
     push_decimal(out, position)?;
     out.extend_from_slice(b"</p></section>\n")
 }
 
-/// Adds a round.
+/// Adds a round, or its podium.
 #[tactic(auto, unfolding(crate::specs::Rounds::section_of))]
-fn push_shown(out: &mut Vec<u8>, shown: Shown<'_>, position: u32) -> Result<(), NoMemory>
+fn push_shown(
+    out: &mut Vec<u8>,
+    shown: Shown<'_>,
+    podium: bool,
+    position: u32,
+) -> Result<(), NoMemory>
     requires { IsOpened shown }
-    ensures { OnOk result (out.new.items ≡ out.old.items ++ section_shown shown.entry position) }
+    ensures { OnOk result (out.new.items
+        ≡ out.old.items ++ section_shown podium shown.entry position) }
 {
     push_above(out, shown)?;
-    push_entrants(out, shown)?;
+    push_entrants(out, shown, podium)?;
     push_below(out, position)
 }
 
@@ -150,7 +156,32 @@ pub fn push_round(
     let Some(shown) = shown_round(meet, id) else {
         return Ok(());
     };
-    push_shown(out, shown, position)
+    push_shown(out, shown, false, position)
+}
+
+/// Adds the podium of a final, as [`push_round`] adds a round, but with the lines of those alone
+/// who have a place of 1 to 3 and a result: more than three where they tie. It adds nothing where
+/// the round was not opened, or is no final.
+///
+/// # Errors
+///
+/// Where memory runs out. A front part may have been added then.
+pub fn push_podium(
+    out: &mut Vec<u8>,
+    meet: &Meet,
+    position: u32,
+    id: RoundId,
+) -> Result<(), NoMemory>
+    ensures { OnOk result (out.new.items
+        ≡ out.old.items ++ podium meet.now.accepted position id) }
+{
+    let Some(shown) = shown_round(meet, id) else {
+        return Ok(());
+    };
+    match shown.settings.advance {
+        Advance::Final => push_shown(out, shown, true, position),
+        Advance::Top(_) | Advance::Percent(_) => Ok(()),
+    }
 }
 
 #[tactic(auto, unfolding(crate::specs::Rounds::link_of))]

@@ -21,8 +21,8 @@ shows s request response path page is stands replies = record {
   replies = replies;
 }
 
-module _ (title : List ℕ) (m : MirroringOf) (d : HallDesksOf) (s : ServiceOf)
-    (is : service title m d ≡ s) (path : List ℕ) (page : Option Page) where
+module _ (title : List ℕ) (m : MirroringOf) (d : HallDesksOf) (t : ℕ) (s : ServiceOf)
+    (is : service title m d t ≡ s) (path : List ℕ) (page : Option Page) where
   pub stands_as_seen : IsPageAt title m.entries path page
       → IsPageAt s.title s.mirroring.entries path page
   stands_as_seen stands =
@@ -34,8 +34,8 @@ module _ (title : List ℕ) (m : MirroringOf) (d : HallDesksOf) (s : ServiceOf)
       subst (λ (z : ServiceOf). IsPageAt z.title z.mirroring.entries path page) (sym is) stands
 
 -- a page that is kept
-pub kept_stands : (title : List ℕ) (m : MirroringOf) (d : HallDesksOf) (s : ServiceOf)
-    (shelf : Shelf) → service title m d ≡ s → AreAllAt title m.entries shelf → (path : List ℕ)
+pub kept_stands : (title : List ℕ) (m : MirroringOf) (d : HallDesksOf) (t : ℕ) (s : ServiceOf)
+    (shelf : Shelf) → service title m d t ≡ s → AreAllAt title m.entries shelf → (path : List ℕ)
     (p : Page) → page_on shelf path ≡ Some p → IsPageAt s.title s.mirroring.entries path (Some p)
-kept_stands title m d s shelf is all path p at =
-    stands_as_seen title m d s is path (Some p) (all path p at)
+kept_stands title m d t s shelf is all path p at =
+    stands_as_seen title m d t s is path (Some p) (all path p at)

@@ -12,16 +12,19 @@ use Rattle.markup.specs.declared.replies.page.Page.{Page}
 use Rattle.markup.specs.replies.Replies.{Replies, is_read, no_store}
 use Rattle.board_views.specs.Views.{IsPageAt}
 use Rattle.mirroring.specs.Mirrorings.{MirroringOf}
-use Rattle.hall_standings.specs.Halls.{HallDesksOf, IsStatus, desks_wait}
+use Rattle.hall_standings.specs.Halls.{HallDesksOf, IsStatus, ages_text, desks_wait}
 
--- the title of the competition, the mirror with what keeps it up, and the desks that are asked
+-- the title of the competition, the mirror with what keeps it up, the desks that are asked, and what
+-- the clock said when the mirror was kept up last
 pub record ServiceOf : Type 0 where
   pub title : List ℕ
   pub mirroring : MirroringOf
   pub desks : HallDesksOf
+  pub time : ℕ
 
-abbrev pub service : List ℕ → MirroringOf → HallDesksOf → ServiceOf
-service title mirroring desks = record { title = title; mirroring = mirroring; desks = desks }
+abbrev pub service : List ℕ → MirroringOf → HallDesksOf → ℕ → ServiceOf
+service title mirroring desks time =
+    record { title = title; mirroring = mirroring; desks = desks; time = time }
 
 -- in how many milliseconds something is to be done for the mirror or for the survey of a desk, if
 -- nothing comes: as soon as it is for one of them
@@ -34,18 +37,29 @@ path_of request = uri_path (head_of request).uri
 
 -- ---- how the desks stand
 
--- GET and HEAD of /status.json
-abbrev pub asks_status : Request (List ℕ) → Bool
-asks_status request =
-    bytes_eq (path_of request) (codes "/status.json") && is_read (head_of request).method
+-- GET and HEAD of a path
+abbrev pub asks_for : List ℕ → Request (List ℕ) → Bool
+asks_for path request = bytes_eq (path_of request) path && is_read (head_of request).method
 
--- it is JSON, and nobody is to keep it
-abbrev pub status_fields : List Header
-status_fields = (codes "content-type", codes "application/json") ∷ no_store ∷ []
+abbrev pub asks_status : Request (List ℕ) → Bool
+asks_status request = asks_for (codes "/status.json") request
+
+-- when each desk said last how it stands
+abbrev pub asks_ages : Request (List ℕ) → Bool
+asks_ages request = asks_for (codes "/heard.txt") request
+
+-- it is of this kind, and nobody is to keep it
+abbrev pub fields_of : List ℕ → List Header
+fields_of kind = (codes "content-type", kind) ∷ no_store ∷ []
 
 abbrev pub ShowsStatus : ServiceOf → Response → Type 0
 ShowsStatus s response =
-    (text : List ℕ) × IsStatus s.desks text × IsResponse 200 status_fields text response
+    (text : List ℕ) × IsStatus s.desks text
+    × IsResponse 200 (fields_of (codes "application/json")) text response
+
+abbrev pub ShowsAges : ServiceOf → Response → Type 0
+ShowsAges s response =
+    IsResponse 200 (fields_of (codes "text/plain")) (ages_text s.time s.desks) response
 
 -- ---- pages
 
@@ -56,12 +70,13 @@ pub record ShowsPage (s : ServiceOf) (request : Request (List ℕ)) (response : 
   pub stands : IsPageAt s.title s.mirroring.entries (path_of request) page
   pub replies : Replies request page response
 
--- how the desks stand, where that is asked, else such a reply
-abbrev pub ShowsBy : Bool → ServiceOf → Request (List ℕ) → Response → Type 0
-ShowsBy true s request response = ShowsStatus s response
-ShowsBy false s request response = ShowsPage s request response
+-- how the desks stand, or when they were heard, where that is asked, else such a reply
+abbrev pub ShowsBy : (status ages : Bool) → ServiceOf → Request (List ℕ) → Response → Type 0
+ShowsBy true ages s request response = ShowsStatus s response
+ShowsBy false true s request response = ShowsAges s response
+ShowsBy false false s request response = ShowsPage s request response
 
 -- so it is answered, and nothing changes
 abbrev pub Answers : ServiceOf → Request (List ℕ) → Response → ServiceOf → Type 0
 Answers old request response new =
-    (new ≡ old) × ShowsBy (asks_status request) old request response
+    (new ≡ old) × ShowsBy (asks_status request) (asks_ages request) old request response

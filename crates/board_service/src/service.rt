@@ -3,8 +3,8 @@
 ghost use Rattle.std.specs.Prelude.{◌≡◌, IfOk, OnOk, string_bytes};
 ghost use Rattle.board_views.specs.Views.{IsPageAt};
 ghost use Rattle.http_server.specs.Response.{IsBlank};
-ghost use Rattle.board_service.specs.Services.{ShowsPage, ShowsStatus, asks_status, service};
-ghost use Rattle.board_service.specs.Services.{service_wait};
+ghost use Rattle.board_service.specs.Services.{ShowsAges, ShowsPage, ShowsStatus, asks_ages};
+ghost use Rattle.board_service.specs.Services.{asks_status, service, service_wait};
 ghost use Rattle.hall_standings.specs.Halls.{Differs, IsKept};
 
 use crate::shelf::Shelf;
@@ -13,7 +13,7 @@ use board_views::page_at;
 use bytes::Bytes;
 use desk_sockets::{DeskStream, Kept};
 use hall_standings::HallDesks;
-use http::Request;
+use http::{HeaderValue, Request};
 use http_server::{Response, Service};
 use markup::replies::{Page, is_read, reply};
 use mirroring::Mirroring;
@@ -30,20 +30,29 @@ fn asks_status(request: &Request<Bytes>) -> bool
     request.uri().path() == "/status.json" && is_read(request.method())
 }
 
+/// Whether a request asks when the desks said last how they stand.
+fn asks_ages(request: &Request<Bytes>) -> bool
+    ensures { result ≡ asks_ages request.now }
+{
+    request.uri().path() == "/heard.txt" && is_read(request.method())
+}
+
 /// Answers browsers with the pages of a mirror of a hall's log, and programs that ask how the desks
 /// of the hall stand.
 ///
 /// A page is made once for all browsers that ask for it until the mirror grows: at most 64 pages
 /// are kept until then.
 ///
-/// A contract sees the title of the competition, the mirror with what keeps it up, and the desks
-/// that are asked how they stand. Which pages are kept makes no difference to an answer.
+/// A contract sees the title of the competition, the mirror with what keeps it up, the desks that
+/// are asked how they stand, and the time. Which pages are kept makes no difference to an answer.
 #[derive(Drop)]
 pub struct BoardService {
     alloc: Global,
     title: String,
     mirroring: Mirroring,
     desks: HallDesks,
+    /// What the clock said when the mirror was kept up last, in milliseconds.
+    time: u64,
     /// Pages of the mirror as it is.
     shelf: Shelf,
 }
@@ -55,20 +64,21 @@ impl Model for BoardService {
 
     ghost Value = { ServiceOf };
 
-    ghost view = { λ s. service (string_bytes s.title) s.mirroring s.desks };
+    ghost view = { λ s. service (string_bytes s.title) s.mirroring s.desks s.time };
 
     ghost invariant = { λ s. AreAllAt (string_bytes s.title) s.mirroring.entries s.shelf };
 }
 
 impl BoardService {
-    /// A service over a mirror, for the competition of this title, and over the desks of a hall.
+    /// A service over a mirror, for the competition of this title, and over the desks of a hall, at
+    /// the beginning of the time.
     pub fn new(
         alloc: Global,
         title: String,
         mirroring: Mirroring,
         desks: HallDesks,
     ) -> Result<BoardService, AllocError>
-        ensures { IfOk result (λ s. s ≡ service (string_bytes title) mirroring desks) }
+        ensures { IfOk result (λ s. s ≡ service (string_bytes title) mirroring desks 0) }
     {
         let shelf = Shelf::new(alloc)?;
         Ok(BoardService {
@@ -76,6 +86,7 @@ impl BoardService {
             title,
             mirroring,
             desks,
+            time: 0,
             shelf,
         })
     }
@@ -88,16 +99,18 @@ impl BoardService {
     }
 
     /// Does all for the mirror that can be done now over a connection to a desk, as
-    /// `DeskStream::keep` does it. Unless the mirror holds what it held, the pages that were made
-    /// are given up.
+    /// `DeskStream::keep` does it: it is so late now. Unless the mirror holds what it held, the
+    /// pages that were made are given up.
     pub fn keep<R: Net + RandomSource>(&mut self, stream: &mut DeskStream<'_, R>, now: u64) -> Kept
         ensures title { self.new.title ≡ self.old.title }
         ensures desks { self.new.desks ≡ self.old.desks }
+        ensures time { self.new.time ≡ now }
         ensures same { result ≡ Kept.Same
             → self.new.mirroring.entries ≡ self.old.mirroring.entries }
     {
         let kept = stream.keep(&mut self.mirroring, now);
         self.shelf.refresh(kept);
+        self.time = now;
         kept
     }
 
@@ -111,6 +124,7 @@ impl BoardService {
     )
         ensures title { self.new.title ≡ self.old.title }
         ensures mirroring { self.new.mirroring ≡ self.old.mirroring }
+        ensures time { self.new.time ≡ self.old.time }
         ensures desks { IsKept place self.old.desks self.new.desks }
     {
         self.desks.keep(place, stream, now);
@@ -161,7 +175,16 @@ impl BoardService {
         ensures { OnOk result (ShowsStatus self.now response.new) }
     {
         let text = self.desks.status(self.alloc)?;
-        send_status(text, response)
+        send_status(HeaderValue::from_static("application/json"), text, response)
+    }
+
+    /// How long ago each desk said how it stands.
+    fn tell_ages(&self, response: &mut Response) -> Result<(), AllocError>
+        requires { IsBlank response.old }
+        ensures { OnOk result (ShowsAges self.now response.new) }
+    {
+        let text = self.desks.ages(self.alloc, self.time)?;
+        send_status(HeaderValue::from_static("text/plain"), text, response)
     }
 
     /// Answers a request for a page.
@@ -186,7 +209,7 @@ impl Service for BoardService {
     ghost use Rattle.board_service.specs.Services.{Answers};
 
     // The response is that of `markup::replies::reply` for the page that stands at the request's
-    // path as the mirror is, or says how the desks stand, and nothing changes.
+    // path as the mirror is, or says how the desks stand or when they said so, and nothing changes.
     ghost answers = { Answers };
 
     fn call(
@@ -196,6 +219,8 @@ impl Service for BoardService {
     ) -> Result<(), AllocError> {
         if asks_status(request) {
             self.tell_status(response)
+        } else if asks_ages(request) {
+            self.tell_ages(response)
         } else {
             self.show(request, response)
         }

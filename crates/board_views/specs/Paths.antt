@@ -6,7 +6,7 @@ use Rattle.round_words.specs.Words.{round_name}
 use Rattle.board_views.specs.declared.paths.View.{View}
 use Rattle.board_views.specs.declared.paths.View.TheVariants.{Overview, Hall, HallRound, Round}
 use Rattle.board_views.specs.declared.paths.View.TheVariants.{Table, RoundAt, TableAt, Person}
-use Rattle.board_views.specs.declared.paths.View.TheVariants.{Log, Style, Script}
+use Rattle.board_views.specs.declared.paths.View.TheVariants.{Podiums, People, Log, Style, Script}
 
 -- a round's table in a path, as 333-1.csv
 abbrev pub table_name : RoundId → List ℕ
@@ -22,6 +22,8 @@ path_of (Table id) = codes "/" ++ table_name id
 path_of (RoundAt position id) = codes "/at/" ++ decimal position ++ codes "/" ++ round_name id
 path_of (TableAt position id) = codes "/at/" ++ decimal position ++ codes "/" ++ table_name id
 path_of (Person number) = codes "/person/" ++ decimal number
+path_of Podiums = codes "/podiums"
+path_of People = codes "/people"
 path_of Log = codes "/log.txt"
 path_of Style = codes "/style.css"
 path_of Script = codes "/update.js"
@@ -40,6 +42,8 @@ IsView (Table id) = IsRound id
 IsView (RoundAt position id) = (position ≤ 65536) × IsRound id
 IsView (TableAt position id) = (position ≤ 65536) × IsRound id
 IsView (Person number) = (1 ≤ number) × (number ≤ 9999)
+IsView Podiums = Unit {0}
+IsView People = Unit {0}
 IsView Log = Unit {0}
 IsView Style = Unit {0}
 IsView Script = Unit {0}
@@ -64,6 +68,8 @@ IsPastOf position name path =
 abbrev pub IsFixed : View → Type 0
 IsFixed Overview = Unit {0}
 IsFixed Hall = Unit {0}
+IsFixed Podiums = Unit {0}
+IsFixed People = Unit {0}
 IsFixed Log = Unit {0}
 IsFixed Style = Unit {0}
 IsFixed Script = Unit {0}

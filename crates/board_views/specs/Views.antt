@@ -1,20 +1,22 @@
 -- The pages of the views.
-use Rattle.std.specs.Prelude.{◌≡◌, ◌⊎◌, ℕ, List, [], length, flat_map, codes, nat_le, is_some}
-use Rattle.std.specs.Prelude.{if◌then◌else◌, Option, None, Some}
+use Rattle.std.specs.Prelude.{◌≡◌, ◌⊎◌, ℕ, List, [], ◌++◌, length, flat_map, codes, nat_le}
+use Rattle.std.specs.Prelude.{option_map, if◌then◌else◌, Option, None, Some}
 use Rattle.acceptor.specs.declared.entry.Entry.{Entry}
 use Rattle.http_header.specs.FieldValue.{plain_value}
+use Rattle.markup.specs.board_page.Escaped.{escaped}
 use Rattle.markup.specs.declared.replies.page.Page.{Page}
 use Rattle.markup.specs.replies.Tags.{tag_text}
 use Rattle.commands.specs.Accepted.{name_of, round_of}
 use Rattle.texts.specs.declared.command.Command.{Command}
+use Rattle.round_words.specs.Words.{round_words}
 use Rattle.texts.specs.declared.command.RoundId.{RoundId}
 use Rattle.archive.specs.Archive.{archive_text}
-use Rattle.board_rounds.specs.Persons.{person_of}
-use Rattle.board_rounds.specs.Rounds.{link, section}
+use Rattle.board_rounds.specs.Persons.{people, person_of}
+use Rattle.board_rounds.specs.Rounds.{link, podium, section}
 use Rattle.board_views.specs.declared.paths.View.{View}
 use Rattle.board_views.specs.declared.paths.View.TheVariants.{Overview, Hall, HallRound, Round}
 use Rattle.board_views.specs.declared.paths.View.TheVariants.{Table, RoundAt, TableAt, Person}
-use Rattle.board_views.specs.declared.paths.View.TheVariants.{Log, Style, Script}
+use Rattle.board_views.specs.declared.paths.View.TheVariants.{Podiums, People, Log, Style, Script}
 use Rattle.board_views.specs.Frame.{framed}
 use Rattle.board_views.specs.Looks.{style, script}
 use Rattle.board_views.specs.Paths.{StandsAt}
@@ -23,16 +25,17 @@ use Rattle.board_views.specs.Rounds.{accepted_at, accepted_in, all_rounds, table
 -- ---- bodies
 
 -- all rounds that were opened, and links to them, at the log's length
-unfoldable pub all_page : List ℕ → List ℕ → List Entry → List ℕ
-all_page class title log =
-    framed class title (flat_map (link (accepted_in log)) all_rounds)
+unfoldable pub all_page : List ℕ → List ℕ → List ℕ → List Entry → List ℕ
+all_page class shows title log =
+    framed class shows title (flat_map (link (accepted_in log)) all_rounds)
     (flat_map (section (accepted_in log) (length log)) all_rounds)
 
--- a round, where it was opened
+-- a round under its name, where it was opened
 unfoldable pub round_page_of : List ℕ → List ℕ → List Command → ℕ → RoundId → Option (List ℕ)
 round_page_of class title cs position id =
-    if is_some (round_of cs id.event id.round)
-    then Some (framed class title [] (section cs position id)) else None
+    option_map
+    (λ r. framed class (round_words id r.0.advance) title [] (section cs position id))
+    (round_of cs id.event id.round)
 
 -- a round after the first entries of a log, where there are so many and it was opened in them
 unfoldable pub round_page : List ℕ → List ℕ → List Entry → ℕ → RoundId → Option (List ℕ)
@@ -40,23 +43,43 @@ round_page class title log position id =
     if nat_le position (length log)
     then round_page_of class title (accepted_at log position) position id else None
 
--- a competitor in all rounds, where the number is registered
+-- a competitor in all rounds under the name, where the number is registered
 unfoldable pub person_page : List ℕ → List Entry → ℕ → Option (List ℕ)
 person_page title log number =
-    if is_some (name_of (accepted_in log) number)
-    then Some (framed (codes "one") title []
-    (person_of (accepted_in log) (length log) number all_rounds)) else None
+    option_map
+    (λ name. framed (codes "one") (escaped name) title []
+    (person_of (accepted_in log) (length log) number all_rounds))
+    (name_of (accepted_in log) number)
+
+-- the podiums of those of these rounds that are finals
+unfoldable pub podiums : List Command → ℕ → List RoundId → List ℕ
+podiums cs position ids =
+    codes "<p class=\"told\">The first three of each final.</p>\n"
+    ++ flat_map (podium cs position) ids
+
+-- the podiums of all finals
+unfoldable pub podiums_page : List ℕ → List Entry → List ℕ
+podiums_page title log =
+    framed (codes "one") (codes "Podiums") title []
+    (podiums (accepted_in log) (length log) all_rounds)
+
+-- all competitors
+unfoldable pub people_page : List ℕ → List Entry → List ℕ
+people_page title log =
+    framed (codes "one") (codes "Competitors") title [] (people (accepted_in log) (length log))
 
 -- the body of a view, if it has one
 abbrev pub body : List ℕ → List Entry → View → Option (List ℕ)
-body title log Overview = Some (all_page (codes "all") title log)
-body title log Hall = Some (all_page (codes "hall") title log)
+body title log Overview = Some (all_page (codes "all") (codes "All rounds") title log)
+body title log Hall = Some (all_page (codes "hall") (codes "Projector") title log)
 body title log (HallRound id) = round_page (codes "hall") title log (length log) id
 body title log (Round id) = round_page (codes "one") title log (length log) id
 body title log (Table id) = table_at log (length log) id
 body title log (RoundAt position id) = round_page (codes "one") title log position id
 body title log (TableAt position id) = table_at log position id
 body title log (Person number) = person_page title log number
+body title log Podiums = Some (podiums_page title log)
+body title log People = Some (people_page title log)
 body title log Log = Some (archive_text log)
 body title log Style = Some style
 body title log Script = Some script
@@ -72,6 +95,8 @@ kind_of (Table id) = codes "text/csv; charset=utf-8"
 kind_of (RoundAt position id) = codes "text/html; charset=utf-8"
 kind_of (TableAt position id) = codes "text/csv; charset=utf-8"
 kind_of (Person number) = codes "text/html; charset=utf-8"
+kind_of Podiums = codes "text/html; charset=utf-8"
+kind_of People = codes "text/html; charset=utf-8"
 kind_of Log = codes "text/plain; charset=utf-8"
 kind_of Style = codes "text/css; charset=utf-8"
 kind_of Script = codes "text/javascript; charset=utf-8"

@@ -3,9 +3,10 @@
 ghost use Rattle.std.specs.Prelude.{◌≡◌, ◌++◌, OnOk, IfOk, flat_map};
 ghost use Rattle.board_rounds.specs.Rounds.{link, section};
 ghost use Rattle.board_views.specs.Rounds.{all_rounds, rounds_of};
+ghost use Rattle.board_views.specs.Views.{podiums};
 
 use acceptor::NoMemory;
-use board_rounds::{push_link, push_round};
+use board_rounds::{push_link, push_podium, push_round};
 use commands::Meet;
 use formats::Event;
 use std::alloc::Global;
@@ -68,6 +69,26 @@ pub(crate) fn sections_of(
     let mut text = Vec::new(alloc);
     for id in rounds {
         push_round(&mut text, meet, position, *id)?;
+    }
+    Ok(text)
+}
+
+/// The podiums of those of these rounds that are finals, as they stand after so many commands, and
+/// a line that says so.
+#[tactic(auto, unfolding(crate::specs::Views::podiums))]
+pub(crate) fn podiums_of(
+    alloc: Global,
+    meet: &Meet,
+    position: u32,
+    rounds: &[RoundId],
+) -> Result<Vec<u8>, NoMemory>
+    ensures { IfOk result
+        (λ text. text.items ≡ podiums meet.now.accepted position rounds.now) }
+{
+    let line = b"<p class=\"told\">The first three of each final.</p>\n";
+    let mut text = Vec::from_slice(alloc, line)?;
+    for id in rounds {
+        push_podium(&mut text, meet, position, *id)?;
     }
     Ok(text)
 }

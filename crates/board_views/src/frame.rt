@@ -5,6 +5,7 @@ ghost use Rattle.board_views.specs.Frame.{framed, head, inside, links, opening};
 
 use acceptor::NoMemory;
 use markup::board_page::push_escaped;
+use markup::{Piece, push_pieces};
 use std::alloc::Global;
 
 const HEAD: &[u8] = b"\
@@ -19,16 +20,32 @@ const HEAD_END: &[u8] = b"\
 <script src=\"/update.js\" defer></script></head>
 ";
 
+const LINKS: &[u8] = b"\
+<nav>
+<a href=\"/\">all rounds</a>
+<a href=\"/people\">find a name</a>
+<a href=\"/podiums\">podiums</a>
+";
+
+const LINKS_END: &[u8] = b"<a href=\"/hall\">projector</a></nav>\n";
+
 const END: &[u8] = b"</main></body></html>\n";
 
-/// Adds the head of a page, up to its body.
-fn push_head(out: &mut Vec<u8>, title: &[u8]) -> Result<(), NoMemory>
-    ensures { OnOk result (out.new.items ≡ out.old.items ++ head title.now) }
+/// Adds the head of a page, up to its body. What it shows stands in its title, as HTML, before the
+/// competition.
+fn push_head<'a>(out: &mut Vec<u8>, shows: &'a [u8], title: &'a [u8]) -> Result<(), NoMemory>
+    ensures { OnOk result (out.new.items ≡ out.old.items ++ head shows.now title.now) }
 {
-    out.extend_from_slice(HEAD)?;
-    push_escaped(out, title)?;
-    out.extend_from_slice(HEAD_END)?;
-    Ok(())
+    push_pieces(
+        out,
+        &[
+            Piece::Html(HEAD),
+            Piece::Html(shows),
+            Piece::Html(b" - "),
+            Piece::Text(title),
+            Piece::Html(HEAD_END),
+        ],
+    )
 }
 
 /// Adds the beginning of a body, under a class of the style.
@@ -47,9 +64,9 @@ fn push_opening(out: &mut Vec<u8>, class: &[u8], title: &[u8]) -> Result<(), NoM
 fn push_links(out: &mut Vec<u8>, between: &[u8]) -> Result<(), NoMemory>
     ensures { OnOk result (out.new.items ≡ out.old.items ++ links between.now) }
 {
-    out.extend_from_slice(b"<nav>\n<a href=\"/\">all rounds</a>\n")?;
+    out.extend_from_slice(LINKS)?;
     out.extend_from_slice(between)?;
-    out.extend_from_slice(b"<a href=\"/hall\">projector</a></nav>\n")?;
+    out.extend_from_slice(LINKS_END)?;
     Ok(())
 }
 
@@ -64,19 +81,22 @@ fn push_inside(out: &mut Vec<u8>, shown: &[u8]) -> Result<(), NoMemory>
     out.extend_from_slice(shown)
 }
 
-/// A page of a title, further links and what is shown, under a class of the style.
-pub(crate) fn page_of(
+/// A page of a title, further links and what is shown, under a class of the style and, as HTML, a
+/// name of what is shown.
+pub(crate) fn page_of<'a>(
     alloc: Global,
     class: &[u8],
-    title: &[u8],
+    shows: &'a [u8],
+    title: &'a [u8],
     between: &[u8],
     shown: &[u8],
 ) -> Result<Vec<u8>, NoMemory>
     ensures { IfOk result
-        (λ page. page.items ≡ framed class.now title.now between.now shown.now) }
+        (λ page. page.items
+        ≡ framed class.now shows.now title.now between.now shown.now) }
 {
     let mut page = Vec::new(alloc);
-    push_head(&mut page, title)?;
+    push_head(&mut page, shows, title)?;
     push_opening(&mut page, class, title)?;
     push_links(&mut page, between)?;
     push_inside(&mut page, shown)?;

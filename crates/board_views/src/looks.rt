@@ -24,7 +24,12 @@ h2 { margin: .1em 0; font-size: 1.4em; overflow-wrap: anywhere; }
 p { margin: .2em 0; }
 .at { font-size: .7em; }
 .none { font-size: 2.5em; text-align: center; margin: 25vh 0; }
-.lost { border: .2em solid currentColor; padding: .3em .5em; font-weight: bold; }
+.lost { border: .2em solid currentColor; margin: 0; padding: .3em .5em; font-weight: bold;
+  background: var(--paper); position: sticky; top: 0; }
+[role=\"status\"]:empty { display: none; }
+.find { margin: 0; padding: .6em .6em 0; font-size: 1.2em; }
+.find input { font: inherit; width: 12em; max-width: 100%; }
+caption { text-align: start; }
 table { border-collapse: collapse; width: 100%; font-variant-numeric: tabular-nums; }
 th, td { padding: .2em .45em; border-bottom: 1px solid var(--line); text-align: right;
   white-space: nowrap; }
@@ -34,7 +39,10 @@ tbody th { text-align: left; font-weight: bold; white-space: normal; overflow-wr
 tbody th a { text-decoration: none; }
 tbody th a:hover, tbody th a:focus { text-decoration: underline; }
 thead th:nth-child(3), .person thead th:first-child { text-align: start; }
-td:nth-child(4) { font-weight: bold; }
+td:nth-child(4), .person td:nth-child(3) { font-weight: bold; }
+.person td:nth-child(4), .person thead th:nth-child(3) { font-weight: normal; text-align: end; }
+.people table { width: auto; }
+.people thead th:last-child { text-align: start; }
 .person td:nth-child(5) { white-space: normal; }
 tr.yes > * { background: var(--through); }
 tr.would:not(:has(+ .would)) > * { border-bottom: .12em dashed currentColor; }
@@ -44,35 +52,37 @@ tr.changed > th::after { content: \" \\2731\"; }
   main { padding: .3em; }
   body.all section { display: none; }
   body.all nav { flex-direction: column; font-size: 1.2em; }
+  nav a[href=\"/hall\"] { display: none; }
   body.one section { font-size: .8rem; }
-  body.one section:not(.person) table, body.one section:not(.person) thead,
-  body.one section:not(.person) tbody { display: block; }
-  body.one section:not(.person) tr { display: grid; grid-template-columns: 1.8em repeat(10, 1fr);
+  body.one section[id] table, body.one section[id] thead,
+  body.one section[id] tbody, section:not(.people) caption { display: block; }
+  section:not(.people) td { white-space: normal; }
+  body.one section[id] tr { display: grid; grid-template-columns: 1.8em repeat(10, 1fr);
     border-bottom: 1px solid var(--line); padding: .15em 0; align-items: baseline; }
-  body.one section:not(.person) tr > * { border: 0; padding: .1em; min-width: 0; }
-  body.one section:not(.person) tr > :nth-child(2) { display: none; }
-  body.one section:not(.person) tr > :nth-child(3) { grid-column: 2 / span 5; text-align: left; }
-  body.one section:not(.person) thead th:first-child { font-size: 0; }
-  body.one section:not(.person) tr > :nth-child(4) { grid-column: 7 / span 3; }
-  body.one section:not(.person) tr > :nth-child(5) { grid-column: 10 / span 2; }
-  body.one section:not(.person) tr > :nth-child(n + 6) { grid-column-end: span 2; grid-row: 2; }
-  body.one section:not(.person) tr > :nth-child(6) { grid-column-start: 2; }
-  body.one section:not(.person) tr > :last-child { grid-column: 1; grid-row: 2; font-size: 0; }
+  body.one section[id] tr > * { border: 0; padding: .1em; min-width: 0; }
+  body.one section[id] tr > :nth-child(2) { display: none; }
+  body.one section[id] tr > :nth-child(3) { grid-column: 2 / span 5; text-align: left; }
+  body.one section[id] thead th:first-child { font-size: 0; }
+  body.one section[id] tr > :nth-child(4) { grid-column: 7 / span 3; }
+  body.one section[id] tr > :nth-child(5) { grid-column: 10 / span 2; }
+  body.one section[id] tr > :nth-child(n + 6) { grid-column-end: span 2; grid-row: 2; }
+  body.one section[id] tr > :nth-child(6) { grid-column-start: 2; }
+  body.one section[id] tr > :last-child { grid-column: 1; grid-row: 2; font-size: 0; }
   body.one tr.yes > :last-child::before { content: \"\\2713\"; font-size: .8rem; }
   body.one tr.would > :last-child::before { content: \"?\"; font-size: .8rem; }
   body.one tr.yes { background: var(--through); }
   body.one tr.would:not(:has(+ .would)) { border-bottom: .12em dashed currentColor; }
-  .person thead, .person td:nth-child(4) { display: none; }
-  .person td:nth-child(2):not(:empty)::before { content: \"place \"; }
-  .person table, .person tbody { display: block; }
-  .person tr { display: grid; grid-template-columns: 1fr auto 4.5em 5.5em;
-    border-bottom: 1px solid var(--line); padding: .2em 0; }
-  .person tr > * { border: 0; padding: .1em .3em; }
-  .person td:nth-child(5) { grid-column: 1 / span 4; grid-row: 2; text-align: left; }
+  .person table, .person thead, .person tbody { display: block; }
+  .person tr { display: grid; grid-template-columns: 1fr 2.8em 6em 6em;
+    border-bottom: 1px solid var(--line); padding: .2em 0; align-items: baseline; }
+  .person tr > * { border: 0; padding: .1em .2em; min-width: 0; }
+  .person tr > :nth-child(5) { grid-column: 1 / span 3; grid-row: 2; text-align: left; }
+  .person tr > :nth-child(6) { grid-column: 4; grid-row: 2; }
 }
 @media screen {
-  body.hall { overflow: hidden; font-size: 2.2vmin; }
-  body.hall main { height: 100vh; padding: .4em .8em; }
+  body.hall { overflow: hidden; font-size: 2.2vmin; display: flex; flex-direction: column;
+    height: 100vh; }
+  body.hall main { flex: 1; min-height: 0; overflow: hidden; padding: .4em .8em; }
   body.hall nav { display: none; }
   body.hall section { margin: 0; }
   body.hall tbody th { width: 99%; max-width: 0; min-width: 9em; white-space: nowrap;
@@ -90,12 +100,12 @@ tr.changed > th::after { content: \" \\2731\"; }
   th, td { padding: .15em .3em; }
   td:last-child { font-size: .85em; }
   main { padding: 0; }
-  nav, .lost { display: none; }
+  nav, .lost, .find { display: none; }
   a { text-decoration: none; }
   section { break-after: page; }
   section:last-of-type { break-after: auto; }
   thead { display: table-header-group; }
-  section:has([data-title]) > :is(h2, .told) { display: none; }
+  section:has([data-title]) caption { display: none; }
   [data-title]::before { content: attr(data-title); display: block; width: 0; white-space: nowrap;
     text-align: left; font-size: 9pt; font-weight: bold; margin-bottom: .4em; }
   tr { break-inside: avoid; }
@@ -104,14 +114,18 @@ tr.changed > th::after { content: \" \\2731\"; }
 ";
 
 /// Asks every 700 milliseconds for the page, and shows it where it has changed. Where the board
-/// does not answer or is behind, it says since when. A line of which a result has changed is marked
-/// for ten seconds. The first line in sight that has not changed stays where it is on the screen.
-/// On a projector each round is shown for 15 seconds, or as many of its lines at once as there is
-/// room for, in the largest type with which they are on the screen. On paper each page of a round
-/// has the round's title.
+/// does not answer or is behind, or no desk or no majority of them has answered the board for 1,750
+/// milliseconds, it says since when. A line of which a result has changed is marked for ten
+/// seconds. The first line in sight that has not changed stays where it is on the screen.
+///
+/// On a projector the rounds that run, and those that it saw close in the last half hour, are shown
+/// each once a minute, and after them one of the other finals: each for 15 seconds or, where there
+/// are many, shorter. Of a long round as many lines are shown at once as there is room for, in the
+/// largest type with which they are on the screen. On paper each page of a round has the round's
+/// title. Names are searched without regard to accents and case.
 const SCRIPT: &str = "\
 \"use strict\";
-const rows = (page) => [...page.querySelectorAll(\"section:not(.person) tbody tr\")];
+const rows = (page) => [...page.querySelectorAll(\"section[id] tbody tr\")];
 const keyOf = (row) => row.closest(\"section\").id + \" \" + row.cells[1].textContent;
 const resultsOf = (row) => [...row.cells].slice(3, -1).map((cell) => cell.textContent).join(\" \");
 const changed = new Map();
@@ -128,17 +142,41 @@ function unmark() {
     if ((changed.get(keyOf(row)) || 0) <= Date.now()) row.classList.remove(\"changed\");
 }
 const main = () => document.querySelector(\"main\");
-let turn = 0;
-function pages() {
-  const all = [], most = Math.max(8, Math.floor(innerHeight / 54));
-  for (const section of document.querySelectorAll(\"section\")) {
-    const lines = [...section.querySelectorAll(\"tbody tr\")];
-    const count = Math.max(1, Math.ceil(lines.length / most));
-    const room = Math.ceil(lines.length / count);
-    for (let at = 0; at < count; at += 1)
-      all.push([section, lines.slice(at * room, (at + 1) * room), at + 1, count]);
+const isHall = document.body.classList.contains(\"hall\");
+const stateOf = (section) => section.querySelector(\".told strong\").textContent;
+const seen = {};
+try {
+  Object.assign(seen, JSON.parse(localStorage.getItem(\"seen\")));
+} catch (error) { /* it begins anew */ }
+function look() {
+  for (const section of document.querySelectorAll(\"section[id]\")) {
+    if (stateOf(section) === \"running\") seen[section.id] = \"running\";
+    else if (seen[section.id] === \"running\") seen[section.id] = Date.now();
   }
-  return all;
+  try {
+    localStorage.setItem(\"seen\", JSON.stringify(seen));
+  } catch (error) { /* this page remembers it alone */ }
+}
+const isNow = (section) =>
+  stateOf(section) === \"running\" || Date.now() - seen[section.id] < 1800000;
+const countOf = (section) => {
+  const most = Math.max(8, Math.floor(innerHeight / 54));
+  return Math.max(1, Math.ceil(section.querySelectorAll(\"tbody tr\").length / most));
+};
+const turnsOf = (section) => Array.from({ length: countOf(section) }, (_, at) => [section.id, at]);
+let turns = [], final = 0, seconds = 15;
+function begin() {
+  const all = [...document.querySelectorAll(\"section[id]\")], now = all.filter(isNow);
+  const finals = all.filter((section) => !isNow(section) && stateOf(section) === \"final result\");
+  turns = (now.length + finals.length > 0 ? now : all).flatMap(turnsOf);
+  if (finals.length > 0) turns.push(...turnsOf(finals[final % finals.length]));
+  final += 1;
+  seconds = Math.max(3, Math.min(15, 60 / turns.length));
+}
+function turn() {
+  turns.shift();
+  show();
+  setTimeout(turn, seconds * 1000);
 }
 function fit() {
   const style = document.body.style;
@@ -146,23 +184,53 @@ function fit() {
   for (let step = 0; step < 9; step += 1) {
     const size = (low + high) / 2;
     style.fontSize = size + \"px\";
-    const fits = main().scrollHeight <= innerHeight && main().scrollWidth <= innerWidth;
+    const { scrollHeight, clientHeight, scrollWidth, clientWidth } = main();
+    const fits = scrollHeight <= clientHeight && scrollWidth <= clientWidth;
     if (fits) low = size;
     else high = size;
   }
   style.fontSize = low + \"px\";
 }
 function show() {
-  if (!document.body.classList.contains(\"hall\")) return;
-  const all = pages();
-  document.body.classList.toggle(\"turning\", all.length > 0);
+  filter();
+  if (!isHall) return;
+  look();
+  turns = turns.filter(([id]) => document.getElementById(id));
+  if (turns.length === 0) begin();
+  document.body.classList.toggle(\"turning\", turns.length > 0);
   for (const old of document.querySelectorAll(\".shown\")) old.classList.remove(\"shown\");
-  if (all.length > 0) {
-    const [section, lines, at, count] = all[turn % all.length];
-    for (const now of [section, ...lines]) now.classList.add(\"shown\");
-    section.querySelector(\"h2\").dataset.turn = count > 1 ? at + \" / \" + count : \"\";
+  if (turns.length > 0) {
+    const [id, at] = turns[0], section = document.getElementById(id), count = countOf(section);
+    const lines = [...section.querySelectorAll(\"tbody tr\")];
+    const room = Math.ceil(lines.length / count);
+    const shown = lines.slice(at * room, (at + 1) * room);
+    for (const now of [section, ...shown]) now.classList.add(\"shown\");
+    section.querySelector(\"h2\").dataset.turn = count > 1 ? at + 1 + \" / \" + count : \"\";
   }
   fit();
+}
+const letters = { \"\\u0142\": \"l\", \"\\u00f8\": \"o\", \"\\u0111\": \"d\", \"\\u0131\": \"i\",
+  \"\\u00df\": \"ss\" };
+const plain = (text) => [...text.toLowerCase().normalize(\"NFD\").replace(/\\p{M}/gu, \"\")]
+  .map((letter) => letters[letter] || letter).join(\"\");
+const find = document.createElement(\"p\");
+function filter() {
+  if (!find.isConnected) return;
+  const words = plain(find.querySelector(\"input\").value).split(/\\s+/);
+  let none = true;
+  for (const row of document.querySelectorAll(\".people tbody tr\")) {
+    const text = plain([...row.cells].map((cell) => cell.textContent).join(\" \"));
+    row.hidden = !words.every((word) => text.includes(word));
+    none = none && row.hidden;
+  }
+  find.querySelector(\"output\").textContent = none ? \"nobody\" : \"\";
+}
+if (document.querySelector(\".people\")) {
+  find.className = \"find\";
+  find.innerHTML = '<label>Name or number: <input type=\"search\"></label> <output></output>';
+  document.body.prepend(find);
+  find.addEventListener(\"input\", filter);
+  find.querySelector(\"input\").focus();
 }
 function title(page) {
   for (const section of page.querySelectorAll(\"section\")) {
@@ -170,23 +238,36 @@ function title(page) {
     section.querySelector(\"th\").dataset.title = said.join(\": \");
   }
 }
-let last = null, since = null;
+let last = null, since = null, good = new Date();
+const bar = document.createElement(\"p\");
+bar.setAttribute(\"role\", \"status\");
+document.body.prepend(bar);
+function say(text) {
+  if (bar.textContent === text) return;
+  bar.textContent = text;
+  bar.className = text ? \"lost\" : \"\";
+  if (isHall) fit();
+}
+const from = (time) => \" since \" + time.toLocaleTimeString(\"en-GB\") + \": this may be old.\";
 function tell(what) {
-  if (since === null) since = new Date();
-  let told = document.querySelector(\".lost\");
-  if (!told) {
-    told = document.createElement(\"p\");
-    told.className = \"lost\";
-    told.setAttribute(\"role\", \"status\");
-    main().prepend(told);
-  }
-  told.textContent = what + \" since \" + since.toLocaleTimeString(\"en-GB\") +
-    \": this may be old.\";
-  show();
+  if (since === null) since = good;
+  say(what + from(since));
+}
+let heard = 0;
+function tellHall(text) {
+  const ageOf = (line) => (line === \"-\" ? Infinity : Number(line));
+  const ages = text.trim().split(\"\\n\").map(ageOf).sort((one, other) => one - other);
+  const any = ages[0], age = any > 1750 ? any : ages[Math.floor(ages.length / 2)];
+  if (age <= 1750) return say(\"\");
+  const what = any > 1750 ? \"The hall has not been reached\" : \"The hall has had no majority\";
+  if (age === Infinity) return say(what + \" since the board was started.\");
+  const at = Date.now() - age;
+  if (Math.abs(at - heard) > 1500) heard = at;
+  say(what + from(new Date(heard)));
 }
 const positionOf = (page) => {
-  const said = [...page.querySelectorAll(\".at\")].map((at) => Number(at.textContent.slice(9)));
-  return Math.max(0, ...said);
+  const said = [...page.querySelectorAll(\".at\")];
+  return Math.max(0, ...said.map((at) => Number(at.textContent.replace(/\\D/g, \"\"))));
 };
 function anchor(page) {
   const now = new Map(rows(page).map((row) => [keyOf(row), row]));
@@ -210,26 +291,34 @@ function replace(page) {
   if (held) scrollBy(0, held[0].getBoundingClientRect().top - held[1]);
   show();
 }
+const within = (time) => (AbortSignal.timeout ? AbortSignal.timeout(time) : undefined);
 async function update() {
-  if (document.hidden) return;
+  if (document.hidden) {
+    good = new Date();
+    return;
+  }
   try {
-    const answer = await fetch(location.pathname, { cache: \"no-cache\" });
-    if (!answer.ok) return tell(\"The board does not have this page\");
+    const ages = await (await fetch(\"/heard.txt\", { signal: within(2000) })).text();
+    const wanted = { cache: \"no-cache\", signal: within(20000) };
+    const answer = await fetch(location.pathname, wanted);
+    if (!answer.ok) return tell(\"The board has not had this page\");
     const text = await answer.text();
     const page = new DOMParser().parseFromString(text, \"text/html\").querySelector(\"main\");
     if (!page) return;
-    if (positionOf(page) < positionOf(main())) return tell(\"The board is behind\");
-    if (since === null && last === text) return;
+    if (positionOf(page) < positionOf(main())) return tell(\"The board has been behind\");
     since = null;
+    good = new Date();
+    tellHall(ages);
+    if (last === text) return;
     last = text;
     replace(page);
   } catch (error) {
-    tell(\"The board does not answer\");
+    tell(\"The board has not answered\");
   }
 }
 setInterval(update, 700);
 setInterval(unmark, 500);
-setInterval(() => { turn += 1; show(); }, 15000);
+if (isHall) setTimeout(turn, seconds * 1000);
 addEventListener(\"resize\", show);
 addEventListener(\"visibilitychange\", update);
 title(document);

@@ -31,7 +31,9 @@ fn kind_of(view: View) -> HeaderValue
         | View::HallRound(_)
         | View::Round(_)
         | View::RoundAt { .. }
-        | View::Person { .. } => HeaderValue::from_static("text/html; charset=utf-8"),
+        | View::Person { .. }
+        | View::Podiums
+        | View::People => HeaderValue::from_static("text/html; charset=utf-8"),
     }
 }
 

@@ -19,7 +19,7 @@ const LAST_NUMBER: u64 = 9999;
 pub enum View {
     /// `/`: all rounds with their sheets.
     Overview,
-    /// `/hall`: the first round, for a projector.
+    /// `/hall`: one round after another, for a projector.
     Hall,
     /// `/hall/333-1`: a round, for a projector.
     HallRound(RoundId),
@@ -33,6 +33,10 @@ pub enum View {
     TableAt { position: u32, id: RoundId },
     /// `/person/17`: the rounds that a competitor is in.
     Person { number: u16 },
+    /// `/podiums`: the first three of each final.
+    Podiums,
+    /// `/people`: all competitors.
+    People,
     /// `/log.txt`: the archive of the log.
     Log,
     /// `/style.css`: how the pages look.
@@ -74,6 +78,10 @@ fn fixed(path: &[u8]) -> Option<View>
         Some(View::Overview)
     } else if path == b"/hall".as_slice() {
         Some(View::Hall)
+    } else if path == b"/podiums".as_slice() {
+        Some(View::Podiums)
+    } else if path == b"/people".as_slice() {
+        Some(View::People)
     } else if path == b"/log.txt".as_slice() {
         Some(View::Log)
     } else if path == b"/style.css".as_slice() {

@@ -48,8 +48,8 @@ pub fn lines_of_file(alloc: Global, bytes: &[u8], options: Options) -> Result<Fi
     ensures { IfOk result (IsOfFile options bytes.now) }
 {
     match import_file(alloc, bytes, options) {
-        Ok(commands) => {
-            let lines = print_lines(alloc, &commands)?;
+        Ok(made) => {
+            let lines = print_lines(alloc, &made.commands)?;
             Ok(FileLines::Lines(lines))
         }
         Err(FileFault::NoMemory) => Err(AllocError),

@@ -47,10 +47,11 @@ use Rattle.arguments.specs.declared.task.Task.{Task}
 use Rattle.arguments.specs.declared.task.Task.TheVariants as task
 use Rattle.desk.specs.Keys.{EndsKey}
 use Rattle.tasks.specs.Begun.{AsksFirst}
-use Rattle.tasks.specs.Asking.{EndsCarry, EndsCopyLog, EndsNewest}
-use Rattle.tasks.specs.Entering.{EndsEnter, EndsLines}
+use Rattle.tasks.specs.Asking.{EndsCarry, EndsCopyLog, EndsNewest, log_form}
+use Rattle.tasks.specs.Entering.{EndsLines, EndsWords}
+use Rattle.tasks.specs.Folders.{EndsFolders}
 use Rattle.tasks.specs.Places.{NamesDesk, Reach}
-use Rattle.tasks.specs.Services.{IsServiceOf}
+use Rattle.tasks.specs.Services.{IsEntryKeyFile, IsServiceOf}
 use Rattle.tasks.specs.Standings.{AreFew, EndsStatus}
 
 -- the fault of a desk that serves
@@ -111,9 +112,11 @@ EndsResults status had old new =
     ((status ≡ 0) × PrintsResults had old new)
     ⊎ ((f : ResultsFault) × (status ≡ results_status f) × FailsResults f had old new)
 
--- the file that describes a hall was printed, or not
-abbrev pub EndsHallFile : ℕ → (hall : ℕ) → List Text → Option (List ℕ) → Option (List ℕ) → Type 0
-EndsHallFile status hall texts old new =
+-- the file that describes a hall was printed, or not; or it was made with keys and folders, or not
+abbrev pub EndsHallFile : (keys : Bool) → ℕ → (hall : ℕ) → List Text
+    → (old new : Option (List ℕ)) → Type 0
+EndsHallFile true status hall texts old new = EndsFolders status old new
+EndsHallFile false status hall texts old new =
     ((status ≡ 0) × PrintsHall hall texts old new)
     ⊎ ((f : DeskFault) × (status ≡ status_of f) × FailsToPrint f hall texts old new)
 
@@ -154,8 +157,10 @@ EndsServeHall status file wanted c old new =
     EndsUnserved status c old new
     ⊎ ((hall : HallFile) × (bytes : List ℕ) × Says bytes hall
     × (((status ≡ 3) × AsksFirst file wanted hall (texts_of hall) false c.old c.new × Keeps old new)
-    ⊎ ((s : Service)
-    × IsServiceOf s hall.hall wanted (key_file_of (naming file wanted.key) hall) (texts_of hall)
+    ⊎ ((s : Service) × (entry_key : Option (List ℕ))
+    × IsEntryKeyFile wanted.entry_key file.now entry_key
+    × IsServiceOf s hall.hall wanted (key_file_of (naming file wanted.key) hall) entry_key
+    (texts_of hall)
     × AsksFirst file wanted hall (texts_of hall) true c.old c.new
     × EndsServe status s old new)))
 
@@ -174,20 +179,20 @@ form_of false = form.Text
 
 -- at most five desks are asked at once
 abbrev pub HasFew : Task → Type 0
-HasFew (task.Status desks patience json watches) = AreFew desks
+HasFew (task.Status desks patience json watches all) = AreFew desks
 HasFew (task.Replay event round style only_sheet) = Unit {0}
 HasFew (task.Import file options) = Unit {0}
 HasFew (task.Export file running) = Unit {0}
 HasFew task.Results = Unit {0}
 HasFew (task.Hall desks) = Unit {0}
-HasFew (task.HallFile hall addresses) = Unit {0}
+HasFew (task.HallFile hall addresses keys) = Unit {0}
 HasFew (task.Key file) = Unit {0}
 HasFew (task.Carry place patience request) = Unit {0}
 HasFew (task.Newest place patience event round style) = Unit {0}
-HasFew (task.Enter place patience id text waits) = Unit {0}
+HasFew (task.Enter place patience id words waits) = Unit {0}
 HasFew (task.EnterLines place patience lines) = Unit {0}
 HasFew (task.Log store) = Unit {0}
-HasFew (task.CopyLog place patience start) = Unit {0}
+HasFew (task.CopyLog place patience start form) = Unit {0}
 HasFew (task.Serve service) = Unit {0}
 HasFew (task.ServeHall file wanted) = Unit {0}
 
@@ -205,8 +210,8 @@ Ends task.Results status s c t = EndsResults status s.had s.old s.new × IsQuiet
 Ends (task.Hall desks) status s c t =
     (input : List ℕ) × HasLeft s.had input
     × EndsHall status (hall_run_of desks input s) × IsQuiet status t
-Ends (task.HallFile hall addresses) status s c t =
-    Keeps s.had s.left × EndsHallFile status hall (map (λ a. a.now) addresses.now) s.old s.new
+Ends (task.HallFile hall addresses keys) status s c t =
+    Keeps s.had s.left × EndsHallFile keys status hall (map (λ a. a.now) addresses.now) s.old s.new
     × IsQuiet status t
 Ends (task.Key file) status s c t =
     Keeps s.had s.left × EndsKey (option_map (λ f. f.now) file) status s.old s.new
@@ -219,20 +224,20 @@ Ends (task.Newest place patience event round style) status s c t =
     × EndsNewest place patience (record { event = event; round = round; style = style }) status
     (reach_of c t) s.old s.new
     × IsQuietAt place status t
-Ends (task.Enter place patience id text waits) status s c t =
+Ends (task.Enter place patience id words waits) status s c t =
     Keeps s.had s.left
-    × EndsEnter place patience (record { id = id; text = text.now; waits = waits }) status
-    (reach_of c t) s.old s.new
+    × EndsWords place patience id words.now waits status (reach_of c t) s.old s.new
 Ends (task.EnterLines place patience lines) status s c t =
     EndsLines place patience lines status (reach_of c t) s
 Ends (task.Log store) status s c t =
     Keeps s.had s.left × EndsLog status s.old s.new × IsQuiet status t
-Ends (task.CopyLog place patience start) status s c t =
-    Keeps s.had s.left × EndsCopyLog place patience start status (reach_of c t) s.old s.new
-    × IsQuietAt place status t
-Ends (task.Status desks patience json watches) status s c t =
+Ends (task.CopyLog place patience start form) status s c t =
     Keeps s.had s.left
-    × EndsStatus desks patience (form_of json) watches status
+    × EndsCopyLog place patience start (log_form form) status (reach_of c t) s.old s.new
+    × IsQuietAt place status t
+Ends (task.Status desks patience json watches all) status s c t =
+    Keeps s.had s.left
+    × EndsStatus desks patience (form_of json) watches all status
     (record { dialed = c.old; dialed_then = c.new; old = s.old; new = s.new })
 Ends (task.Serve service) status s c t =
     Keeps s.had s.left × EndsServe status service s.old s.new × IsQuiet status t

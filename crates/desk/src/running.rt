@@ -4,7 +4,8 @@ ghost use Rattle.std.specs.Prelude.{◌≡◌, map, string_bytes};
 ghost use Rattle.std.specs.Io.KnownBytes.{Keeps};
 ghost use Rattle.arguments.specs.Asking.{HasIds};
 ghost use Rattle.command_line.specs.Arguments.{argument_texts};
-ghost use Rattle.desk.specs.Statuses.{Ends, HasFew, Ran, calls, fault_of_log, form_of};
+ghost use Rattle.desk.specs.Statuses.{Ends, EndsHallFile, HasFew, Ran, calls, fault_of_log};
+ghost use Rattle.desk.specs.Statuses.{form_of};
 ghost use Rattle.lines.specs.Bytes.{sides};
 ghost use Rattle.replay.specs.Apart.{told};
 
@@ -26,8 +27,8 @@ use sqlite::Unknown;
 use standings::Form;
 use std::io::{Read, Write};
 use tasks::{
-    Watching, carry_at, copy_log_at, enter_at, enter_lines_at, newest_at, status_at, tell_log,
-    tell_missing,
+    Watching, carry_at, copy_log_at, enter_lines_at, enter_words_at, make_folders, newest_at,
+    status_at, tell_log, tell_missing,
 };
 
 /// The fault of a stored log.
@@ -47,6 +48,29 @@ fn form_of(json: bool) -> Form
     ensures { result ≡ form_of json }
 {
     if json { Form::Json } else { Form::Text }
+}
+
+/// Prints the file that describes a hall, as [`print_hall_file`] does, or makes it with keys and a
+/// folder for each machine, as [`make_folders`] does, and returns the exit status.
+fn run_hall_file<W: Write, F: Write>(
+    rt: &HostRuntime,
+    hall: u32,
+    addresses: &[&str],
+    keys: bool,
+    writer: &mut W,
+    faults: &mut F,
+) -> u8
+    ensures ends { EndsHallFile keys result hall (map (λ a. a.now) addresses.now)
+        (W.contents writer.old) (W.contents writer.new) }
+    ensures quiet { result ≡ 0 → Keeps (F.contents faults.old) (F.contents faults.new) }
+{
+    if keys {
+        return make_folders(rt, hall, addresses, writer, faults);
+    }
+    match print_hall_file(rt.alloc(), hall, addresses, writer, faults) {
+        Ok(()) => 0,
+        Err(fault) => tell_missing(rt, faults, fault, false),
+    }
 }
 
 /// Does what a task asks for, and returns the exit status.
@@ -90,12 +114,11 @@ fn run_task<D: Dial, R: Read, W: Write, F: Write>(
             let ran = hall(rt.alloc(), reader, writer, desks);
             tell_run(faults, ran)
         }
-        Task::HallFile { hall, addresses } => {
-            match print_hall_file(rt.alloc(), hall, addresses, writer, faults) {
-                Ok(()) => 0,
-                Err(fault) => tell_missing(rt, faults, fault, false),
-            }
-        }
+        Task::HallFile {
+            hall,
+            addresses,
+            keys,
+        } => run_hall_file(rt, hall, addresses, keys, writer, faults),
         Task::Key { file } => run_key(rt, file, explains, writer, faults),
         Task::Carry {
             place,
@@ -120,10 +143,10 @@ fn run_task<D: Dial, R: Read, W: Write, F: Write>(
             place,
             patience,
             id,
-            text,
+            words,
             waits,
-        } => enter_at(
-            rt, dial, place, patience, id, text, waits, explains, writer, faults,
+        } => enter_words_at(
+            rt, dial, place, patience, id, words, waits, explains, writer, faults,
         ),
         Task::EnterLines {
             place,
@@ -140,15 +163,19 @@ fn run_task<D: Dial, R: Read, W: Write, F: Write>(
             place,
             patience,
             from,
-        } => copy_log_at(rt, dial, place, patience, from, explains, writer, faults),
+            form,
+        } => copy_log_at(
+            rt, dial, place, patience, from, form, explains, writer, faults,
+        ),
         Task::Status {
             desks,
             patience,
             json,
             watches,
+            all,
         } => {
             let form = form_of(json);
-            let way = Watching { form, watches };
+            let way = Watching { form, watches, all };
             status_at(rt, dial, desks, patience, way, writer, faults)
         }
         Task::Serve { service } => run_service(rt, service, explains, writer, faults),
@@ -161,8 +188,8 @@ fn run_task<D: Dial, R: Read, W: Write, F: Write>(
 /// Parses the arguments of the program, the program's own name first, does what they ask for, and
 /// returns the exit status.
 ///
-/// The status is 0 where it was done; 1 where a part of a hall's desks lags or does not answer, or
-/// something is told of a file that is exported; 2 where the parser refused the arguments, with its
+/// The status is 0 where it was done; 1 where a part of a hall's desks lags or does not answer,
+/// something is told of a file that is exported, or a command that was waited for was refused; 2 where the parser refused the arguments, with its
 /// text on `faults`, or where they ask for help or the version, with its text on `writer`; 3 for a
 /// named refusal, and where no majority of a hall's desks answers; 4 for a device that failed, 5
 /// for `no memory`. The texts of the last three are one line on `faults`, but for those of a

@@ -15,7 +15,7 @@ use lines::RunFault;
 use serve::{ServeFault, has_bytes, serve};
 use sqlite::Unknown;
 use std::io::Write;
-use tasks::{addresses_of, may_make, service_of, tell_missing, tell_service};
+use tasks::{addresses_of, entry_key_file, may_make, service_of, tell_missing, tell_service};
 
 /// The fault of a desk that serves.
 fn fault_of_serve(fault: ServeFault) -> DeskFault
@@ -102,7 +102,8 @@ fn may_serve<D: Dial, F: Write>(
 }
 
 /// Runs a desk of the hall that a file describes, and returns the exit status. Its key's file is
-/// the one that is wanted, or else the one that the hall's file names. The status is 3 where its
+/// the one that is wanted, or else the one that the hall's file names; its entry key's file is the
+/// one that is wanted, or else, beside a key, `entry.key` beside the hall's file, if it is there. The status is 3 where its
 /// store is to be made, and may not be: `may_serve`.
 pub fn run_hall_service<D: Dial, W: Write, F: Write>(
     rt: &HostRuntime,
@@ -126,12 +127,22 @@ pub fn run_hall_service<D: Dial, W: Write, F: Write>(
         Ok(key) => key,
         Err(fault) => return tell(faults, fault),
     };
+    let entry_key = match entry_key_file(rt, file, wanted, key.is_some()) {
+        Ok(entry_key) => entry_key,
+        Err(fault) => return tell(faults, fault),
+    };
     let Ok(addresses) = addresses_of(rt.alloc(), &hall) else {
         return tell(faults, DeskFault::Run(RunFault::NoMemory));
     };
     if !may_serve(rt, dial, file, wanted, &hall, &addresses, faults) {
         return 3;
     }
-    let service = service_of(hall.hall, wanted, path_of(&key), &addresses);
+    let service = service_of(
+        hall.hall,
+        wanted,
+        path_of(&key),
+        path_of(&entry_key),
+        &addresses,
+    );
     run_service(rt, service, explains, writer, faults)
 }

@@ -1,3 +1,4 @@
 pub mod Troubles
 pub mod Connections
 pub mod Streams
+pub mod Asking

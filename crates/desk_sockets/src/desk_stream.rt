@@ -3,6 +3,7 @@
 ghost use Rattle.std.specs.Prelude.{◌≡◌, Bool, false, true, is_some, IfSome};
 ghost use Rattle.desk_talks.specs.Dialogues.{Reaches};
 ghost use Rattle.sealed.specs.ends.Calls.{own_key};
+ghost use Rattle.desk_sockets.specs.Asking.{AsksNow};
 ghost use Rattle.desk_sockets.specs.Connections.{Follows};
 ghost use Rattle.desk_sockets.specs.Streams.{fresh_stream, noted};
 ghost use Rattle.desk_sockets.specs.Troubles.{confirmed, fits};
@@ -290,6 +291,7 @@ impl<'a, R: Net + RandomSource> DeskStream<'a, R> {
         ensures key { self.new.key ≡ self.old.key }
         ensures held { D.held dialogue.new ≡ D.held dialogue.old }
         ensures went { Reaches D.leads dialogue.old dialogue.new }
+        ensures asked { AsksNow D.leads now dialogue.old dialogue.new }
     {
         for _wish in 0..MOST_WISHES {
             let wish = dialogue.act(now);
@@ -311,6 +313,7 @@ impl<'a, R: Net + RandomSource> DeskStream<'a, R> {
         ensures key { self.new.key ≡ self.old.key }
         ensures held { result ≡ Kept.Same → D.held dialogue.new ≡ D.held dialogue.old }
         ensures went { Reaches D.leads dialogue.old dialogue.new }
+        ensures asked { AsksNow D.leads now dialogue.old dialogue.new }
     {
         let changed = self.look(dialogue, now);
         self.write_rest(dialogue);

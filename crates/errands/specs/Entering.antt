@@ -1,5 +1,6 @@
 -- Commands entered at a desk: those of an input, or one.
-use Rattle.std.specs.Prelude.{◌≡◌, ◌⊎◌, ◌+◌, ◌-◌, ◌^◌, ◌≤◌, ◌++◌, [], ℕ, Bool, true, false, List}
+use Rattle.std.specs.Prelude.{◌≡◌, ◌⊎◌, ◌+◌, ◌-◌, ◌^◌, ◌≤◌, ◌<◌, ◌++◌, ◌∷◌, [], ℕ, Bool, true, false}
+use Rattle.std.specs.Prelude.{List}
 use Rattle.std.specs.Prelude.{length, take, codes, Option, Some, None}
 use Rattle.std.specs.Io.KnownBytes.{Appends, Keeps}
 use Rattle.batch.specs.Asking.{IsOfAsking}
@@ -13,7 +14,7 @@ use Rattle.batch.specs.declared.fault.BatchFault.{BatchFault}
 use Rattle.batch.specs.declared.lines_entered.Batch.{Batch}
 use Rattle.client.specs.Printing.{reply_text}
 use Rattle.texts.specs.meanings.Meanings.{meaning_of}
-use Rattle.lines.specs.command_file.Commands.{Numbered, ReadsCommands, StopsReading}
+use Rattle.lines.specs.command_file.Commands.{Numbered, ReadsCommands, StopsReading, numbered}
 use Rattle.lines.specs.command_file.Faults.{first_fault}
 use Rattle.lines.specs.Bytes.{AppendsPart, Sides}
 use Rattle.lines.specs.declared.fault.RunFault.{RunFault}
@@ -106,6 +107,27 @@ FailsInput f r l s t =
 
 -- ---- one
 
+-- what is wrong with a text, as the only line of an input, where it is no command in any edition
+abbrev pub fault_in : List ℕ → Option (List ℕ)
+fault_in text = first_fault (numbered 1 text ∷ [])
+
+-- it is a command in some edition, or too long for one
+abbrev pub IsEnterable : List ℕ → Type 0
+IsEnterable text = (fault_in text ≡ None) ⊎ (600 < length text)
+
+-- it is none, or there is no memory
+abbrev pub IsUnenterable : DeskFault → List ℕ → Type 0
+IsUnenterable f text =
+    ((f ≡ fault.NoCommand) × (length text ≤ 600)
+    × (said : List ℕ) × (fault_in text ≡ Some said))
+    ⊎ (f ≡ fault.Run run.NoMemory)
+
+-- the exit status after a command that was answered so: 1 where it was refused
+abbrev pub answer_status : Option Answer → ℕ
+answer_status (Some (Refused code)) = 1
+answer_status (Some Done) = 0
+answer_status None = 0
+
 -- a line that is printed of an answer: after a refusal with what it means
 abbrev pub meant : List ℕ → Option Answer → List ℕ
 meant text (Some (Refused code)) =
@@ -126,12 +148,12 @@ pub record Enters (r : Receiver) (given : Option ℕ) (waits : Bool) (text : Lis
   pub entered : IsEntered waits r id text last
   pub asked : AddsSo t (EnteredBy waits r id text last)
 
--- so it was, and that is printed
-abbrev pub EntersOne : Receiver → Option ℕ → Bool → List ℕ → Told → (old new : Option (List ℕ))
-    → Type 0
-EntersOne r given waits text t old new =
+-- so it was, and that is printed and told by the exit status
+abbrev pub EntersOne : ℕ → Receiver → Option ℕ → Bool → List ℕ → Told
+    → (old new : Option (List ℕ)) → Type 0
+EntersOne status r given waits text t old new =
     IsDesk r.desk × (last : What) × Enters r given waits text last t
-    × Appends old new (one_text last)
+    × (status ≡ answer_status (told_answer last)) × Appends old new (one_text last)
 
 -- the text was not entered with an id that was given or drawn, by this fault
 pub record IsStopped (f : DeskFault) (r : Receiver) (given : Option ℕ) (waits : Bool)

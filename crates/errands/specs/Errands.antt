@@ -1,5 +1,6 @@
 -- The frame of an errand, and how an errand ends.
-use Rattle.std.specs.Prelude.{◌≡◌, ◌⊎◌, ◌∷◌, [], ℕ, List, Option, Result, Ok, Err}
+use Rattle.std.specs.Prelude.{◌≡◌, ◌⊎◌, ◌∷◌, ◌++◌, [], ℕ, Bool, true, false, List, Option, Result}
+use Rattle.std.specs.Prelude.{Ok, Err, codes, decimal}
 use Rattle.std.specs.Io.KnownBytes.{Keeps, Appends}
 use Rattle.batch.specs.Asking.{IsAnswer, IsOfAsking}
 use Rattle.batch.specs.Dialing.{Adds, Told, asked_so}
@@ -46,6 +47,20 @@ frame_of e =
       what = what_of e.request;
     }
 
+-- what is printed of a desk that did what was asked, where it is named
+abbrev pub did_text : ℕ → List ℕ → List ℕ
+did_text desk address = codes "ok: desk " ++ decimal desk ++ codes " at " ++ address
+
+abbrev pub fine_text : Bool → Errand → List ℕ
+fine_text true e = did_text e.desk e.contact.address.now ++ codes "\n"
+fine_text false e = reply_text what.Fine
+
+-- what is printed of an answer: of a desk that did what was asked also which one, where it is to be
+-- named
+abbrev pub answer_text : Errand → What → List ℕ
+answer_text e what.Fine = fine_text e.names e
+answer_text e answer = reply_text answer
+
 -- the desk was asked the errand's frame once, over a connection to the errand's address, or none
 -- could be opened to it, and this came of it; nothing else was asked
 abbrev pub IsAsked : Errand → Result What BatchFault → Told → Type 0
@@ -68,11 +83,11 @@ IsOfPrinting f = (f ≡ fault.Run run.Write) ⊎ (f ≡ fault.Run run.NoMemory)
 -- the desk answered, and this is printed of its answer
 abbrev pub DoesErrand : Errand → Told → Option (List ℕ) → Option (List ℕ) → Type 0
 DoesErrand e t old new =
-    IsDesk e.desk × (answer : What) × GetsAnswer e answer t × Appends old new (reply_text answer)
+    IsDesk e.desk × (answer : What) × GetsAnswer e answer t × Appends old new (answer_text e answer)
 
 -- there is no answer, and nothing was printed; or there is one, and printing it failed
 abbrev pub FailsErrand : DeskFault → Errand → Told → Option (List ℕ) → Option (List ℕ) → Type 0
 FailsErrand f e t old new =
     (GetsNone f e t × Keeps old new)
     ⊎ (IsOfPrinting f × IsDesk e.desk × (answer : What) × GetsAnswer e answer t
-    × AppendsPart old new (reply_text answer))
+    × AppendsPart old new (answer_text e answer))

@@ -9,19 +9,31 @@ use Rattle.batch.specs.Dialing.{Adds, Told}
 use Rattle.batch.specs.Logs.{AddsSo, FailsLog, TellsLog}
 use Rattle.batch.specs.declared.asking.Receiver.{Receiver}
 use Rattle.batch.specs.declared.fault.BatchFault.{BatchFault}
+use Rattle.log_rows.specs.Rows.{rows}
 use Rattle.lines.specs.Bytes.{AppendsPart}
 use Rattle.wire.specs.Ranges.{IsDesk}
 use Rattle.errands.specs.Errands.{IsOfPrinting}
 use Rattle.errands.specs.Statuses.{fault_of_batch}
 use Rattle.errands.specs.declared.fault.DeskFault.{DeskFault}
 use Rattle.errands.specs.declared.fault.DeskFault.TheVariants as fault
+use Rattle.errands.specs.declared.logs.LogForm.{LogForm}
+use Rattle.errands.specs.declared.logs.LogForm.TheVariants.{Lines, Rows}
 
--- The desk told its whole log, and the lines of its archive from the position on were written. A
--- replay of the whole archive gives the sheets of that log.
-abbrev pub PrintsTold : Receiver → ℕ → Told → Option (List ℕ) → Option (List ℕ) → Type 0
-PrintsTold r from t old new =
-    IsDesk r.desk × (log : List Entry) × AddsSo t (TellsLog r log) × IsReplayed log
-    × Appends old new (archive_from from log)
+-- what is printed of a log from a position on
+abbrev pub printed_log : LogForm → ℕ → List Entry → List ℕ
+printed_log Lines from log = archive_from from log
+printed_log (Rows shown) from log = rows from shown log
+
+-- a replay of the lines of the whole log gives its sheets; rows are not replayed
+abbrev pub IsReplayedAs : LogForm → List Entry → Type 0
+IsReplayedAs Lines log = IsReplayed log
+IsReplayedAs (Rows shown) log = Unit {0}
+
+-- the desk told its whole log, and what is printed of it was written
+abbrev pub PrintsTold : Receiver → LogForm → ℕ → Told → Option (List ℕ) → Option (List ℕ) → Type 0
+PrintsTold r form from t old new =
+    IsDesk r.desk × (log : List Entry) × AddsSo t (TellsLog r log) × IsReplayedAs form log
+    × Appends old new (printed_log form from log)
 
 -- the desk's number is invalid, and nothing was asked or written
 abbrev pub RefusesDesk : DeskFault → Receiver → Told → Option (List ℕ) → Option (List ℕ) → Type 0
@@ -34,14 +46,15 @@ FailsTelling f r t old new =
     (b : BatchFault) × (f ≡ fault_of_batch b) × IsDesk r.desk × IsOfAsking b
     × AddsSo t (FailsLog b r) × Keeps old new
 
--- it told its log, and writing the lines failed
-abbrev pub FailsPrinting : DeskFault → Receiver → ℕ → Told → Option (List ℕ) → Option (List ℕ)
-    → Type 0
-FailsPrinting f r from t old new =
+-- it told its log, and writing failed
+abbrev pub FailsPrinting : DeskFault → Receiver → LogForm → ℕ → Told → Option (List ℕ)
+    → Option (List ℕ) → Type 0
+FailsPrinting f r form from t old new =
     IsOfPrinting f × IsDesk r.desk × (log : List Entry) × AddsSo t (TellsLog r log)
-    × AppendsPart old new (archive_from from log)
+    × AppendsPart old new (printed_log form from log)
 
-abbrev pub FailsTold : DeskFault → Receiver → ℕ → Told → Option (List ℕ) → Option (List ℕ) → Type 0
-FailsTold f r from t old new =
+abbrev pub FailsTold : DeskFault → Receiver → LogForm → ℕ → Told → Option (List ℕ)
+    → Option (List ℕ) → Type 0
+FailsTold f r form from t old new =
     RefusesDesk f r t old new
-    ⊎ (FailsTelling f r t old new ⊎ FailsPrinting f r from t old new)
+    ⊎ (FailsTelling f r t old new ⊎ FailsPrinting f r form from t old new)

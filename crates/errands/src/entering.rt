@@ -4,11 +4,11 @@ ghost use Rattle.std.specs.Prelude.{◌≡◌, ◌≤◌, None, IfErr, IfOk, OnE
 ghost use Rattle.std.specs.Io.KnownBytes.{Appends};
 ghost use Rattle.batch.specs.Asking.{IsOfAsking};
 ghost use Rattle.batch.specs.Dialing.{told};
-ghost use Rattle.batch.specs.Entering.{AsksAll, AsksSome, texts_of};
+ghost use Rattle.batch.specs.Entering.{AsksAll, AsksSome, texts_of, told_answer};
 ghost use Rattle.batch.specs.Watching.{unheard};
 ghost use Rattle.errands.specs.Entering.{EntersInput, EntersOne, FailsInput, FailsOne};
-ghost use Rattle.errands.specs.Entering.{IsFirstId, IsGood, IsOfPrinting, IsUngood, meant};
-ghost use Rattle.errands.specs.Entering.{one_text};
+ghost use Rattle.errands.specs.Entering.{IsEnterable, IsFirstId, IsGood, IsOfPrinting};
+ghost use Rattle.errands.specs.Entering.{IsUnenterable, IsUngood, answer_status, meant, one_text};
 ghost use Rattle.errands.specs.declared.fault.DeskFault.TheVariants as desk_fault;
 ghost use Rattle.lines.specs.Bytes.{AppendsPart, sides};
 ghost use Rattle.lines.specs.declared.fault.RunFault.TheVariants as run_fault;
@@ -30,6 +30,9 @@ use std::time::Clock;
 use texts::Answer;
 use texts::meanings::meaning_of;
 use wire::What;
+
+/// What stands before what is wrong with the first line.
+const LINE_1: &[u8] = b"line 1: ";
 
 /// The id of the first of so many commands: the one that is given, or one that is drawn.
 fn first_id<T: RandomSource>(source: &T, given: Option<u64>, count: u32) -> Result<u64, DeskFault>
@@ -200,10 +203,21 @@ fn push_meaning(text: &mut Vec<u8>, answer: Option<Answer>) -> Result<(), AllocE
     Ok(())
 }
 
-/// Prints the last answer to one command.
-fn print_one<W: Write>(alloc: Global, writer: &mut W, last: What) -> Result<(), DeskFault>
+/// The exit status after a command that was answered so: 1 where it was refused.
+fn answer_status(answer: Option<Answer>) -> u8
+    ensures { result ≡ answer_status answer }
+{
+    match answer {
+        Some(Answer::Refused(_)) => 1,
+        Some(Answer::Done) | None => 0,
+    }
+}
+
+/// Prints the last answer to one command, and gives the exit status.
+fn print_one<W: Write>(alloc: Global, writer: &mut W, last: What) -> Result<u8, DeskFault>
     ensures ok { OnOk result
         (Appends (W.contents writer.old) (W.contents writer.new) (one_text last)) }
+    ensures status { IfOk result (λ status. status ≡ answer_status (told_answer last)) }
     ensures err { OnErr result
         (AppendsPart (W.contents writer.old) (W.contents writer.new) (one_text last)) }
     ensures fault { IfErr result IsOfPrinting }
@@ -216,16 +230,46 @@ fn print_one<W: Write>(alloc: Global, writer: &mut W, last: What) -> Result<(), 
         return Err(DeskFault::Run(RunFault::NoMemory));
     }
     match write_text(writer, &text) {
-        Ok(()) => Ok(()),
+        Ok(()) => Ok(answer_status(answer)),
         Err(_) => Err(DeskFault::Run(RunFault::Write)),
     }
 }
 
+/// Whether a text may be entered: it is a command in some edition, or too long for one, of which
+/// the desk is not asked either. Of another one `faults` is told what is wrong with it.
+///
+/// # Errors
+///
+/// `NoCommand` where it is none, and `Run` with `NoMemory`.
+pub fn may_enter<F: Write>(alloc: Global, text: &[u8], faults: &mut F) -> Result<(), DeskFault>
+    ensures ok { OnOk result (IsEnterable text.now) }
+    ensures err { IfErr result (λ f. IsUnenterable f text.now) }
+{
+    if text.len() > 600 {
+        return Ok(());
+    }
+    let Ok(copy) = Vec::from_slice(alloc, text) else {
+        return Err(DeskFault::Run(RunFault::NoMemory));
+    };
+    let Ok(found) = first_fault(alloc, &[CommandText::new(1, copy)]) else {
+        return Err(DeskFault::Run(RunFault::NoMemory));
+    };
+    let Some(said) = found else {
+        return Ok(());
+    };
+    // what is said of a line has its number in front, which an argument has not
+    let front = said.len().min(LINE_1.len());
+    let _ = write_text(faults, &said[front..]);
+    let _ = write_text(faults, b"\n");
+    Err(DeskFault::NoCommand)
+}
+
 /// Enters one text at a desk, with the id that is given or one that is drawn, and prints what it
 /// answers: `taken <id>`, or, where it is waited for, `done <id> <pos> Done`, and after a refusal
-/// its code and what it means, as `done 17 40 OutOfOrder: the attempt is not the next one`. After
-/// two seconds without a decision `faults` is told what is waited for, and where the command wasn't
-/// entered, or it isn't known, the id that was drawn.
+/// its code and what it means, as `done 17 40 OutOfOrder: the attempt is not the next one`. The
+/// exit status that it gives is 1 after a refusal, else 0. After two seconds without a decision
+/// `faults` is told what is waited for, and where the command wasn't entered, or it isn't known,
+/// the id that was drawn.
 ///
 /// # Errors
 ///
@@ -244,8 +288,8 @@ pub fn enter_one<T: Clock + RandomSource, D: Dial, W: Write, F: Write, H: Reason
     writer: &mut W,
     reasons: &mut H,
     faults: &mut F,
-) -> Result<(), DeskFault>
-    ensures ok { OnOk result (EntersOne receiver id waits text.now
+) -> Result<u8, DeskFault>
+    ensures ok { IfOk result (λ status. EntersOne status receiver id waits text.now
         (told contact.entry D.dialed dial.old dial.new)
         (W.contents writer.old) (W.contents writer.new)) }
     ensures err { IfErr result (λ f. FailsOne f receiver id waits text.now

@@ -138,7 +138,7 @@ impl fmt::Display for DeskFault {
             DeskFault::KeyThere => f.write_str("key file is there"),
             DeskFault::SameKeys => f.write_str("the two keys are one"),
             DeskFault::NoHallKey => {
-                f.write_str("--entry-key and --open-sheets need a hall's key")
+                f.write_str("--entry-key, --old-key and --open-sheets need a hall's key")
             }
             DeskFault::WrongDesk => f.write_str("wrong desk"),
             DeskFault::DamagedStore => f.write_str("damaged store"),

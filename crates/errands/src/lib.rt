@@ -20,9 +20,10 @@ mod sockets;
 mod timing;
 mod waiting;
 
-pub use entering::{enter_all, enter_one};
+pub use entering::{enter_all, enter_one, may_enter};
 pub use fault::{DeskFault, tell, tell_asking, tell_serving};
-pub use logs::print_log;
+pub use log_rows::{Shown, Whose};
+pub use logs::{LogForm, print_log};
 pub use newest::print_newest;
 pub use polling::{Inquiry, print_standings, watch_standings};
 pub use reasons::{NoReasons, Reasons};

@@ -5,7 +5,7 @@ ghost use Rattle.batch.specs.Dialing.{told};
 ghost use Rattle.wire.specs.Ranges.{IsBody, IsDesk, IsFrame};
 ghost use Rattle.arguments.specs.Asking.{HasId};
 ghost use Rattle.errands.specs.Errands.{DoesErrand, FailsErrand, GetsAnswer, GetsNone};
-ghost use Rattle.errands.specs.Errands.{frame_of, version_of, what_of};
+ghost use Rattle.errands.specs.Errands.{answer_text, frame_of, version_of, what_of};
 ghost use Rattle.errands.specs.declared.fault.DeskFault.TheVariants as desk_fault;
 
 use crate::fault::DeskFault;
@@ -13,7 +13,8 @@ use arguments::Request;
 use batch::{Contact, Dial, ask_over};
 use client::{reply_text, sheet_version};
 use lines::{RunFault, write_text};
-use std::alloc::Global;
+use std::alloc::{AllocError, Global};
+use std::fmt;
 use std::io::Write;
 use wire::{Frame, Version, What};
 
@@ -27,6 +28,8 @@ pub struct Errand<'a> {
     /// Where it is asked, and how long it is waited for.
     pub contact: Contact<'a>,
     pub request: Request,
+    /// Whether it is printed which desk did what was asked.
+    pub names: bool,
 }
 
 /// What a frame says that makes a request.
@@ -107,6 +110,45 @@ fn answered<D: Dial>(alloc: Global, dial: &mut D, errand: Errand<'_>) -> Result<
     }
 }
 
+/// What is printed of a desk that did what was asked, where it is named.
+#[derive(Drop)]
+struct Did<'a> {
+    desk: u8,
+    address: &'a str,
+}
+
+impl fmt::Display for Did<'_> {
+    ghost use Rattle.std.specs.Prelude.{Some};
+    ghost use Rattle.errands.specs.Errands.{did_text};
+
+    ghost output = { λ v. Some (did_text v.desk v.address.now) };
+
+    fn fmt<W: fmt::Write>(&self, f: &mut fmt::Formatter<W>) -> fmt::Result {
+        f.write_str("ok: desk ")?;
+        self.desk.fmt(f)?;
+        f.write_str(" at ")?;
+        f.write_str(self.address)
+    }
+}
+
+/// What is printed of the answer to an errand: as [`reply_text`] has it, and of a desk that did
+/// what was asked also which one, where it is to be named.
+fn answer_text(alloc: Global, errand: Errand<'_>, answer: What) -> Result<Vec<u8>, AllocError>
+    ensures { IfOk result (λ text. text.items ≡ answer_text errand.entry answer) }
+{
+    match answer {
+        What::Fine if errand.names => {
+            let did = Did {
+                desk: errand.desk,
+                address: errand.contact.address,
+            };
+            let line = format!(in alloc; "{did}\n")?;
+            Vec::from_slice(alloc, line.as_bytes())
+        }
+        other => reply_text(alloc, other),
+    }
+}
+
 /// Asks a desk and prints its answer.
 ///
 /// # Errors
@@ -135,7 +177,7 @@ pub fn carry<D: Dial, W: Write>(
         Ok(answer) => answer,
         Err(fault) => return Err(fault),
     };
-    let Ok(text) = reply_text(alloc, answer) else {
+    let Ok(text) = answer_text(alloc, errand, answer) else {
         return Err(DeskFault::Run(RunFault::NoMemory));
     };
     match write_text(writer, &text) {

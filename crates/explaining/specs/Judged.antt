@@ -10,6 +10,7 @@ use Rattle.keys.specs.declared.key_file.fault.KeyFileFault.TheVariants as key_fi
 use Rattle.wire.specs.declared.frame.Frame.{Frame}
 use Rattle.wire.specs.declared.frame.What.{What}
 use Rattle.wire.specs.declared.frame.What.TheVariants as what
+use Rattle.wire.specs.declared.values.ClientRefusal.TheVariants as refusal
 use Rattle.explaining.specs.declared.findings.AddressFinding.{AddressFinding}
 use Rattle.explaining.specs.declared.findings.AddressFinding.TheVariants as address
 use Rattle.explaining.specs.declared.findings.FileFinding.{FileFinding}
@@ -53,6 +54,7 @@ abbrev pub of_key : DeskFault → Option KeyFinding
 of_key fault.NoKey = Some key.NoKey
 of_key fault.OtherKey = Some key.OtherKey
 of_key fault.HasKey = Some key.HasKey
+of_key (fault.Refused refusal.NotAllowed) = Some key.NotAllowed
 of_key (fault.KeyFile key_file.NotThere) = Some key.NotThere
 of_key (fault.KeyFile key_file.Unreadable) = Some key.Unreadable
 of_key (fault.KeyFile key_file.Open) = Some key.Open

@@ -174,3 +174,7 @@ IsExplained f matter old new =
 abbrev pub IsCutShort : DeskFault → About → (old new : Option (List ℕ)) → Type 0
 IsCutShort f matter old new =
     (found : Finding) × IsFound f matter (Some found) × AppendsPart old new (line_of found)
+
+-- a program that was to listen at this address, and has no file
+abbrev pub serving_at : Bor (List ℕ) → About
+serving_at address = about.Serving address address

@@ -30,7 +30,7 @@ file_text file.Empty = codes "it is empty"
 file_text file.Text = codes "it is a text; compare the path"
 file_text file.NoDatabase = codes "it is no database; compare the path"
 file_text file.LogMissing = codes "its -wal is missing or not its own; the two belong together"
-file_text file.NotWhole = codes "it is no whole store; keep it, and let this desk stay away"
+file_text file.NotWhole = codes "the file is incomplete: keep it, and do not start this desk again"
 file_text file.OtherDesk = codes "another desk's store is in it; compare the path and the numbers"
 
 -- what is said of an address, after it
@@ -44,13 +44,14 @@ address_text address.ListensNow = codes "somebody listens there now; ask again"
 address_text address.Taken = codes "another program listens there; end that one first"
 address_text address.NotOurs = codes "this machine has no such address; compare the addresses"
 address_text address.NotAllowed = codes "this user may not listen there; take a port from 1024 on"
-address_text address.FreeNow = codes "the address is free now; start the desk again"
+address_text address.FreeNow = codes "the address is free now; start it again"
 
 -- what is said of a key
 abbrev pub key_text : KeyFinding → List ℕ
 key_text key.NoKey = codes "ask without --key, or start the desk with --key"
 key_text key.OtherKey = codes "all desks of a hall have one key file; copy it from one of them"
 key_text key.HasKey = codes "name the file with the hall's key: --key FILE"
+key_text key.NotAllowed = codes "this needs the hall's key: name its file with --key FILE"
 key_text key.NotThere = codes "compare the path, or copy the file from a desk of the hall"
 key_text key.Unreadable = codes "look at its rights, and whether it is a file"
 key_text key.Open = codes "take their rights from it: chmod 600 FILE"

@@ -1,10 +1,10 @@
 //! A desk's file, looked at again.
 
 ghost use Rattle.std.specs.Prelude.{IfOk, IfSome};
-ghost use Rattle.explaining.specs.Looking.{IsOfDamage, IsOfDevice, IsOfReading};
+ghost use Rattle.explaining.specs.Looking.{IsOfDamage, IsOfDevice, IsOfFile, IsOfReading};
 ghost use Rattle.explaining.specs.model.Files.{IsOfOpening, IsOfPath, IsOfRoom};
 
-use crate::findings::FileFinding;
+use crate::findings::{FileFinding, Finding};
 use crate::told::{of_beginning, of_opening};
 use sqlite_std_file::{OpenError, Unknown, open};
 use std::alloc::AllocError;
@@ -82,6 +82,16 @@ fn no_room<R: Files + AllocGlobal>(rt: &R, path: &str) -> Option<FileFinding>
             Some(FileFinding::NotAllowed) => Some(FileFinding::FolderClosed),
             found => found,
         },
+    }
+}
+
+/// What was met of a file beside which something is to be written, where there is no room.
+pub fn room_beside<'a>(rt: &HostRuntime, path: &'a str) -> Option<Finding<'a>>
+    ensures { IsOfFile path.entry IsOfRoom result }
+{
+    match no_room(rt, path) {
+        Some(what) => Some(Finding::File { path, what }),
+        None => None,
     }
 }
 

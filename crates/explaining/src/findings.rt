@@ -53,6 +53,8 @@ pub enum KeyFinding {
     OtherKey,
     /// The desk asks for one.
     HasKey,
+    /// What was asked is not for the key under which it was asked, or not without one.
+    NotAllowed,
     /// Its file is not there.
     NotThere,
     /// Its file can't be read.

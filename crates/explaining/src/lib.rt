@@ -15,8 +15,9 @@ mod sentences;
 mod telling;
 mod told;
 
+pub use files::room_beside;
 pub use findings::{
     AddressFinding, CommandCount, DeskName, FileFinding, Finding, KeyFinding, OtherDesk,
 };
 pub use matters::About;
-pub use telling::{explain, is_wanted};
+pub use telling::{explain, explain_listening, is_wanted};

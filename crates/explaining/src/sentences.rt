@@ -27,7 +27,8 @@ pub(crate) fn of_file(what: FileFinding) -> &'static str
         FileFinding::Text => "it is a text; compare the path",
         FileFinding::NoDatabase => "it is no database; compare the path",
         FileFinding::LogMissing => "its -wal is missing or not its own; the two belong together",
-        FileFinding::NotWhole => "it is no whole store; keep it, and let this desk stay away",
+        FileFinding::NotWhole =>
+            "the file is incomplete: keep it, and do not start this desk again",
         FileFinding::OtherDesk => "another desk's store is in it; compare the path and the numbers",
     }
 }
@@ -46,7 +47,7 @@ pub(crate) fn of_address(what: AddressFinding) -> &'static str
         AddressFinding::Taken => "another program listens there; end that one first",
         AddressFinding::NotOurs => "this machine has no such address; compare the addresses",
         AddressFinding::NotAllowed => "this user may not listen there; take a port from 1024 on",
-        AddressFinding::FreeNow => "the address is free now; start the desk again",
+        AddressFinding::FreeNow => "the address is free now; start it again",
     }
 }
 
@@ -58,6 +59,7 @@ pub(crate) fn of_key(what: KeyFinding) -> &'static str
         KeyFinding::NoKey => "ask without --key, or start the desk with --key",
         KeyFinding::OtherKey => "all desks of a hall have one key file; copy it from one of them",
         KeyFinding::HasKey => "name the file with the hall's key: --key FILE",
+        KeyFinding::NotAllowed => "this needs the hall's key: name its file with --key FILE",
         KeyFinding::NotThere => "compare the path, or copy the file from a desk of the hall",
         KeyFinding::Unreadable => "look at its rights, and whether it is a file",
         KeyFinding::Open => "take their rights from it: chmod 600 FILE",

@@ -3,7 +3,7 @@
 ghost use Rattle.std.specs.Prelude.{◌≡◌, OnErr, OnOk, true};
 ghost use Rattle.std.specs.Io.KnownBytes.{Appends};
 ghost use Rattle.lines.specs.Bytes.{AppendsPart};
-ghost use Rattle.explaining.specs.Looking.{IsCutShort, IsExplained, line_of};
+ghost use Rattle.explaining.specs.Looking.{IsCutShort, IsExplained, line_of, serving_at};
 
 use crate::findings::Finding;
 use crate::looking::found;
@@ -62,4 +62,26 @@ pub fn explain<F: Write>(
         Some(finding) => tell(rt.alloc(), faults, finding),
         None => Ok(()),
     }
+}
+
+/// As [`explain`], of a program that can't listen at an address of its own.
+///
+/// # Errors
+///
+/// As [`explain`].
+pub fn explain_listening<F: Write>(
+    rt: &HostRuntime,
+    faults: &mut F,
+    address: &str,
+) -> Result<(), WriteFailed>
+    ensures ok { OnOk result (IsExplained DeskFault.CannotListen (serving_at address.entry)
+        (F.contents faults.old) (F.contents faults.new)) }
+    ensures err { OnErr result (IsCutShort DeskFault.CannotListen (serving_at address.entry)
+        (F.contents faults.old) (F.contents faults.new)) }
+{
+    let about = About::Serving {
+        store: address,
+        address,
+    };
+    explain(rt, faults, DeskFault::CannotListen, about)
 }

@@ -11,7 +11,7 @@ use crate::findings::{
 use errands::DeskFault;
 use keys::key_file::KeyFileFault;
 use std::io::ErrorKind;
-use wire::{Frame, What};
+use wire::{ClientRefusal, Frame, What};
 
 /// What an error tells that comes of opening, reading or writing a file.
 pub(crate) fn of_opening(kind: ErrorKind) -> Option<FileFinding>
@@ -62,6 +62,9 @@ pub(crate) fn of_key(fault: DeskFault) -> Option<KeyFinding>
         DeskFault::NoKey => Some(KeyFinding::NoKey),
         DeskFault::OtherKey => Some(KeyFinding::OtherKey),
         DeskFault::HasKey => Some(KeyFinding::HasKey),
+        DeskFault::Refused {
+            refusal: ClientRefusal::NotAllowed,
+        } => Some(KeyFinding::NotAllowed),
         DeskFault::KeyFile(KeyFileFault::NotThere) => Some(KeyFinding::NotThere),
         DeskFault::KeyFile(KeyFileFault::Unreadable) => Some(KeyFinding::Unreadable),
         DeskFault::KeyFile(KeyFileFault::Open) => Some(KeyFinding::Open),

@@ -1,9 +1,10 @@
--- What is delivered stands in records that fit under the hall's key.
+-- What is delivered stands in records that fit under one of the hall's keys.
 use Rattle.std.proofs.Common.{◌≡◌, refl, sym, ap, subst, ◌∙◌, ℕ, List, [], ◌∷◌, ◌++◌, Option, None}
-use Rattle.std.proofs.Common.{Some, Bool, append_assoc}
-use Rattle.std.specs.Prelude.{IsTrue}
+use Rattle.std.proofs.Common.{Some, Bool, true, false, append_assoc, inl, inr}
+use Rattle.std.specs.Prelude.{IsTrue, if◌then◌else◌, option_map}
 use Rattle.std.proofs.lemmas.List.{append-nil}
 use Rattle.answers.specs.declared.desk.Desk.{Ghosts as DeskOf}
+use Rattle.seal.specs.declared.channel.Channel.{Channel}
 use Rattle.seal.specs.Records.{preface_of, records}
 use Rattle.sealed.specs.declared.callers.Caller.{Caller}
 use Rattle.sealed.specs.declared.callers.Caller.TheVariants.{Anyone, Passer}
@@ -14,6 +15,8 @@ use Rattle.sealed.specs.declared.callers.Holder.TheVariants.{Hall, Entry}
 use Rattle.sealed.specs.declared.callers.Locks.{Locks}
 use Rattle.sealed.specs.Admitting.{Admits, IsSealed, comes_under}
 use Rattle.sealed.specs.Calls.{CalledOf, caller_of}
+use Rattle.sealed.specs.Fronts.{IsPrefaced}
+use Rattle.sealed.specs.Trials.{Hands}
 use Rattle.sealed.proofs.Admitted.{admits}
 use Rattle.serving.specs.Connection.{Begun}
 use Rattle.serving.specs.Asking.{request}
@@ -33,7 +36,7 @@ use Rattle.wire.specs.declared.values.Version.{Version}
 use Rattle.guarded.specs.Guarding.{Guarding}
 use Rattle.guarded.specs.GuardTurns.{Follow, Place, with_talk, within}
 use Rattle.guarded.specs.GuardTurns as GuardTurns
-use Rattle.guarded.specs.GuardLaw.{DeliversUnderHall, IsUnderHall, delivers}
+use Rattle.guarded.specs.GuardLaw.{DeliversUnderHall, IsHallKey, IsUnderHall, delivers}
 use Rattle.guarded.specs.Permitting.{permission_of}
 use Rattle.guarded.proofs.Holding.{BeginsAt, begins_at, holds_first, turns_hold}
 
@@ -97,11 +100,53 @@ pub delivers_alike : (differs : Option Difference) (r : Request)
     → IsTrue (delivers (withheld differs r)) → IsTrue (delivers r)
 delivers_alike differs r h = subst (λ (b : Bool). IsTrue b) (delivers_still differs r) h
 
--- ---- what is let in under the hall's key
+-- ---- what is let in under the hall's keys
+
+-- what is let in under one of the hall's keys
+under_key : (locks : Locks) (server front handed : List ℕ) (earlier : List Begun) (one : Begun)
+    (key client stream : List ℕ) → IsHallKey locks key → IsPrefaced front client stream
+    → Hands (comes_under client server key) stream handed → BeginsAt handed earlier one
+    → IsUnderHall locks server front earlier one
+under_key locks server front handed earlier one key client stream halls prefaced h at =
+    let hands = h.1 in
+    record {
+      key = key;
+      halls = halls;
+      client = client;
+      bodies = hands.0;
+      rest = hands.1.rest;
+      more = at.more;
+      sixteen = prefaced.sixteen;
+      whole =
+          prefaced.whole ∙ ap (λ (s : List ℕ). preface_of client ++ s) hands.1.whole;
+      each = hands.1.each;
+      inside = sym hands.2 ∙ at.whole;
+    }
+
+-- the second key, where it is there
+second_key : (entry : Option (List ℕ)) (client server : List ℕ) (e : Channel)
+    → option_map (comes_under client server) entry ≡ Some e
+    → (key : List ℕ) × (entry ≡ Some key) × (e ≡ comes_under client server key)
+second_key None client server e is = absurd cc
+second_key (Some key) client server e is = (key, refl, cc)
+
+-- and where it was the hall's
+under_second : (old : Bool) (locks : Locks) (server front handed : List ℕ) (earlier : List Begun)
+    (one : Begun) (r : Request) → locks.old ≡ old
+    → IsTrue (delivers (permitted (if old then permission.All else permission.Entries) r))
+    → IsSealed locks server front handed (Some Entry) → BeginsAt handed earlier one
+    → IsUnderHall locks server front earlier one
+under_second false locks server front handed earlier one r is may sealed at =
+    absurd (no_entries r may)
+under_second true locks server front handed earlier one r is may sealed at =
+    let found = second_key locks.entry sealed.client server sealed.hands.0 sealed.hands.1 in
+    let hands = subst (λ (c : Channel). Hands c sealed.stream handed) found.2 sealed.hands.3 in
+    under_key locks server front handed earlier one found.0 sealed.client sealed.stream
+    (inr (is, found.1)) sealed.prefaced hands at
 
 pub under_hall : (who : Option Caller) (locks : Locks) (server front handed : List ℕ)
     (earlier : List Begun) (one : Begun) (r : Request)
-    → IsTrue (delivers (permitted (permission_of who) r))
+    → IsTrue (delivers (permitted (permission_of (Locked locks) who) r))
     → Admits (Locked locks) server front handed who → BeginsAt handed earlier one
     → IsUnderHall locks server front earlier one
 under_hall None locks server front handed earlier one r may h at = absurd (no_sheets r may)
@@ -110,33 +155,28 @@ under_hall (Some Anyone) locks server front handed earlier one r may h at =
 under_hall (Some Passer) locks server front handed earlier one r may h at =
     absurd (no_sheets r may)
 under_hall (Some (caller.Holder Entry)) locks server front handed earlier one r may h at =
-    absurd (no_entries r may)
+    let two : Locked locks ≡ Locked h.0 = h.1 in
+    let same : h.0 ≡ locks = cc in
+    let sealed =
+    subst (λ (l : Locks). IsSealed l server front handed (Some Entry)) same h.2 in
+    under_second locks.old locks server front handed earlier one r refl may sealed at
 under_hall (Some (caller.Holder Hall)) locks server front handed earlier one r may h at =
     let two : Locked locks ≡ Locked h.0 = h.1 in
     let same : h.0 ≡ locks = cc in
     let sealed =
     subst (λ (l : Locks). IsSealed l server front handed (Some Hall)) same h.2 in
-    let hands = sealed.hands.1.1 in
-    record {
-      client = sealed.client;
-      bodies = hands.0;
-      rest = hands.1.rest;
-      more = at.more;
-      sixteen = sealed.prefaced.sixteen;
-      whole =
-          sealed.prefaced.whole
-          ∙ ap (λ (s : List ℕ). preface_of sealed.client ++ s) hands.1.whole;
-      each = hands.1.each;
-      inside = sym hands.2 ∙ at.whole;
-    }
+    under_key locks server front handed earlier one locks.hall sealed.client sealed.stream
+    (inl refl) sealed.prefaced sealed.hands.1 at
 
 -- more came behind
 pub under_more : (locks : Locks) (server front later : List ℕ) (earlier : List Begun) (one : Begun)
     → IsUnderHall locks server front earlier one
     → IsUnderHall locks server (front ++ later) earlier one
 under_more locks server front later earlier one h =
-    let sealed = records (comes_under h.client server locks.hall) 0 h.bodies in
+    let sealed = records (comes_under h.client server h.key) 0 h.bodies in
     record {
+      key = h.key;
+      halls = h.halls;
       client = h.client;
       bodies = h.bodies;
       rest = h.rest ++ later;
@@ -180,8 +220,9 @@ delivers_under_hall d home wire locks server earlier later one a b is follow may
     let at =
     begins_at d home wire (within a) (within m) (with_talk p.1 turn.1) h.inner one
     (ap (λ (g : Guarding). g.talk) is) h.follow turn.2 in
-    let who_may : one.may ≡ permission_of who =
-    turn.3 ∙ ap (λ (e : CalledOf). permission_of (caller_of e)) now.0 in
+    let who_may : one.may ≡ permission_of doors who =
+    turn.3 ∙ ap (λ (e : CalledOf). permission_of e.doors (caller_of e)) now.0
+    ∙ ap (λ (o : Doors). permission_of o who) k.doors_are in
     let allowed =
     subst (λ (q : Permission). IsTrue (delivers (permitted q (request home one.frame)))) who_may
     (delivers_alike one.differs (permitted one.may (request home one.frame)) may) in

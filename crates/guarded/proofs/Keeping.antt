@@ -53,7 +53,7 @@ pub record Keeps (doors : Doors) (server : List ℕ) (g : Guarding)
   pub body : List ℕ
   pub given : HasSent side answers body
   pub sends : sent ++ g.output ≡ opening_of side ++ body
-  pub allowed : AreAllowed (caller_of side) begun
+  pub allowed : AreAllowed doors (caller_of side) begun
   pub whole : g.starved ≡ false → (g.called ≡ side) × (later ≡ [])
   pub idle : g.starved ≡ false → handed ≡ [] → IsIdle g.talk
 
@@ -205,11 +205,11 @@ goes_taken doors server t a b is quiet none nothing parts =
 -- ---- a piece came
 
 -- whoever was known to call does so still
-allowed_still : (who now : Option Caller) (begun : List Begun) → (IsSome who → now ≡ who)
-    → AreAllowed who begun → AreAllowed now begun
-allowed_still who now [] same h = tt
-allowed_still who now (one ∷ begun) same h =
-    subst (λ (w : Option Caller). AreAllowed w (one ∷ begun)) (sym (same h.0.known)) h
+allowed_still : (doors : Doors) (who now : Option Caller) (begun : List Begun)
+    → (IsSome who → now ≡ who) → AreAllowed doors who begun → AreAllowed doors now begun
+allowed_still doors who now [] same h = tt
+allowed_still doors who now (one ∷ begun) same h =
+    subst (λ (w : Option Caller). AreAllowed doors w (one ∷ begun)) (sym (same h.0.known)) h
 
 came_keeps : (doors : Doors) (server : List ℕ) (g new : Guarding)
     (came handed answers sent piece more : List ℕ) (begun : List Begun) → WantsRead g
@@ -245,8 +245,8 @@ came_keeps doors server g new came handed answers sent piece more begun wants le
           ∙ sym (greeted c d h.front handed piece (handed ++ more) answers h.body wants.hears
           lets.same was given stands);
       allowed =
-          allowed_still (caller_of c) (caller_of d) begun lets.stays
-          (subst (λ (e : CalledOf). AreAllowed (caller_of e) begun) (sym now.0) h.allowed);
+          allowed_still doors (caller_of c) (caller_of d) begun lets.stays
+          (subst (λ (e : CalledOf). AreAllowed doors (caller_of e) begun) (sym now.0) h.allowed);
       whole = λ _. (refl, refl);
       idle = λ _. λ none.
           idle_came new.talk.end more g.talk new.talk
@@ -338,36 +338,42 @@ not_idle talk served frame next idle =
     let bad : [] ≡ frame ∷ served.waiting = sym idle.waiting ∙ next.next in absurd cc
 
 -- this frame is begun as one of whoever calls
-one_allowed : (g : Guarding) (side : CalledOf) (served : Talk) (one : Begun)
-    (front handed : List ℕ) → g.called ≡ side → Turns.BeginsNext g.talk served one.frame
-    → (handed ≡ [] → IsIdle g.talk) → one.may ≡ permission_of (caller_of g.called)
-    → Stands side front handed → IsAllowed (caller_of side) one
-one_allowed g side served one front handed is next idle may stands = record {
+one_allowed : (doors : Doors) (g : Guarding) (side : CalledOf) (served : Talk) (one : Begun)
+    (front handed : List ℕ) → g.called ≡ side → side.doors ≡ doors
+    → Turns.BeginsNext g.talk served one.frame → (handed ≡ [] → IsIdle g.talk)
+    → one.may ≡ permission_of g.called.doors (caller_of g.called) → Stands side front handed
+    → IsAllowed doors (caller_of side) one
+one_allowed doors g side served one front handed is are next idle may stands = record {
   known =
       let_somebody (caller_of side) side.doors side.random front handed
       (admits side front handed stands)
       (λ (none : handed ≡ []). not_idle g.talk served one.frame next (idle none));
-  may = may ∙ ap (λ (e : CalledOf). permission_of (caller_of e)) is;
+  may =
+      may ∙ ap (λ (e : CalledOf). permission_of e.doors (caller_of e)) is
+      ∙ ap (λ (d : Doors). permission_of d (caller_of side)) are;
 }
 
-all_and_one : (who : Option Caller) (begun : List Begun) (one : Begun) → AreAllowed who begun
-    → IsAllowed who one → AreAllowed who (begun ++ one ∷ [])
-all_and_one who [] one h last = (last, tt)
-all_and_one who (b ∷ begun) one h last = (h.0, all_and_one who begun one h.1 last)
+all_and_one : (doors : Doors) (who : Option Caller) (begun : List Begun) (one : Begun)
+    → AreAllowed doors who begun → IsAllowed doors who one
+    → AreAllowed doors who (begun ++ one ∷ [])
+all_and_one doors who [] one h last = (last, tt)
+all_and_one doors who (b ∷ begun) one h last = (h.0, all_and_one doors who begun one h.1 last)
 
-allowed_more : (g : Guarding) (side : CalledOf) (served : Talk) (one : Begun)
-    (front handed : List ℕ) (begun : List Begun) → g.called ≡ side
+allowed_more : (doors : Doors) (g : Guarding) (side : CalledOf) (served : Talk) (one : Begun)
+    (front handed : List ℕ) (begun : List Begun) → g.called ≡ side → side.doors ≡ doors
     → Turns.BeginsNext g.talk served one.frame → (handed ≡ [] → IsIdle g.talk)
-    → one.may ≡ permission_of (caller_of g.called) → Stands side front handed
-    → AreAllowed (caller_of side) begun → AreAllowed (caller_of side) (begun ++ one ∷ [])
-allowed_more g side served one front handed begun is next idle may stands h =
-    all_and_one (caller_of side) begun one h
-    (one_allowed g side served one front handed is next idle may stands)
+    → one.may ≡ permission_of g.called.doors (caller_of g.called) → Stands side front handed
+    → AreAllowed doors (caller_of side) begun
+    → AreAllowed doors (caller_of side) (begun ++ one ∷ [])
+allowed_more doors g side served one front handed begun is are next idle may stands h =
+    all_and_one doors (caller_of side) begun one h
+    (one_allowed doors g side served one front handed is are next idle may stands)
 
 -- its answer was lost
 lost_keeps : (doors : Doors) (server : List ℕ) (g new : Guarding) (served : Talk) (one : Begun)
     (came handed answers sent : List ℕ) (begun : List Begun) → IsFree g
-    → Turns.BeginsNext g.talk served one.frame → one.may ≡ permission_of (caller_of g.called)
+    → Turns.BeginsNext g.talk served one.frame
+    → one.may ≡ permission_of g.called.doors (caller_of g.called)
     → Loses served g new → Keeps doors server g came handed answers sent begun
     → Keeps doors server new came handed answers sent (begun ++ one ∷ [])
 lost_keeps doors server g new served one came handed answers sent begun free next may loses h =
@@ -383,8 +389,8 @@ lost_keeps doors server g new served one came handed answers sent begun free nex
       given = h.given;
       sends = ap (λ (s : List ℕ). sent ++ s) loses.output ∙ h.sends;
       allowed =
-          allowed_more g h.side served one h.front handed begun (h.whole free.fed).0 next
-          (h.idle free.fed) may h.stands h.allowed;
+          allowed_more doors g h.side served one h.front handed begun (h.whole free.fed).0
+          h.doors_are next (h.idle free.fed) may h.stands h.allowed;
       whole = λ no. absurd (no_truth new.starved loses.starved no);
       idle = λ no. absurd (no_truth new.starved loses.starved no);
     }
@@ -392,7 +398,8 @@ lost_keeps doors server g new served one came handed answers sent begun free nex
 -- or it was sealed
 sealed_keeps : (doors : Doors) (server : List ℕ) (g new : Guarding) (served : Talk) (one : Begun)
     (came handed answers sent : List ℕ) (begun : List Begun) → IsFree g
-    → Turns.BeginsNext g.talk served one.frame → one.may ≡ permission_of (caller_of g.called)
+    → Turns.BeginsNext g.talk served one.frame
+    → one.may ≡ permission_of g.called.doors (caller_of g.called)
     → Seals served g new → Keeps doors server g came handed answers sent begun
     → Keeps doors server new came handed (answers ++ served.pending) sent (begun ++ one ∷ [])
 sealed_keeps doors server g new served one came handed answers sent begun free next may seals h =
@@ -426,10 +433,10 @@ sealed_keeps doors server g new served one came handed answers sent begun free n
           (empty ∙ ap (λ (s : List ℕ). s ++ h.body) (sym same.opening))
           ∙ append_assoc (opening_of e) h.body out;
       allowed =
-          subst (λ (w : Option Caller). AreAllowed w (begun ++ one ∷ []))
+          subst (λ (w : Option Caller). AreAllowed doors w (begun ++ one ∷ []))
           (ap (λ (z : CalledOf). caller_of z) (sym now.0) ∙ sym same.caller)
-          (allowed_more g h.side served one h.front handed begun now.0 next (h.idle free.fed) may
-          h.stands h.allowed);
+          (allowed_more doors g h.side served one h.front handed begun now.0 h.doors_are next
+          (h.idle free.fed) may h.stands h.allowed);
       whole = λ _. (refl, refl);
       idle = λ _. λ none. absurd (full none);
     }
@@ -437,7 +444,8 @@ sealed_keeps doors server g new served one came handed answers sent begun free n
 goes_lost : {V : Type 0} {way : Way V} (doors : Doors) (server : List ℕ) (one : Begun)
     (served : Talk) (a b : Place way) → IsFree a.guard
     → TurnLaw.Turns (Began one) (within a) (with_talk b served)
-    → one.may ≡ permission_of (caller_of a.guard.called) → Loses served a.guard b.guard
+    → one.may ≡ permission_of a.guard.called.doors (caller_of a.guard.called)
+    → Loses served a.guard b.guard
     → GoesSome doors server (Began one) a b
 goes_lost doors server one served a b free turn may loses =
     let here = subst (λ (t : Talk). TurnLaw.Turns (Began one) (within a) (with_talk b t))
@@ -471,7 +479,8 @@ answer_taken b served is =
 goes_sealed : {V : Type 0} {way : Way V} (doors : Doors) (server : List ℕ) (one : Begun)
     (served : Talk) (a b : Place way) → IsFree a.guard
     → TurnLaw.Turns (Began one) (within a) (with_talk b served)
-    → one.may ≡ permission_of (caller_of a.guard.called) → Seals served a.guard b.guard
+    → one.may ≡ permission_of a.guard.called.doors (caller_of a.guard.called)
+    → Seals served a.guard b.guard
     → GoesSome doors server (Began one) a b
 goes_sealed doors server one served a b free turn may seals = (
   Began one ∷ Took served.pending ∷ [],

@@ -47,12 +47,12 @@ IsGreeting server front None first =
     (IsShort front × (first ≡ [])) ⊎ (first ≡ preface_of server)
 
 -- it is known who calls, and a frame is served as far as they may ask
-pub record IsAllowed (who : Option Caller) (one : Begun) : Type 0 where
+pub record IsAllowed (doors : Doors) (who : Option Caller) (one : Begun) : Type 0 where
   pub known : IsSome who
-  pub may : one.may ≡ permission_of who
+  pub may : one.may ≡ permission_of doors who
 
-abbrev pub AreAllowed : Option Caller → List Begun → Type 0
-AreAllowed who begun = AllByRecursion (λ (one : Begun). IsAllowed who one) begun
+abbrev pub AreAllowed : Doors → Option Caller → List Begun → Type 0
+AreAllowed doors who begun = AllByRecursion (λ (one : Begun). IsAllowed doors who one) begun
 
 -- What came, as far as it was read, was let in as the doors admit it. What was sent is the desk's
 -- preface, where there is one, and then the answers, sealed as the stream of whoever calls. Each
@@ -68,7 +68,7 @@ pub record IsGuardedStream (doors : Doors) (server : List ℕ) (g : Guarding)
   pub parts : sent ++ g.output ≡ first ++ body
   pub greets : IsGreeting server front who first
   pub sends : IsSent doors server front who answers body
-  pub allowed : AreAllowed who begun
+  pub allowed : AreAllowed doors who begun
 
 -- The stream is so, and the frames begun stand first in what was let in, and are served.
 pub record IsGuarded {V : Type 0} {way : Way V} (home : Home) (doors : Doors) (server : List ℕ)
@@ -106,23 +106,29 @@ delivers Ignored = false
 delivers Denied = false
 delivers Withheld = false
 
--- What came is a client's preface, records whose tags fit under the hall's key, numbered from 0,
--- and a rest; and in the bodies of these records stands this frame, after those before it.
+-- one of the hall's keys: its own, or the one that was its own until it is changed at each desk
+abbrev pub IsHallKey : Locks → List ℕ → Type 0
+IsHallKey locks key = (key ≡ locks.hall) ⊎ ((locks.old ≡ true) × (locks.entry ≡ Some key))
+
+-- What came is a client's preface, records whose tags fit under one of the hall's keys, numbered
+-- from 0, and a rest; and in the bodies of these records stands this frame, after those before it.
 pub record IsUnderHall (locks : Locks) (server came : List ℕ) (earlier : List Begun) (one : Begun)
     : Type 0 where
+  pub key : List ℕ
+  pub halls : IsHallKey locks key
   pub client : List ℕ
   pub bodies : List (List ℕ)
   pub rest : List ℕ
   pub more : List ℕ
   pub sixteen : length client ≡ 16
   pub whole : came
-      ≡ preface_of client ++ (records (comes_under client server locks.hall) 0 bodies ++ rest)
+      ≡ preface_of client ++ (records (comes_under client server key) 0 bodies ++ rest)
   pub each : AreBodies 0 bodies
   pub inside : joined bodies
       ≡ flat_map spelling (frames_of earlier) ++ (spelling one.frame ++ more)
 
--- At a desk with a key, each frame that delivers a message stands in records that fit under the
--- hall's key, of what came before the frame was begun.
+-- At a desk with a key, each frame that delivers a message stands in records that fit under one of
+-- the hall's keys, of what came before the frame was begun.
 abbrev pub DeliversUnderHall : {V : Type 0} → DeskOf V → Type 0
 DeliversUnderHall d =
     (home : Home) (wire : Version) (locks : Locks) (server : List ℕ) (earlier later : List Turn)

@@ -35,7 +35,7 @@ Turns (Came piece) a b = WantsRead a.guard × Receives piece a.guard b.guard × 
 Turns (Began one) a b =
     IsFree a.guard × (served : Talk)
     × TurnLaw.Turns (Began one) (within a) (with_talk b served)
-    × (one.may ≡ permission_of (caller_of a.guard.called))
+    × (one.may ≡ permission_of a.guard.called.doors (caller_of a.guard.called))
     × Answers served a.guard b.guard
 Turns Rested a b = Rests a.guard b.guard × IsQuiet a b
 Turns (Took bytes) a b =

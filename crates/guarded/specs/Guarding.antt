@@ -183,8 +183,8 @@ abbrev pub Advances : {V U : Type 0} → DeskOf V → PeersOf U → Option Diffe
     → Moment V U → Moment V U → Type 0
 Advances d p differs true a b =
     IsFree a.guard × (served : Talk)
-    × Turns.Advances d p (permission_of (caller_of a.guard.called)) differs true
-    (within_at a a.guard.talk) (within_at b served)
+    × Turns.Advances d p (permission_of a.guard.called.doors (caller_of a.guard.called)) differs
+    true (within_at a a.guard.talk) (within_at b served)
     × Answers served a.guard b.guard
 Advances d p differs false a b = (b.node ≡ a.node) × (b.peers ≡ a.peers) × Rests a.guard b.guard
 

@@ -226,9 +226,9 @@ impl Guard {
 
     /// What whoever calls may ask of the desk.
     pub fn permission(&self) -> Permission
-        ensures { result ≡ permission_of (caller_of self.now.called) }
+        ensures { result ≡ permission_of self.now.called.doors (caller_of self.now.called) }
     {
-        permission_of(self.called.caller())
+        permission_of(self.called.doors(), self.called.caller())
     }
 
     /// Has the desk's preface sent. False: memory was refused.

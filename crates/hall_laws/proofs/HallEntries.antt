@@ -11,7 +11,6 @@ use Rattle.learner.specs.declared.event.DeskEvent.TheVariants.{Submit, Start, Ti
 use Rattle.replica.specs.declared.roles.fault.NodeFault.{NodeFault}
 use Rattle.serving.specs.Asking.{request, is_ours, ours, strange}
 use Rattle.serving.specs.Connection.{asked, Begun, serve_frame}
-use Rattle.serving.specs.Differing.{withheld}
 use Rattle.serving.specs.Permissions.{permitted}
 use Rattle.serving.specs.Making.{Call, calls_of}
 use Rattle.serving.specs.Nodes.{Fate}

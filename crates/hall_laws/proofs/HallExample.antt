@@ -41,16 +41,16 @@ use Rattle.hall_laws.specs.HallRuns.{connections, desk_of}
 use Rattle.hall_laws.proofs.HallFrames.{came_whole, talk_with}
 use Rattle.hall_laws.proofs.HallTurns.{with_station, takes_turn, ticks_itself}
 
-abbrev first_node : {K : Type 0} → K → NodeValue K
+abbrev pub first_node : {K : Type 0} → K → NodeValue K
 first_node keeper =
     record { keeper = keeper; desk = first_desk; is_down = false; told = nothing_told }
 
 -- what is seen of it
-abbrev first_seen : Seen
+abbrev pub first_seen : Seen
 first_seen = record { desk = first_desk; is_down = false; told = nothing_told }
 
 -- a call that changes nothing
-still : {K : Type 0} (k : Ghosts K) (keeper : K) (d : ℕ) (event : DeskEvent) (ms : List Message)
+pub still : {K : Type 0} (k : Ghosts K) (keeper : K) (d : ℕ) (event : DeskEvent) (ms : List Message)
     → k.home_of keeper ≡ third_home d → HoldsDesk k keeper first_desk
     → step 3 d first_desk event ≡ Ok (record { desk = first_desk; messages = ms })
     → told_by (third_home d) event nothing_told ≡ nothing_told
@@ -86,21 +86,21 @@ still {K} k keeper d event ms home holds steps told range fits = record {
 
 -- ---- turns
 
-abbrev talk_of : Home → List Frame → ℕ → List ℕ → Talk
+abbrev pub talk_of : Home → List Frame → ℕ → List ℕ → Talk
 talk_of home waiting frames pending = talk_with home Two waiting frames pending
 
-abbrev place_in : {K : Type 0} → (k : Ghosts K) → K → Talk → Place (speaking (Handles k) Two)
+abbrev pub place_in : {K : Type 0} → (k : Ghosts K) → K → Talk → Place (speaking (Handles k) Two)
 place_in k keeper talk = record {
   talk = talk;
   seen = seen_of (first_node keeper);
   outside = outside_of (speaking (Handles k) Two) (first_node keeper) None;
 }
 
-abbrev as_begun : Frame → Begun
+abbrev pub as_begun : Frame → Begun
 as_begun f = record { frame = f; may = All; differs = None; fates = [] }
 
 -- what the frame is answered
-abbrev answer_to : Home → Frame → List ℕ
+abbrev pub answer_to : Home → Frame → List ℕ
 answer_to home f =
     answer_bytes (serve_frame home first_seen (as_begun f)).answers
 
@@ -131,7 +131,7 @@ ticks k keeper handles = (
   ),
 )
 
-hears : {K : Type 0} (k : Ghosts K) (keeper : K)
+pub hears : {K : Type 0} (k : Ghosts K) (keeper : K)
     → Handles k (first_node keeper) (Deliver (says 2)) (Ok []) (first_node keeper)
     → Turns (begun_as said_frame)
     (place_in k keeper (talk_of (third_home 2) (said_frame ∷ []) 0 []))
@@ -163,12 +163,12 @@ hears k keeper handles = (
 abbrev hear_acts : List Act
 hear_acts = Called (Deliver (says 2)) (Ok []) ∷ []
 
-ticks_so : tick_acts
+pub ticks_so : tick_acts
     ≡ (serve_frame (third_home 1) first_seen (as_begun tick_frame)).acts
 unfolding serve_frame call settle_by start_if_grown take
 ticks_so = refl
 
-hears_so : hear_acts
+pub hears_so : hear_acts
     ≡ (serve_frame (third_home 2) first_seen (as_begun said_frame)).acts
 unfolding serve_frame call settle_by start_if_grown tell answer_out run_of entries_told
 hears_so = refl
@@ -220,10 +220,10 @@ only_zero a b c j other =
 only_one : (a b : Talk) (j : ℕ) → j ≢ 0 → (if eqb j 0 then a else b) ≡ b
 only_one a b j other = ap (λ (t : Bool). if t then a else b) (ne_eqb j 0 other)
 
-one_of_three : IsDesk 3 1
+pub one_of_three : IsDesk 3 1
 one_of_three = (omega arith, omega arith)
 
-two_of_three : IsDesk 3 2
+pub two_of_three : IsDesk 3 2
 two_of_three = (omega arith, omega arith)
 
 tick_is_frame : IsFrame tick_frame
@@ -233,7 +233,7 @@ tick_is_frame = record {
   body = tt;
 }
 
-said_is_frame : IsFrame said_frame
+pub said_is_frame : IsFrame said_frame
 said_is_frame = record {
   hall = omega arith;
   goes = ((omega arith, omega arith), (omega arith, omega arith));

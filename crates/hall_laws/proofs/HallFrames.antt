@@ -98,7 +98,7 @@ begun_whole way home wire f old new before after stays made node = (
 abbrev pub talks_with : (ℕ → Talk) → ℕ → Talk → ℕ → Talk
 talks_with talks number talk j = if eqb j number then talk else talks j
 
-talk_here : (talks : ℕ → Talk) (number : ℕ) (talk : Talk)
+pub talk_here : (talks : ℕ → Talk) (number : ℕ) (talk : Talk)
     → talks_with talks number talk number ≡ talk
 talk_here talks number talk =
     ap (λ (t : Bool). if t then talk else talks number) (eq-eqb number number refl)

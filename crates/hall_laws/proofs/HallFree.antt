@@ -58,7 +58,7 @@ free_here k n (TickedAt d one acts) h g step home free =
 free_here k n (OpenedAt d) h g step home free = (0, λ j more. step.opened.talks j)
 free_here k n (CutAt d one acts) h g step home free = (0, λ j more. step.opened.talks j)
 
-only_of : {K : Type 0} (k : Ghosts K) (n : ℕ) (event : HallEvent) (h g : Hall K)
+pub only_of : {K : Type 0} (k : Ghosts K) (n : ℕ) (event : HallEvent) (h g : Hall K)
     → HallGoes k n event h g → OnlyAt (desk_of event) (acts_of event) h g
 only_of k n (TurnAt d t acts) h g step = step.only
 only_of k n (TickedAt d one acts) h g step = step.only
@@ -89,7 +89,7 @@ pub record Stands {K : Type 0} (k : Ghosts K) (n : ℕ) (h : Hall K) : Type 0 wh
   pub matches : Matches k n h world
   pub free : (d : ℕ) → IsDesk n d → IsFree k (h.desks d)
 
-stands_after : {K : Type 0} (k : Ghosts K) → CallsAreHappenings k → (n : ℕ) (h : Hall K)
+pub stands_after : {K : Type 0} (k : Ghosts K) → CallsAreHappenings k → (n : ℕ) (h : Hall K)
     (ss : List (HallStep K)) → Stands k n h → AreSteps k n h ss → Stands k n (hall_after h ss)
 stands_after k law n h [] s steps = s
 stands_after {K} k law n h (x ∷ ss) s steps =

@@ -7,10 +7,8 @@ use Rattle.acceptor.specs.declared.message.Body.{Body}
 use Rattle.acceptor.specs.declared.message.Body.TheVariants.{Prepare, Promise, Accept, Accepted}
 use Rattle.acceptor.specs.declared.message.Body.TheVariants.{Nack, Behind, Decided}
 use Rattle.acceptor.specs.declared.message.Message.{Message}
-use Rattle.answers.specs.Seen.{Seen}
 use Rattle.learner.specs.Chosen.{Has, IsMajority}
 use Rattle.learner.specs.Contents.{BodyHolds}
-use Rattle.learner.specs.Ranges.{IsReal}
 use Rattle.learner.specs.Steps.{IsDesk}
 use Rattle.learner.specs.Worlds.{nth_sent}
 use Rattle.learner.specs.declared.event.DeskEvent.TheVariants.{Tick}
@@ -20,41 +18,36 @@ use Rattle.replica.specs.Nodes.{NodeValue}
 use Rattle.serving.specs.Adding.{Push, Hands}
 use Rattle.serving.specs.Asking.{ours, request}
 use Rattle.serving.specs.Making.{calls_of}
-use Rattle.serving.specs.Serving.{Act, begun, framed, served, what_of, call, settle_by}
-use Rattle.serving.specs.Serving.{start_if_grown, enter}
-use Rattle.serving.specs.Connection.{serve_frame, close_of}
+use Rattle.serving.specs.Serving.{Act, begun, framed, served, what_of}
 use Rattle.serving.specs.TurnLaw.{Came, Began}
 use Rattle.serving.specs.declared.request.Request.{Request}
 use Rattle.serving.specs.declared.request.Request.TheVariants.{Entered, Ticked}
 use Rattle.store.specs.declared.home.Home.{Home}
-use Rattle.wire.specs.Ranges.{IsFrame}
 use Rattle.wire.specs.Spelling.{spelling}
 use Rattle.wire.specs.declared.frame.Frame.{Frame}
 use Rattle.wire.specs.declared.values.Version.{Version}
 use Rattle.progress.specs.Progress.{IsAmong}
-use Rattle.hall_laws.specs.HallExample.{third_home}
-use Rattle.hall_laws.specs.HallGoing.{acts_for, as_it_goes, comes_over, ticked, IsServedTo, GoesOn}
+use Rattle.hall_laws.specs.HallGoing.{acts_for, as_it_goes, comes_over, ticked, IsServedTo}
 use Rattle.hall_laws.specs.HallRuns.{Station, Hall, home_at, seen_of, TurnAt}
 use Rattle.hall_laws.specs.HallRuns.{HallStep, HallGoes, AreSteps, IsHallRun, IsTakenIn, hall_after}
 use Rattle.hall_laws.specs.HallServing.{OwnTurn, DeskTicks, MessageComes, frame_of, asked_of}
 use Rattle.hall_laws.specs.HallServing.{events_of_message, events_of_turn, IsOwn, AreOwnTurns}
 use Rattle.hall_laws.specs.HallServing.{IsOwnRequest}
-use Rattle.hall_laws.specs.Gathering.{first_hall, one_entry, submit_frame, gathering_desk}
-use Rattle.hall_laws.specs.Gathering.{GathersAndServes}
+use Rattle.hall_laws.specs.Tangle.{first_hall}
 use Rattle.hall_laws.specs.Memory.{Memory, memory}
 use Rattle.hall_laws.specs.Stops.{CallsAreHappenings}
+use Rattle.hall_laws.proofs.Contents.{IsMade}
 use Rattle.hall_laws.proofs.HallEntries.{entered_only}
-use Rattle.hall_laws.proofs.HallComing.{frames_go_on}
 use Rattle.hall_laws.proofs.HallFree.{stands_at_end, after_both, Stands}
 use Rattle.hall_laws.proofs.HallSound.{Sound, SoundAt, sound_turn, sound_tick}
 use Rattle.hall_laws.proofs.HallSteps.{StepComes, step_comes}
-use Rattle.hall_laws.proofs.MemoryServes.{Led, NoDown, led_enter, led_take, led_tell, led_learn}
+use Rattle.hall_laws.proofs.MemoryServes.{Led, NoDown, led_take, led_tell, led_learn}
 use Rattle.hall_laws.proofs.ServedTurns.{home_of, message_asked}
 
 -- ---- a request
 
 -- before anything is done for it
-first_led : (home : Home) (x : NodeValue Memory) → SoundAt home x
+pub first_led : (home : Home) (x : NodeValue Memory) → SoundAt home x
     → Led home x (begun (seen_of x) [])
 first_led home x s = record {
   node = x;
@@ -70,7 +63,7 @@ first_led home x s = record {
 }
 
 led_body : (home : Home) → IsDesk home.desks home.desk → (x : NodeValue Memory) (from to : ℕ)
-    (body : Body) → BodyHolds IsInFrame (IsReal home.desks) body → SoundAt home x
+    (body : Body) → BodyHolds IsInFrame (IsMade home.desks) body → SoundAt home x
     → Led home x (served home (seen_of x) [] (ours from to (what_of body)))
 led_body home mine x from to (Prepare b pos) h s =
     led_take home mine x _ (begun (seen_of x) []) h (first_led home x s)
@@ -95,8 +88,8 @@ is_asked hall n d version m to =
     ∙ message_asked hall n d version m.from m.body
 
 -- a desk of the hall and a message to it
-led_message : (hall n d : ℕ) → IsDesk n d → (x : NodeValue Memory) (version : Version)
-    (m : Message) → BodyHolds IsInFrame (IsReal n) m.body → SoundAt (home_of hall n d) x
+pub led_message : (hall n d : ℕ) → IsDesk n d → (x : NodeValue Memory) (version : Version)
+    (m : Message) → BodyHolds IsInFrame (IsMade n) m.body → SoundAt (home_of hall n d) x
     → m.to ≡ d
     → Led (home_of hall n d) x
     (served (home_of hall n d) (seen_of x) [] (request (home_of hall n d) (framed version hall m)))
@@ -116,11 +109,11 @@ never_enters from to (Behind len) e is = absurd cc
 never_enters from to (Decided pos f) e is = absurd cc
 
 -- nobody is told what other desks are handed any more
-hands_none : (o : Option (List Push)) (more : List Push) → Hands o None more
+pub hands_none : (o : Option (List Push)) (more : List Push) → Hands o None more
 hands_none None more = tt
 hands_none (Some xs) more = tt
 
-served_to : (r : Request) (x : Station Memory)
+pub served_to : (r : Request) (x : Station Memory)
     → Led (home_at memory x) x.node (served (home_at memory x) (seen_of x.node) [] r)
     → (y : Station Memory) × IsServedTo memory r x y
 served_to r x l = (
@@ -144,12 +137,12 @@ steps_front : (n : ℕ) (h : Hall Memory) (ss more : List (HallStep Memory))
 steps_front n h [] more is = tt
 steps_front n h (s ∷ ss) more is = (is.0, steps_front n s.after ss more is.1)
 
-steps_back : (n : ℕ) (h : Hall Memory) (ss more : List (HallStep Memory))
+pub steps_back : (n : ℕ) (h : Hall Memory) (ss more : List (HallStep Memory))
     → AreSteps memory n h (ss ++ more) → AreSteps memory n (hall_after h ss) more
 steps_back n h [] more is = is
 steps_back n h (s ∷ ss) more is = steps_back n s.after ss more is.1
 
-front_run : (n : ℕ) (h : Hall Memory) (ss more : List (HallStep Memory))
+pub front_run : (n : ℕ) (h : Hall Memory) (ss more : List (HallStep Memory))
     → IsHallRun memory n h (ss ++ more) → IsHallRun memory n h ss
 front_run n h ss more is = record {
   first = is.first;
@@ -184,7 +177,7 @@ sound_ticked hall n d g (x ∷ []) mine s is steps =
 -- a message that was sent to a desk, and the two steps in which it comes
 sound_came : (hall n : ℕ) → CallsAreHappenings memory → (g : Hall Memory)
     (now : List (HallStep Memory)) (number : ℕ) (m : Message) → IsDesk n m.to
-    → Stands memory n g → Sound hall n g → BodyHolds IsInFrame (IsReal n) m.body
+    → Stands memory n g → Sound hall n g → BodyHolds IsInFrame (IsMade n) m.body
     → map (λ (s : HallStep Memory). s.event) now
     ≡ comes_over m.to number (frame_of memory g m)
     (acts_for memory (g.desks m.to) (asked_of memory (g.desks m.to) (frame_of memory g m)))
@@ -238,10 +231,10 @@ sound_came hall n law g (x ∷ y ∷ []) number m mine at s fits is steps =
         (request h (framed (g.desks m.from).wire h.hall m))).done)) own.at has)))
 
 -- what was sent fits
-sent_fits : (hall n : ℕ) (g : Hall Memory) (at : ℕ) (m : Message) → Sound hall n g
-    → nth_sent g.sent at ≡ Some m → BodyHolds IsInFrame (IsReal n) m.body
+pub sent_fits : (hall n : ℕ) (g : Hall Memory) (at : ℕ) (m : Message) → Sound hall n g
+    → nth_sent g.sent at ≡ Some m → BodyHolds IsInFrame (IsMade n) m.body
 sent_fits hall n g zero m s is = absurd cc
-sent_fits hall n g (suc k) m s is = message_at IsInFrame (IsReal n) g.sent k m s.sent is
+sent_fits hall n g (suc k) m s is = message_at IsInFrame (IsMade n) g.sent k m s.sent is
 
 sound_own : (hall n d : ℕ) → CallsAreHappenings memory → (desks : List ℕ) (start : ℕ)
     (g : Hall Memory) (t : OwnTurn) (now : List (HallStep Memory))
@@ -263,7 +256,7 @@ sound_own hall n d law desks start g (MessageComes number i) now major has at s 
 
 -- ---- turns, one after the other
 
-sound_along : (hall n d : ℕ) → CallsAreHappenings memory → (desks : List ℕ) (start : ℕ)
+pub sound_along : (hall n d : ℕ) → CallsAreHappenings memory → (desks : List ℕ) (start : ℕ)
     (h : Hall Memory) (ss : List (HallStep Memory)) (turns : List OwnTurn)
     (more : List (HallStep Memory)) → IsMajority n desks → Has desks d
     → Sound hall n (hall_after h ss) → IsHallRun memory n h (ss ++ more)
@@ -345,7 +338,7 @@ works_along_memory hall n d law desks h ss major has s turns more j r own is min
 -- ---- a frame of a client
 
 -- the two steps in which any frame comes
-sound_frame : (hall n d : ℕ) → CallsAreHappenings memory → (g : Hall Memory)
+pub sound_frame : (hall n d : ℕ) → CallsAreHappenings memory → (g : Hall Memory)
     (now : List (HallStep Memory)) (number : ℕ) (f : Frame) (acts : List Act)
     → Stands memory n g → Sound hall n g → NoDown (calls_of acts)
     → ((e : Entry) → IsTakenIn e (calls_of acts) → IsInFrame e)
@@ -369,13 +362,17 @@ sound_frame hall n d law g (x ∷ y ∷ []) number f acts at s quiet taken is st
     second : StepComes memory n x.event x.after at.world
     second = step_comes memory law n x.event g x.after at.world at.matches steps.0
 
--- ---- desk 1 gathers promises
+-- ---- three desks
 
-first_sound : (d : ℕ) → SoundAt (home_of 7 3 d) (first_hall.desks d).node
+pub first_sound : (d : ℕ) → SoundAt (home_of 7 3 d) (first_hall.desks d).node
 first_sound d = record {
   at = refl;
   works = record { up = refl; stored = refl; log = refl };
-  holds = record { promised = inl refl; vote = tt; log = tt; role = tt; queue = tt };
+  holds =
+      record {
+        contents = record { promised = inl refl; vote = tt; log = tt; role = tt; queue = tt };
+        numbers = record { tried = omega arith; seen = omega arith };
+      };
   range =
       record {
         log = omega arith;
@@ -385,10 +382,10 @@ first_sound d = record {
       };
 }
 
-sound_first : Sound 7 3 first_hall
+pub sound_first : Sound 7 3 first_hall
 sound_first = record { desks = λ d ours. first_sound d; sent = tt }
 
-first_run : IsHallRun memory 3 first_hall []
+pub first_run : IsHallRun memory 3 first_hall []
 first_run = record {
   first = λ d ours.
       record {
@@ -402,66 +399,3 @@ first_run = record {
   unsent = refl;
   taken = tt;
 }
-
-mine : IsDesk 3 1
-mine = (omega arith, omega arith)
-
-entry_fits : IsInFrame one_entry
-entry_fits = ((omega arith, omega arith), omega arith)
-
-led_first : Led (third_home 1) (first_hall.desks 1).node
-    (served (third_home 1) (seen_of (first_hall.desks 1).node) [] (Entered one_entry))
-led_first =
-    led_enter (third_home 1) mine (first_hall.desks 1).node one_entry
-    (begun (seen_of (first_hall.desks 1).node) []) entry_fits
-    (first_led (third_home 1) (first_hall.desks 1).node (first_sound 1))
-
-stays_open : close_of (third_home 1) (seen_of (first_hall.desks 1).node) (as_it_goes submit_frame)
-    ≡ None
-unfolding serve_frame close_of call settle_by start_if_grown enter
-stays_open = refl
-
-comes_to :
-    (served (third_home 1) (seen_of (first_hall.desks 1).node) [] (Entered one_entry)).seen.desk
-    ≡ gathering_desk
-unfolding call settle_by enter
-comes_to = refl
-
-frame_is : IsFrame submit_frame
-frame_is = record {
-  hall = omega arith;
-  goes = (refl, (omega arith, omega arith));
-  body = ((omega arith, omega arith), omega arith);
-}
-
-fits_as : (e : Entry) → Entered one_entry ≡ Entered e → IsInFrame e
-fits_as e is = let same : one_entry ≡ e = cc in subst (λ z. IsInFrame z) same entry_fits
-
-pub gathers : CallsAreHappenings memory → GathersAndServes
-gathers law = go (frames_go_on memory law 3 1 first_hall [] submit_frame y.0 first_run mine frame_is
-    tt stays_open y.1)
-  where
-    y : (z : Station Memory) × IsServedTo memory (Entered one_entry) (first_hall.desks 1) z
-    y = served_to (Entered one_entry) (first_hall.desks 1) led_first
-
-    acts : List Act
-    acts = acts_for memory (first_hall.desks 1) (Entered one_entry)
-
-    go : (number : ℕ) × GoesOn memory 3 1 first_hall [] (comes_over 1 number submit_frame acts) acts
-        y.0 → GathersAndServes
-    go over =
-        let goes = over.1 in
-        let sound = sound_frame 7 3 1 law first_hall goes.more over.0 submit_frame acts
-        (stands_at_end memory law 3 first_hall [] first_run) sound_first led_first.quiet
-        (λ e has. fits_as e (entered_only (third_home 1) (seen_of (first_hall.desks 1).node) []
-        (Entered one_entry) e has)) goes.happened goes.run.taken in
-        record {
-          steps = goes.more;
-          run = goes.run;
-          gathers =
-              ap (λ z. z.desk) goes.node ∙ ap (λ (z : Seen). z.desk) y.1.node ∙ comes_to;
-          up = λ j ours. let at = sound.desks j ours in at.works.up;
-          serves = λ desks major has turns more j r own is ours down asks.
-              works_along_memory 7 3 1 law desks first_hall goes.more major has sound turns more j r
-              own is ours asks;
-        }

@@ -6,8 +6,8 @@ use Rattle.std.proofs.lemmas.Bool.{eqb-true, eqb-false}
 use Rattle.std.specs.Prelude.{IsOk, OnErr}
 use Rattle.acceptor.specs.declared.entry.Entry.{Entry}
 use Rattle.acceptor.specs.declared.message.Message.{Message}
-use Rattle.learner.specs.Contents.{BodyHolds, DeskHolds, MessagesHold}
-use Rattle.learner.specs.Ranges.{IsReal, DeskIsInRange, DoneIsInRange}
+use Rattle.learner.specs.Contents.{BodyHolds, MessagesHold}
+use Rattle.learner.specs.Ranges.{DeskIsInRange, DoneIsInRange}
 use Rattle.learner.specs.Steps.{IsDesk, step}
 use Rattle.learner.specs.Worlds.{World, nth_sent}
 use Rattle.learner.specs.declared.event.DeskEvent.{DeskEvent}
@@ -31,7 +31,7 @@ use Rattle.hall_laws.specs.HallRuns.{TakesTurn, TicksItself, TurnWasSent}
 use Rattle.hall_laws.specs.Memory.{Memory, memory}
 use Rattle.hall_laws.specs.OwnMessages.{WereSentTo}
 use Rattle.hall_laws.specs.Served.{IsSentTo, AreSentTo, handed_out, all_handed_out}
-use Rattle.hall_laws.proofs.Contents.{EventHolds, DoneHolds, step_holds}
+use Rattle.hall_laws.proofs.Contents.{DeskFits, EventHolds, DoneHolds, IsMade, step_holds}
 use Rattle.hall_laws.proofs.HallDesks.{turn_does, Does}
 use Rattle.hall_laws.proofs.HallEntries.{tick_takes_none}
 use Rattle.hall_laws.proofs.HallSteps.{Matches}
@@ -45,11 +45,11 @@ use Rattle.hall_laws.proofs.ServedTurns.{home_of}
 pub record SoundAt (home : Home) (x : NodeValue Memory) : Type 0 where
   pub at : x.keeper.home ≡ home
   pub works : Works x
-  pub holds : DeskHolds IsInFrame (IsReal home.desks) x.desk
+  pub holds : DeskFits IsInFrame home.desks x.desk
   pub range : DeskIsInRange home.desks x.desk
 
 abbrev Fit : ℕ → List Message → Type 0
-Fit n ms = MessagesHold IsInFrame (IsReal n) ms
+Fit n ms = MessagesHold IsInFrame (IsMade n) ms
 
 -- what the event brings fits
 event_fits : (n d : ℕ) (sent : List Message) (event : DeskEvent) → IsSentTo d sent event
@@ -59,9 +59,9 @@ event_fits n d sent Start was fit given = tt
 event_fits n d sent Tick was fit given = tt
 event_fits n d sent (Deliver m) was fit given = go was.0 was.1
   where
-    go : (k : ℕ) → nth_sent sent k ≡ Some m → BodyHolds IsInFrame (IsReal n) m.body
+    go : (k : ℕ) → nth_sent sent k ≡ Some m → BodyHolds IsInFrame (IsMade n) m.body
     go zero is = absurd cc
-    go (suc k) is = message_at IsInFrame (IsReal n) sent k m fit is
+    go (suc k) is = message_at IsInFrame (IsMade n) sent k m fit is
 
 -- after a call
 sound_call : (home : Home) → IsDesk home.desks home.desk → (sent : List Message) (c : Call)
@@ -116,7 +116,7 @@ sound_call home ours sent c x z h up was fit taken s = go c.answer refl
           record {
             at = at;
             works = works;
-            holds = subst (λ u. DeskHolds IsInFrame (IsReal home.desks) u) (sym same) s.holds;
+            holds = subst (λ u. DeskFits IsInFrame home.desks u) (sym same) s.holds;
             range = subst (λ u. DeskIsInRange home.desks u) (sym same) s.range;
           },
           subst (λ r. Fit home.desks (handed_out r)) (sym is) tt,
@@ -134,10 +134,10 @@ sound_calls home ours sent (c ∷ cs) x y lead up was fit taken s =
     let one = sound_call home ours sent c x lead.0 lead.1 up.0 was.0 fit
     (λ e has. taken e (first e has)) s in
     let rest = sound_calls home ours (sent ++ handed_out c.answer) cs lead.0 y lead.2 up.1 was.1
-    (messages_append IsInFrame (IsReal home.desks) sent (handed_out c.answer) fit one.1)
+    (messages_append IsInFrame (IsMade home.desks) sent (handed_out c.answer) fit one.1)
     (λ e has. taken e (inr has)) one.0 in (
       rest.0,
-      messages_append IsInFrame (IsReal home.desks) (handed_out c.answer) (all_handed_out cs) one.1
+      messages_append IsInFrame (IsMade home.desks) (handed_out c.answer) (all_handed_out cs) one.1
           rest.1,
     )
   where
@@ -149,16 +149,16 @@ sound_calls home ours sent (c ∷ cs) x y lead up was fit taken s =
 
 pub record Sound (hall n : ℕ) (h : Hall Memory) : Type 0 where
   pub desks : (d : ℕ) → IsDesk n d → SoundAt (home_of hall n d) (h.desks d).node
-  pub sent : MessagesHold IsInFrame (IsReal n) h.sent
+  pub sent : MessagesHold IsInFrame (IsMade n) h.sent
 
-moved : (hall n d : ℕ) (acts : List Act) (h g : Hall Memory) → Sound hall n h → OnlyAt d acts h g
-    → SoundAt (home_of hall n d) (g.desks d).node → Fit n (all_handed_out (calls_of acts))
+pub moved : (hall n d : ℕ) (acts : List Act) (h g : Hall Memory) → Sound hall n h
+    → OnlyAt d acts h g → SoundAt (home_of hall n d) (g.desks d).node → Fit n (all_handed_out (calls_of acts))
     → Sound hall n g
 moved hall n d acts h g s only own fit = record {
   desks = λ j ours. go j ours (eqb j d) refl;
   sent =
       subst (λ ms. Fit n ms) (sym only.sent)
-      (messages_append IsInFrame (IsReal n) h.sent (all_handed_out (calls_of acts)) s.sent fit);
+      (messages_append IsInFrame (IsMade n) h.sent (all_handed_out (calls_of acts)) s.sent fit);
 }
   where
     go : (j : ℕ) → IsDesk n j → (b : Bool) → eqb j d ≡ b

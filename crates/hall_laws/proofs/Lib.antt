@@ -31,6 +31,7 @@ pub mod ServedTurns
 pub mod HallServing
 pub mod HallDeciding
 pub mod HallCopies
+pub mod Numbers
 pub mod Contents
 pub mod Alike
 pub mod Heard
@@ -41,3 +42,6 @@ pub mod Memory
 pub mod MemoryServes
 pub mod HallSound
 pub mod HallMemory
+pub mod HallMoves
+pub mod HallTangle
+pub mod HallCopied

@@ -14,7 +14,7 @@ use Rattle.proposer.specs.declared.fault.Refusal.TheVariants as refusal
 use Rattle.proposer.specs.Plans.{IsNothing, only_say}
 use Rattle.learner.specs.Contents.{BodyHolds, ReportHolds, MessagesHold}
 use Rattle.learner.specs.Desks.{Desk, passing}
-use Rattle.learner.specs.Ranges.{IsReal, AreInRange, DeskIsInRange, DoneIsInRange}
+use Rattle.learner.specs.Ranges.{AreInRange, DeskIsInRange, DoneIsInRange}
 use Rattle.learner.specs.Steps.{Done, IsDesk, done, idle, is_heeded, on_body, step}
 use Rattle.learner.specs.declared.event.DeskEvent.{DeskEvent}
 use Rattle.learner.specs.declared.event.DeskEvent.TheVariants.{Submit, Start, Tick, Deliver}
@@ -25,15 +25,16 @@ use Rattle.replica.specs.Nodes.{NodeValue}
 use Rattle.replica.specs.declared.roles.fault.NodeFault.TheVariants.{Down}
 use Rattle.replica.specs.roles.Faults.{refused_as}
 use Rattle.hall_laws.specs.Memory.{Memory, memory}
+use Rattle.hall_laws.proofs.Contents.{IsMade}
 
 -- ---- what is handed out fits in frames
 
-report_fits : (n : ℕ) (o : Option Report) → ReportHolds IsInFrame (IsReal n) o
+report_fits : (n : ℕ) (o : Option Report) → ReportHolds IsInFrame (IsMade n) o
     → ReportHolds IsInFrame (λ b. ⊤) o
 report_fits n None h = tt
 report_fits n (Some r) h = (tt, h.1)
 
-body_fits : (n : ℕ) (body : Body) → BodyHolds IsInFrame (IsReal n) body
+body_fits : (n : ℕ) (body : Body) → BodyHolds IsInFrame (IsMade n) body
     → BodyHolds IsInFrame (λ b. ⊤) body
 body_fits n (Prepare b pos) h = tt
 body_fits n (Promise b pos vote) h = (tt, report_fits n vote h.1)
@@ -43,7 +44,7 @@ body_fits n (Nack b pos promised) h = (tt, tt)
 body_fits n (Behind len) h = tt
 body_fits n (Decided pos e) h = h
 
-messages_fit : (n : ℕ) (ms : List Message) → MessagesHold IsInFrame (IsReal n) ms → FitInFrames ms
+messages_fit : (n : ℕ) (ms : List Message) → MessagesHold IsInFrame (IsMade n) ms → FitInFrames ms
 messages_fit n [] h i m less = absurd (omega (arith, less))
 messages_fit n (x ∷ ms) h zero m less = body_fits n x.body h.0
 messages_fit n (x ∷ ms) h (suc i) m less = messages_fit n ms h.1 i m (omega (arith, less))
@@ -135,7 +136,7 @@ range_of n d x event r ours h is =
 pub takes : (x : NodeValue Memory) (event : DeskEvent) (r : Done)
     → step_at x.keeper.home x.desk event ≡ Ok r
     → IsDesk x.keeper.home.desks x.keeper.home.desk → DeskIsInRange x.keeper.home.desks x.desk
-    → MessagesHold IsInFrame (IsReal x.keeper.home.desks) r.messages → Works x
+    → MessagesHold IsInFrame (IsMade x.keeper.home.desks) r.messages → Works x
     → Handles memory x event (Ok r.messages) (node_after x event r)
 takes x event r is ours range holds works = record {
   ended = λ down. absurd (let two : false ≡ true = sym works.up ∙ down in cc);

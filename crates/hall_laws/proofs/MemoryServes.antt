@@ -5,8 +5,8 @@ use Rattle.std.proofs.Common.{Some, Result, Ok, Err}
 use Rattle.acceptor.specs.declared.entry.Entry.{Entry}
 use Rattle.acceptor.specs.declared.message.Message.{Message}
 use Rattle.answers.specs.Seen.{Seen}
-use Rattle.learner.specs.Contents.{DeskHolds, MessagesHold}
-use Rattle.learner.specs.Ranges.{IsReal, DeskIsInRange, DoneIsInRange}
+use Rattle.learner.specs.Contents.{MessagesHold}
+use Rattle.learner.specs.Ranges.{DeskIsInRange, DoneIsInRange}
 use Rattle.learner.specs.Steps.{Done, IsDesk, step}
 use Rattle.learner.specs.declared.event.DeskEvent.{DeskEvent}
 use Rattle.learner.specs.declared.event.DeskEvent.TheVariants.{Submit, Start, Deliver}
@@ -32,7 +32,7 @@ use Rattle.serving.specs.declared.request.Run.{Run}
 use Rattle.store.specs.declared.home.Home.{Home}
 use Rattle.hall_laws.specs.HallRuns.{seen_of}
 use Rattle.hall_laws.specs.Memory.{Memory, memory}
-use Rattle.hall_laws.proofs.Contents.{EventHolds, DoneHolds, step_holds}
+use Rattle.hall_laws.proofs.Contents.{DeskFits, EventHolds, DoneHolds, IsMade, step_holds}
 use Rattle.hall_laws.proofs.Memory.{Works, node_after, takes, refuses, no_fault, not_down}
 use Rattle.hall_laws.proofs.OwnMessages.{calls_both, no_calls, calls_of_pushes}
 
@@ -54,9 +54,9 @@ pub record Led (home : Home) (a : NodeValue Memory) (s : Service) : Type 0 where
   pub seen : s.seen ≡ seen_of node
   pub works : Works node
   pub at : node.keeper.home ≡ home
-  pub holds : DeskHolds IsInFrame (IsReal home.desks) node.desk
+  pub holds : DeskFits IsInFrame home.desks node.desk
   pub range : DeskIsInRange home.desks node.desk
-  pub waiting : MessagesHold IsInFrame (IsReal home.desks) s.waiting
+  pub waiting : MessagesHold IsInFrame (IsMade home.desks) s.waiting
   pub fates : s.fates ≡ []
   pub quiet : NoDown (calls_of s.done)
 
@@ -69,8 +69,8 @@ lead_more [] a x y c lead one =
 lead_more (k ∷ calls) a x y c lead one =
     (lead.0, lead.1, lead_more calls lead.0 x y c lead.2 one)
 
-refused_waits : (n : ℕ) (ms : List Message) (why : Refusal) → MessagesHold IsInFrame (IsReal n) ms
-    → MessagesHold IsInFrame (IsReal n) (waiting_after ms (Err (refused_as why)))
+refused_waits : (n : ℕ) (ms : List Message) (why : Refusal) → MessagesHold IsInFrame (IsMade n) ms
+    → MessagesHold IsInFrame (IsMade n) (waiting_after ms (Err (refused_as why)))
 refused_waits n ms refusal.Busy h = h
 refused_waits n ms refusal.LogFull h = h
 refused_waits n ms refusal.BallotsSpent h = h
@@ -105,7 +105,7 @@ led_call home ours a s event fine l =
         let range = subst (λ z. DoneIsInRange home.desks home.desk z) is
         (step_in_range home.desks home.desk l.node.desk event ours l.range) in
         let made = subst (λ (h : Home). IsDesk h.desks h.desk → DeskIsInRange h.desks l.node.desk
-        → MessagesHold IsInFrame (IsReal h.desks) r.messages
+        → MessagesHold IsInFrame (IsMade h.desks) r.messages
         → step h.desks h.desk l.node.desk event ≡ Ok r
         → Handles memory l.node event (Ok r.messages) (node_after l.node event r)) l.at
         (λ o q m i. takes l.node event r i o q m l.works) ours l.range holds.1 is in
@@ -127,7 +127,7 @@ led_call home ours a s event fine l =
           at = l.at;
           holds = holds.0;
           range = range.0;
-          waiting = messages_append IsInFrame (IsReal home.desks) s.waiting r.messages l.waiting
+          waiting = messages_append IsInFrame (IsMade home.desks) s.waiting r.messages l.waiting
               holds.1;
           fates = ap (λ z. later_fates z) l.fates;
           quiet =
@@ -163,7 +163,7 @@ led_call home ours a s event fine l =
 
 -- what is pushed, or answered, is no call
 led_quiet : (home : Home) (a : NodeValue Memory) (s : Service) (ms : List Message) (left : ℕ)
-    (acts : List Act) → calls_of acts ≡ [] → MessagesHold IsInFrame (IsReal home.desks) ms
+    (acts : List Act) → calls_of acts ≡ [] → MessagesHold IsInFrame (IsMade home.desks) ms
     → Led home a s → Led home a (record {
       seen = s.seen;
       waiting = ms;
@@ -185,13 +185,13 @@ led_quiet home a s ms left acts none holds l = record {
   quiet = subst (λ z. NoDown z) (sym (no_calls s.done acts none)) l.quiet;
 }
 
-own_hold : (n d : ℕ) (ms : List Message) → MessagesHold IsInFrame (IsReal n) ms
-    → MessagesHold IsInFrame (IsReal n) (from_own d ms)
+own_hold : (n d : ℕ) (ms : List Message) → MessagesHold IsInFrame (IsMade n) ms
+    → MessagesHold IsInFrame (IsMade n) (from_own d ms)
 own_hold n d [] h = tt
 own_hold n d (m ∷ ms) h = go (m.to == d) (own_hold n d ms h.1)
   where
-    go : (t : Bool) → MessagesHold IsInFrame (IsReal n) (from_own d ms)
-        → MessagesHold IsInFrame (IsReal n) (if t then m ∷ ms else from_own d ms)
+    go : (t : Bool) → MessagesHold IsInFrame (IsMade n) (from_own d ms)
+        → MessagesHold IsInFrame (IsMade n) (if t then m ∷ ms else from_own d ms)
     go true ih = h
     go false ih = ih
 
@@ -211,7 +211,7 @@ led_settle home ours a (suc k) s l =
     none : calls_of acts ≡ []
     none = calls_of_pushes (in_front home.desk s.waiting)
 
-    go : (own : List Message) → MessagesHold IsInFrame (IsReal home.desks) own
+    go : (own : List Message) → MessagesHold IsInFrame (IsMade home.desks) own
         → ((t : Service) → Led home a t → Led home a (settle_by home k t))
         → Led home a (deliver home (λ t. settle_by home k t) k own
         (push_all (in_front home.desk s.waiting) [] s))

@@ -12,4 +12,5 @@ pub mod Copying
 pub mod Differing
 pub mod mirrors
 pub mod Memory
-pub mod Gathering
+pub mod Tangle
+pub mod Copied

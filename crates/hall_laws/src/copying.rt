@@ -1,5 +1,6 @@
 //! Entries that desks of a hall answer, put one after the other.
 
+ghost use Rattle.hall_laws.specs.Copied.{CopiesOneEntry};
 ghost use Rattle.hall_laws.specs.Copying.{HallCopiesAreOfLogs, HallLogsGrow, HallCopiesBeginALog};
 ghost use Rattle.hall_laws.specs.Copying.{HallCopiesBeginItsLog, HallCopiesAgree};
 
@@ -31,3 +32,9 @@ pub fn copies_are_of_logs<K: Keeper>()
     calls_are_happenings::<K>();
     halls_are_runs::<K>();
 }
+
+/// Two desks of three decide an entry, over keepers that never fail, and one of them answers it to
+/// a mirror that has none. So the laws on copies, and those of `mirrors`, say something.
+pub fn a_decided_entry_is_copied()
+    ensures { CopiesOneEntry }
+{}

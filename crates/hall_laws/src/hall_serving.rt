@@ -1,10 +1,10 @@
 //! What a majority of desks that serve decides by itself.
 
-ghost use Rattle.hall_laws.specs.Gathering.{GathersAndServes};
 ghost use Rattle.hall_laws.specs.HallServing.{ServingDecides};
+ghost use Rattle.hall_laws.specs.Tangle.{TangleIsDecided};
 
 use crate::stops::{calls_are_happenings, stops_make_a_run};
-use progress::laws::no_serving_desk_is_stuck;
+use progress::laws::{no_desk_is_stuck, no_serving_desk_is_stuck};
 use store::keeper::Keeper;
 
 /// No desk is stuck, of desks that serve. After every run of a hall of two desks or more, whatever
@@ -28,10 +28,16 @@ pub fn majorities_decide<K: Keeper>()
     no_serving_desk_is_stuck();
 }
 
-/// What `majorities_decide` asks of memory and stores can be met where it matters: at a desk that
-/// gathers promises. Of three desks over keepers that never fail, desk 1 was given an entry, has
-/// made a ballot and has promised it. However a majority with it goes on from there by turns of its
-/// own, whichever Tick or message comes next, there is what it leads its desk to.
-pub fn gathering_desks_serve()
-    ensures { GathersAndServes }
-{}
+/// All that `majorities_decide` and `halls_are_not_stuck` ask can be met where it is hardest, by
+/// three desks over keepers that never fail. Desk 1 stopped inside a save while it gathered
+/// promises, was opened again, which lost its queue, and was given its entry again. Desk 2 has a
+/// higher ballot. Desk 3 has promised that one, asks for votes for its own, and has an old vote for
+/// an entry that is not decided. Of what they said three messages came, and all others are lost. So
+/// desks 1 and 3 decide desk 1's entry.
+pub fn a_tangle_is_decided()
+    ensures { TangleIsDecided }
+{
+    stops_make_a_run();
+    no_desk_is_stuck();
+    no_serving_desk_is_stuck();
+}

@@ -1,5 +1,6 @@
 -- The desks of a hall, and what is told of them.
-use Rattle.std.specs.Prelude.{◌≡◌, ◌≢◌, ℕ, List, [], ◌∷◌, ◌++◌, length, if◌then◌else◌, nat_le}
+use Rattle.std.specs.Prelude.{◌≡◌, ◌≢◌, ℕ, ◌-◌, List, [], ◌∷◌, ◌++◌, length, if◌then◌else◌, nat_le}
+use Rattle.std.specs.Prelude.{codes, decimal}
 use Rattle.std.specs.Prelude.{Bool, true, false, flat_map, map, min, slice_get, String, Option, None}
 use Rattle.std.specs.Prelude.{Some, ◌==◌}
 use Rattle.std.specs.Global.{Global}
@@ -7,6 +8,7 @@ use Rattle.desk_talks.specs.Lines.{wait_of}
 use Rattle.surveying.specs.Surveys.{new_survey, speaks_five}
 use Rattle.surveying.specs.declared.survey.Contact.{Contact}
 use Rattle.surveying.specs.declared.survey.Contact.TheVariants as contact
+use Rattle.surveying.specs.declared.survey.Told.{Told}
 use Rattle.standings.specs.Reports.{json_line}
 use Rattle.standings.specs.Standings.{difference}
 use Rattle.standings.specs.declared.polled.Polled.{Polled}
@@ -98,6 +100,18 @@ abbrev pub one_speaks_five : ℕ → List Asked → Bool
 one_speaks_five desk [] = false
 one_speaks_five desk (a ∷ asked) =
     if a.desk == desk then speaks_five a.survey else one_speaks_five desk asked
+
+-- a line with the milliseconds since a desk said how it stands, or `-` where it has not said so
+abbrev pub age_line : ℕ → Option Told → List ℕ
+age_line now None = codes "-\n"
+age_line now (Some told) = decimal (now - told.at) ++ codes "\n"
+
+abbrev pub age_of : ℕ → Asked → List ℕ
+age_of now asked = age_line now asked.survey.told
+
+-- a line for each desk, in their order
+abbrev pub ages_text : ℕ → HallDesksOf → List ℕ
+ages_text now h = flat_map (age_of now) h.asked
 
 -- how a desk differs from others, by all that is told of the desks
 abbrev pub Differs : HallDesksOf → Option Difference → Type 0

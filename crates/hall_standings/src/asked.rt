@@ -1,14 +1,16 @@
 //! One desk, and what is told of it.
 
 ghost use Rattle.std.specs.Prelude.{◌≡◌, ◌++◌, IfOk, OnOk, flat_map, length};
-ghost use Rattle.hall_standings.specs.Halls.{away_one, first_other, is_away, is_other, least_of};
+ghost use Rattle.hall_standings.specs.Halls.{age_line, age_of, away_one, first_other, is_away};
+ghost use Rattle.hall_standings.specs.Halls.{is_other, least_of};
 ghost use Rattle.hall_standings.specs.Halls.{one_speaks_five};
 ghost use Rattle.hall_standings.specs.Halls.{says_other, waits_of};
 ghost use Rattle.hall_standings.specs.Told.{AreTold, IsTold, reply_of, standing_of};
 
+use itoa::Buffer;
 use standings::{Polled, Reply};
 use std::alloc::{AllocError, Global};
-use surveying::{Contact, Survey};
+use surveying::{Contact, Survey, Told};
 use wire::ClientRefusal;
 
 /// Milliseconds until there is something to be done, where no desk is asked.
@@ -90,6 +92,29 @@ pub(crate) fn away_of(alloc: Global, asked: &[Asked]) -> Result<Vec<u8>, AllocEr
         push_away(&mut away, one)?;
     }
     Ok(away)
+}
+
+/// Adds a line with the milliseconds since a desk said how it stands.
+fn push_age(out: &mut Vec<u8>, told: Option<Told>, now: u64) -> Result<(), AllocError>
+    ensures { OnOk result (out.new.items ≡ out.old.items ++ age_line now told) }
+{
+    let Some(told) = told else {
+        return out.extend_from_slice(b"-\n");
+    };
+    let mut buffer = Buffer::new();
+    out.extend_from_slice(buffer.format(now.saturating_sub(told.at)).as_bytes())?;
+    out.extend_from_slice(b"\n")
+}
+
+/// A line for each of these desks with the milliseconds since it said how it stands.
+pub(crate) fn ages_of(alloc: Global, asked: &[Asked], now: u64) -> Result<Vec<u8>, AllocError>
+    ensures { IfOk result (λ ages. ages.items ≡ flat_map (age_of now) asked.now) }
+{
+    let mut ages = Vec::new(alloc);
+    for one in asked {
+        push_age(&mut ages, one.survey.told(), now)?;
+    }
+    Ok(ages)
 }
 
 /// Whether the desk of this number answers now in version 5 of the wire.

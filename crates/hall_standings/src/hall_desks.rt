@@ -1,12 +1,12 @@
 //! The desks of a hall.
 
 ghost use Rattle.std.specs.Prelude.{◌≡◌, IfOk, OnErr, OnOk, string_bytes};
-ghost use Rattle.hall_standings.specs.Halls.{IsKept, IsStatus, adds, away_in, desks_wait};
+ghost use Rattle.hall_standings.specs.Halls.{IsKept, IsStatus, adds, ages_text, away_in, desks_wait};
 ghost use Rattle.hall_standings.specs.Halls.{Differs, first_other as other_of, no_desks};
 ghost use Rattle.hall_standings.specs.Halls.{one_speaks_five};
 ghost use Rattle.wire.specs.Ranges.{IsDesk};
 
-use crate::asked::{Asked, all_told, away_of, first_other, one_speaks_five, soonest};
+use crate::asked::{Asked, ages_of, all_told, away_of, first_other, one_speaks_five, soonest};
 use desk_sockets::DeskStream;
 use standings::{difference, json_line};
 use std::alloc::{AllocError, Global};
@@ -111,6 +111,15 @@ impl HallDesks {
         ensures { IfOk result (λ away. away.items ≡ away_in self.now) }
     {
         away_of(alloc, &self.asked)
+    }
+
+    /// How many milliseconds ago, at so many milliseconds of the clock of [`HallDesks::keep`], each
+    /// desk said last how it stands: a line for each in the order in which they were added, `-` for
+    /// one that has not said so yet.
+    pub fn ages(&self, alloc: Global, now: u64) -> Result<Vec<u8>, AllocError>
+        ensures { IfOk result (λ ages. ages.items ≡ ages_text now self.now) }
+    {
+        ages_of(alloc, &self.asked, now)
     }
 
     /// The number of the first desk, in the order in which they were added, that says that it is of

@@ -1,5 +1,5 @@
 -- The page of competitors.
-use Rattle.std.specs.Prelude.{◌≡◌, ◌≤◌, ◌<◌, ℕ, IsSome, if◌then◌else◌, List, [], ◌∷◌, ◌++◌, codes}
+use Rattle.std.specs.Prelude.{◌≡◌, ◌≤◌, ◌<◌, ℕ, suc, IsSome, if◌then◌else◌, List, [], ◌∷◌, ◌++◌, codes}
 use Rattle.std.specs.Prelude.{decimal, flat_map, get_or, is_some, Option, None, Some}
 use Rattle.std.specs.Prelude.{option_map, unwrap_or}
 use Rattle.std.specs.List.{range_with_len}
@@ -92,11 +92,11 @@ entering accepted token form =
 
 -- ---- the page
 
--- the first number that nobody has, or 9999
+-- the number after the greatest below 9999 that somebody has
 pub record IsProposed (accepted : List Command) (number : ℕ) : Type 0 where
   pub in_range : (1 ≤ number) × (number ≤ 9999)
-  pub before : (k : ℕ) → k < number → 1 ≤ k → IsSome (name_of accepted k)
-  pub free : number < 9999 → name_of accepted number ≡ None
+  pub after : (k : ℕ) → 1 ≤ k → suc k ≡ number → IsSome (name_of accepted k)
+  pub free : (k : ℕ) → number ≤ k → k < 9999 → name_of accepted k ≡ None
 
 unfoldable pub section_start : List ℕ
 section_start =

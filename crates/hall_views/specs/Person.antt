@@ -1,12 +1,12 @@
 -- The page of a competitor.
 use Rattle.std.specs.Prelude.{ℕ, if◌then◌else◌, List, [], ◌∷◌, ◌++◌, codes, decimal, flat_map}
-use Rattle.std.specs.Prelude.{get_or, Option, None, Some, option_map}
+use Rattle.std.specs.Prelude.{get_or, is_some, Option, None, Some, option_map}
 use Rattle.markup.specs.board_page.Escaped.{escaped}
 use Rattle.commands.specs.Accepted.{name_of, round_by}
 use Rattle.formats.specs.declared.advance.Advance.{Advance}
 use Rattle.formats.specs.declared.events.Event.{Event}
 use Rattle.formats.specs.Events.{all_events}
-use Rattle.rounds.specs.Tables.{Table}
+use Rattle.rounds.specs.Tables.{Table, entrant}
 use Rattle.round_words.specs.Words.{round_name, round_words}
 use Rattle.texts.specs.declared.command.Command.{Command}
 use Rattle.texts.specs.declared.command.RoundId.{RoundId}
@@ -19,7 +19,6 @@ use Rattle.table_views.specs.Logs.{accepted_in}
 use Rattle.table_views.specs.Recent.{recent_section}
 use Rattle.table_views.specs.Editions.{edition_form, is_latest}
 use Rattle.hall_views.specs.Forms.{button, form_start, person_path, text_field, unseen}
-use Rattle.hall_views.specs.People.{entered_in}
 use Rattle.hall_views.specs.Reopening.{round_numbered}
 
 -- the beginning of a form for a competitor, whose number it carries unseen
@@ -38,6 +37,29 @@ unfoldable pub renaming : List ℕ → ℕ → ℕ → List ℕ → List ℕ
 renaming token form number name =
     renaming_head ++ person_form token form (codes "REN") number
     ++ text_field (codes "name") (codes "Name") name ++ button (codes "Change the name")
+
+-- ---- the rounds in which the competitor is
+
+abbrev pub number_part : ℕ → List ℕ
+number_part number = joined (codes "?number=" ∷ decimal number ∷ codes "\">" ∷ [])
+
+-- a link to the card
+unfoldable pub round_link : ℕ → RoundId → List ℕ
+round_link number id =
+    codes " <a href=\"/card/" ++ round_name id ++ number_part number ++ round_name id ++ codes "</a>"
+
+abbrev pub link_if : ℕ → RoundId → Option (Settings × Table) → List ℕ
+link_if number id None = []
+link_if number id (Some round) =
+    if is_some (entrant round.1 number) then round_link number id else []
+
+abbrev pub within : List Command → ℕ → Event → ℕ → List ℕ
+within accepted number event round =
+    link_if number (round_numbered event round) (round_by accepted (round_numbered event round))
+
+abbrev pub within_event : List Command → ℕ → Event → List ℕ
+within_event accepted number event =
+    flat_map (within accepted number event) (1 ∷ 2 ∷ 3 ∷ 4 ∷ [])
 
 -- ---- withdrawing
 
@@ -104,14 +126,14 @@ mending_or_edition around number name =
 abbrev pub person_head : ℕ → List ℕ → List ℕ
 person_head number name = joined (
     codes "<section><h1 dir=\"auto\">" ∷ escaped name ∷ codes "</h1>\n<p>Number "
-    ∷ decimal number ∷ codes ", events:" ∷ []
+    ∷ decimal number ∷ codes ", rounds:" ∷ []
     )
 
--- name, number, the events in whose first round the competitor is, and the forms
+-- name, number, the rounds in which the competitor is, and the forms
 unfoldable pub person_section : Around → ℕ → List ℕ → List ℕ
 person_section around number name =
     person_head number name
-    ++ flat_map (entered_in (accepted_in around.mirror.now) number) all_events ++ codes "</p>\n"
+    ++ flat_map (within_event (accepted_in around.mirror.now) number) all_events ++ codes "</p>\n"
     ++ mending_or_edition around number name ++ codes "</section>\n"
 
 unfoldable pub page_of : Around → ℕ → List ℕ → List ℕ

@@ -24,20 +24,22 @@ use table_views::Around;
 /// The greatest number of a competitor.
 const LAST_NUMBER: u16 = 9_999;
 
-/// The first number that nobody has, or the greatest one.
+/// The number after the greatest below 9,999 that somebody has. A number that is left out below it
+/// is mostly that of somebody in the competition's file who does not come.
 fn free_number(meet: &Meet) -> u16
     ensures { IsProposed meet.now.accepted result }
 {
-    for number in 1..LAST_NUMBER {
-        if meet.name(number).is_none() {
-            return number;
+    for back in 1..LAST_NUMBER {
+        let number = LAST_NUMBER - back;
+        if meet.name(number).is_some() {
+            return number + 1;
         }
     }
-    LAST_NUMBER
+    1
 }
 
 /// Adds the events in whose first round a competitor is.
-pub(crate) fn push_entered(
+fn push_entered(
     out: &mut Vec<u8>,
     meet: &Meet,
     number: u16,

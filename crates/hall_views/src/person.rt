@@ -6,13 +6,13 @@ ghost use Rattle.hall_views.specs.Forms.{person_path};
 ghost use Rattle.hall_views.specs.Person.{leave_button, leave_event};
 ghost use Rattle.hall_views.specs.Person.{leave_in, mending, mending_or_edition};
 ghost use Rattle.hall_views.specs.Person.{page_of, person_form, person_page};
-ghost use Rattle.hall_views.specs.Person.{person_section, renaming, withdrawing, withdrawing_if};
+ghost use Rattle.hall_views.specs.Person.{person_section, renaming, round_link, withdrawing};
+ghost use Rattle.hall_views.specs.Person.{withdrawing_if, within, within_event};
 
 use crate::forms::{
     digits_of, id_at, person_path, push_button, push_form, push_text_field, push_unseen,
 };
 use crate::pages::{push_end, start_page};
-use crate::people::push_entered;
 use crate::round_forms::ROUNDS;
 use acceptor::NoMemory;
 use card_forms::FormId;
@@ -60,6 +60,66 @@ everywhere.</p>\n",
     push_person_form(out, token, form, b"REN", number)?;
     push_text_field(out, b"name", b"Name", name)?;
     push_button(out, b"Change the name")
+}
+
+/// Adds a round, with a link to the competitor's card in it.
+fn push_round_link(out: &mut Vec<u8>, id: RoundId, number: u16) -> Result<(), NoMemory>
+    ensures { OnOk result (out.new.items ≡ out.old.items ++ round_link number id) }
+{
+    out.extend_from_slice(b" <a href=\"/card/")?;
+    push_round_name(out, id)?;
+    push_pieces(
+        out,
+        &[
+            Piece::Html(b"?number="),
+            Piece::Number(number as u64),
+            Piece::Html(b"\">"),
+        ],
+    )?;
+    push_round_name(out, id)?;
+    out.extend_from_slice(b"</a>")
+}
+
+/// Adds those of these rounds of an event in which a competitor is.
+fn push_rounds_of(
+    out: &mut Vec<u8>,
+    meet: &Meet,
+    number: u16,
+    event: Event,
+    rounds: &[u8],
+) -> Result<(), NoMemory>
+    ensures { OnOk result (out.new.items
+        ≡ out.old.items ++ flat_map (within meet.now.accepted number event) rounds.now) }
+{
+    for round in rounds {
+        let id = RoundId {
+            event,
+            round: *round,
+        };
+        match round_opened(meet, id) {
+            Some(opened) if opened.table.place(number).is_some() => {
+                push_round_link(out, id, number)?;
+            }
+            _ => {}
+        }
+    }
+    Ok(())
+}
+
+/// Adds the rounds of these events in which a competitor is.
+fn push_rounds(
+    out: &mut Vec<u8>,
+    meet: &Meet,
+    number: u16,
+    events: &[Event],
+) -> Result<(), NoMemory>
+    ensures { OnOk result (out.new.items
+        ≡ out.old.items ++ flat_map (within_event meet.now.accepted number) events.now) }
+{
+    for event in events {
+        push_rounds_of(out, meet, number, *event, &ROUNDS)?;
+    }
+    Ok(())
 }
 
 /// Adds a button that withdraws from a round.
@@ -214,10 +274,10 @@ fn push_section(
             Piece::Text(name),
             Piece::Html(b"</h1>\n<p>Number "),
             Piece::Number(number as u64),
-            Piece::Html(b", events:"),
+            Piece::Html(b", rounds:"),
         ],
     )?;
-    push_entered(out, around.mirror.meet(), number, &Event::ALL)?;
+    push_rounds(out, around.mirror.meet(), number, &Event::ALL)?;
     out.extend_from_slice(b"</p>\n")?;
     push_mending_or_edition(out, around, number, name)?;
     out.extend_from_slice(b"</section>\n")
@@ -240,8 +300,8 @@ fn page_of(
 
 /// The page of a competitor; none where nobody has the number.
 ///
-/// It has the name, the number and the events in whose first round the competitor is. In edition 4
-/// it has a form that gives another name, and one that withdraws from each open round in which the
+/// It has the name, the number and the rounds in which the competitor is, each with a link to the
+/// card. In edition 4 it has a form that gives another name, and one that withdraws from each open round in which the
 /// competitor is and has no attempt; before it, the form that moves to edition 4.
 pub fn person_page(
     alloc: Global,

@@ -16,7 +16,7 @@ use Rattle.wcif.specs.declared.fault.PersonFault.TheVariants as fault
 use Rattle.wcif.specs.declared.options.SameNames.{SameNames}
 use Rattle.wcif.specs.declared.options.SameNames.TheVariants.{Refuse, WithId}
 use Rattle.wcif.specs.Events.{enters as reads_enters}
-use Rattle.wcif.specs.Faults.{person_faults}
+use Rattle.wcif.specs.Faults.{person_faults, who}
 use Rattle.wcif.specs.Members.{listed}
 use Rattle.wcif.specs.Persons as read
 use Rattle.wcif.specs.Told.{told, place}
@@ -199,7 +199,7 @@ no_name_faults how c h front p at name is =
     (any_mapped person_data (read.has_name how everyone p.name)
     (λ q. takes_part q && bytes_eq p.name q.name) (named_equal how c h p.name) front
     ∙ sym (any_filter takes_part (λ q. bytes_eq p.name q.name) front) ∙ at.own_name)
-    ∙ ap (λ b. cond (not b) (fault.BadName ∷ []) []) at.entrant.name
+    ∙ ap (λ b. cond (not b) (read.bad_name p.name ∷ []) []) at.entrant.name
 
 -- an event of the file
 has_id_equal : (e : Event) (h : Held)
@@ -282,16 +282,16 @@ no_person_faults how c h front p back is =
     let everyone : List Data = map person_data c.persons in
     let earlier : List Data = map person_data front in
     let told_of : Bool → List Fault =
-    λ b. cond b (map (of.Person (place earlier))
+    λ b. cond b (map (of.Person (place earlier) (who (person_data p)))
     (read.accepted_faults how events everyone earlier (person_data p))) [] in
     ap told_of (takes p) ∙ step (takes_part p) refl
   where
     step : (b : Bool) → takes_part p ≡ b
-        → cond b (map (of.Person (place (map person_data front)))
+        → cond b (map (of.Person (place (map person_data front)) (who (person_data p)))
         (read.accepted_faults how (map event_data c.events) (map person_data c.persons)
         (map person_data front) (person_data p))) [] ≡ []
     step true part =
-        ap (map (of.Person (place (map person_data front))))
+        ap (map (of.Person (place (map person_data front)) (who (person_data p))))
         (none_accepted how c h front p (is_at c h front p back is part))
     step false part = refl
 

@@ -1,5 +1,5 @@
--- Under which key the connections to the other desks are.
-use Rattle.std.specs.Prelude.{◌≡◌, ℕ, List, Option, IfSome, option_map}
+-- Under which keys the connections to the other desks are.
+use Rattle.std.specs.Prelude.{◌≡◌, ◌⊎◌, ℕ, List, Option, IfSome, IsSome, option_map}
 use Rattle.std.specs.List.{AllByRecursion}
 use Rattle.sealed.specs.ends.Calls.{own_key}
 use Rattle.mio_sockets.specs.declared.desk_wire.DeskWire.{DeskWire}
@@ -13,16 +13,22 @@ key_of s = own_key s.call
 abbrev pub wire_key : DeskWire → Option (Option (List ℕ))
 wire_key w = option_map key_of w.stream
 
--- where there is a connection, it is under this key, or under none
-abbrev pub IsUnder : Option (List ℕ) → DeskWire → Type 0
-IsUnder key w = IfSome (wire_key w) (λ k. k ≡ key)
-
-abbrev pub AreUnder : Option (List ℕ) → List DeskWire → Type 0
-AreUnder key wires = AllByRecursion (IsUnder key) wires
-
--- the connections to the other desks: the key under which all of them are, or none
+-- the connections to the other desks: the hall's key, if it has one, and the one that was its own,
+-- while it is changed
 pub record WiresOf : Type 0 where
   pub key : Option (List ℕ)
+  pub former : Option (List ℕ)
 
-abbrev pub wires_of : Option (List ℕ) → WiresOf
-wires_of key = record { key = key }
+abbrev pub wires_of : Option (List ℕ) → Option (List ℕ) → WiresOf
+wires_of key former = record { key = key; former = former }
+
+-- a connection under the hall's key, or none where it has none, or under the one that was its own
+abbrev pub IsKeyOf : WiresOf → Option (List ℕ) → Type 0
+IsKeyOf w key = (key ≡ w.key) ⊎ (IsSome w.former × (key ≡ w.former))
+
+-- where there is a connection, it is under one of these keys
+abbrev pub IsUnder : WiresOf → DeskWire → Type 0
+IsUnder keys w = IfSome (wire_key w) (IsKeyOf keys)
+
+abbrev pub AreUnder : WiresOf → List DeskWire → Type 0
+AreUnder keys wires = AllByRecursion (IsUnder keys) wires

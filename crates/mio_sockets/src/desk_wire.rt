@@ -34,6 +34,9 @@ pub(crate) struct DeskWire {
     foreign: bool,
     /// What went wrong last, or would have if the connection were given up now.
     trouble: Trouble,
+    /// Whether the next connection is begun under the key that was the hall's, where there is one:
+    /// this changes each time the desk has another key.
+    turned: bool,
 }
 
 /// What went wrong, as the system says it.
@@ -98,7 +101,13 @@ impl DeskWire {
             doubted: sealed,
             foreign: false,
             trouble: of_system(ErrorKind::NotConnected),
+            turned: false,
         }
+    }
+
+    /// Whether the next connection is begun under the key that was the hall's, if there is one.
+    pub(crate) fn is_turned(&self) -> bool {
+        self.turned
     }
 
     /// What went wrong last.
@@ -132,6 +141,7 @@ impl DeskWire {
         self.known = false;
         if let Trouble::Key { .. } = trouble {
             self.doubted = true;
+            self.turned = !self.turned;
         }
         self.trouble = trouble;
     }

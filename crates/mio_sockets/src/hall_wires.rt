@@ -1,8 +1,8 @@
-//! The connections to the desks of a hall, all of them under one key.
+//! The connections to the desks of a hall, all of them under its keys.
 
 ghost use Rattle.std.specs.Prelude.{◌≡◌, ◌≢◌, [], length, IfOk};
 ghost use Rattle.polled.specs.Counts.{CountsTaken};
-ghost use Rattle.mio_sockets.specs.Keying.{key_of, wires_of};
+ghost use Rattle.mio_sockets.specs.Keying.{IsKeyOf, key_of, wires_of};
 
 use crate::asking::Asking;
 use crate::desk_wire::DeskWire;
@@ -19,10 +19,12 @@ use std::marker::Model;
 const PLACES: usize = 6;
 
 /// The connections to the desks 1 to 5 of a hall, one at most to each. All are under the hall's
-/// key, or under none where it has none. A contract sees the key.
+/// key, or under none where it has none; and while the key is changed, under the one that was the
+/// hall's where the desk there has that one still. A contract sees the keys.
 #[derive(Drop)]
 pub(crate) struct HallWires {
     key: Option<[u8; 32]>,
+    former: Option<[u8; 32]>,
     /// The connection to each desk, in the place of the desk's number.
     desks: [DeskWire; PLACES],
     endings: Endings,
@@ -33,36 +35,49 @@ impl Model for HallWires {
 
     ghost Value = { WiresOf };
 
-    ghost view = { λ w. wires_of w.key };
+    ghost view = { λ w. wires_of w.key w.former };
 
-    ghost invariant = { λ w. AreUnder w.key w.desks };
+    ghost invariant = { λ w. AreUnder (wires_of w.key w.former) w.desks };
 }
 
 impl HallWires {
-    /// No connections yet to the desks of this hall, which has this key, or none.
-    pub(crate) fn new(alloc: Global, hall: u32, key: Option<[u8; 32]>) -> HallWires
-        ensures { result ≡ wires_of key }
+    /// No connections yet to the desks of this hall, which has this key, or none, and had that one.
+    pub(crate) fn new(
+        alloc: Global,
+        hall: u32,
+        key: Option<[u8; 32]>,
+        former: Option<[u8; 32]>,
+    ) -> HallWires
+        ensures { result ≡ wires_of key former }
     {
         let wire = |desk: u8| DeskWire::new(Asking { alloc, hall, desk }, key.is_some());
         HallWires {
             key,
+            former,
             desks: [wire(0), wire(1), wire(2), wire(3), wire(4), wire(5)],
             endings: Endings::new(alloc),
         }
     }
 
-    /// The key of the hall, if it has one.
-    pub(crate) fn key(&self) -> Option<[u8; 32]>
-        ensures { result ≡ self.now.key }
+    /// The key under which a connection to this desk is begun, if the hall has one: the one that
+    /// was the hall's where that is named, and the desk did not know the other one last.
+    pub(crate) fn key(&self, desk: u8) -> Option<[u8; 32]>
+        ensures { IsKeyOf self.now result }
     {
-        self.key
+        let Some(former) = self.former else {
+            return self.key;
+        };
+        match self.desks.get(usize::from(desk)) {
+            Some(wire) if wire.is_turned() => Some(former),
+            _ => self.key,
+        }
     }
 
     /// Has a connection to a desk that was begun, or could not be. False: it could not be, or there
     /// is no such desk. Where it could not be, those that are ending are closed, since sockets may
     /// be scarce.
     pub(crate) fn begin(&mut self, desk: u8, connected: io::Result<KeyedStream>) -> bool
-        requires { IfOk connected (λ stream. key_of stream ≡ self.old.key) }
+        requires { IfOk connected (λ stream. IsKeyOf self.old (key_of stream)) }
         ensures { self.new ≡ self.old }
     {
         let place = usize::from(desk);

@@ -2,7 +2,7 @@
 
 ghost use Rattle.std.specs.Prelude.{◌≡◌, ◌≢◌, [], length, IfOk};
 ghost use Rattle.polled.specs.Counts.{CountsTaken};
-ghost use Rattle.mio_sockets.specs.Keying.{key_of, wires_of};
+ghost use Rattle.mio_sockets.specs.Keying.{IsKeyOf, key_of, wires_of};
 
 use crate::hall_wires::HallWires;
 use crate::keyed_stream::KeyedStream;
@@ -20,10 +20,10 @@ use std::net::{Net, SocketAddr};
 use std::random::RandomSource;
 
 /// Connections to the desks 1 to 5 over TCP, whose sockets a poll tells of. With a key they are
-/// sealed under it, and each has new random bytes, mixed with the numbers of the desk's start and
+/// sealed, and each has new random bytes, mixed with the numbers of the desk's start and
 /// of the connection.
 ///
-/// A contract sees the key.
+/// A contract sees the keys.
 #[derive(Drop)]
 pub struct SocketWires<'a, R> {
     system: &'a R,
@@ -47,22 +47,23 @@ impl<'a, R> Model for SocketWires<'a, R> {
 impl<'a, R: Net + RandomSource> SocketWires<'a, R> {
     /// No connections yet, at the desk's start of this number. Their sockets are told of by the
     /// poll of this registry. The desks are those of this hall, and speak under its key, where it
-    /// has one.
+    /// has one, or under the one that it had, where that is given.
     pub fn new(
         system: &'a R,
         alloc: Global,
         registry: Registry,
         hall: u32,
         key: Option<[u8; 32]>,
+        former: Option<[u8; 32]>,
         start: u64,
     ) -> SocketWires<'a, R>
-        ensures { result ≡ wires_of key }
+        ensures { result ≡ wires_of key former }
     {
         SocketWires {
             system,
             alloc,
             registry,
-            wires: HallWires::new(alloc, hall, key),
+            wires: HallWires::new(alloc, hall, key, former),
             start,
             begun: 0,
         }
@@ -70,9 +71,9 @@ impl<'a, R: Net + RandomSource> SocketWires<'a, R> {
 
     /// A connection that is being opened.
     fn connect(&self, desk: u8, address: SocketAddr) -> io::Result<KeyedStream>
-        ensures { IfOk result (λ stream. key_of stream ≡ self.now.key) }
+        ensures { IfOk result (λ stream. IsKeyOf self.now (key_of stream)) }
     {
-        let key = self.wires.key();
+        let key = self.wires.key(desk);
         let random = match key {
             Some(_) => drawn(self.system, self.start, self.begun)?,
             None => [0; 16],

@@ -1,9 +1,10 @@
--- What is delivered of a client stands in records that fit under the hall's key.
+-- What is delivered of a client stands in records that fit under one of the hall's keys.
 use Rattle.std.proofs.Common.{◌≡◌, sym, ap, subst, ◌∙◌, ℕ, List, [], ◌∷◌, ◌++◌, append_assoc}
 use Rattle.std.specs.Prelude.{IsTrue}
 use Rattle.std.specs.List.{flat_map}
 use Rattle.connections.specs.Connections.{begun_of}
 use Rattle.connections.proofs.Interleaving.{begun_both}
+use Rattle.sealed.specs.declared.callers.Doors.TheVariants.{Locked}
 use Rattle.guarded.specs.GuardLaw.{AreAllowed, IsAllowed, IsUnderHall, delivers}
 use Rattle.guarded.proofs.Delivering.{delivers_alike, under_hall, under_more}
 use Rattle.guarded.proofs.Holding.{BeginsAt}
@@ -37,8 +38,8 @@ each_delivers home locks server came sent earlier later one h may =
     let parts : begun_of (earlier ++ one ∷ later) ≡ before ++ one.one ∷ behind =
     begun_both earlier (one ∷ later) in
     let allowed =
-    (all_back (λ (b : Begun). IsAllowed s.who b) before (one.one ∷ behind)
-    (subst (λ z. AreAllowed s.who z) parts s.allowed)).0 in
+    (all_back (λ (b : Begun). IsAllowed (Locked locks) s.who b) before (one.one ∷ behind)
+    (subst (λ z. AreAllowed (Locked locks) s.who z) parts s.allowed)).0 in
     let at : BeginsAt h.handed before one.one =
     record {
       more = flat_map spelling (frames_of behind) ++ waits;

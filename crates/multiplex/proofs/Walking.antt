@@ -651,7 +651,7 @@ record HeardOne (home : Home) (e : Ears) (one : Begun) (known : List ℕ)
 
 heard_one : (home : Home) (x : Seen) (c : Guarding) (notes after : Notes)
     (differs later : Option Difference) (e : Ears) (one : Begun)
-    → next_of c ≡ Some one.frame → one.may ≡ permission_of (caller_of c.called)
+    → next_of c ≡ Some one.frame → one.may ≡ permission_of c.called.doors (caller_of c.called)
     → x ≡ e.seen → notes.known ≡ e.known → differs ≡ e.differs
     → after ≡ listened home c notes → later ≡ heard_next home x c notes differs
     → HeardOne home e one after.known later

@@ -148,7 +148,7 @@ EachClientIsServed d =
     (took k (told_all steps)) (served_of k (frames_in deeds)))
 
 -- At a desk with a key, each frame of a client that delivers a message stands in records that fit
--- under the hall's key, of what the client gave.
+-- under one of the hall's keys, of what the client gave.
 abbrev pub EachDeliversUnderHall : Type 0
 EachDeliversUnderHall =
     (home : Home) (locks : Locks) (server came sent : List ℕ) (earlier later : List Served)

@@ -108,7 +108,7 @@ abbrev pub heard_by : Home → Seen → Guarding → Notes → Option Frame → 
 heard_by home x g notes None differs = differs
 heard_by home x g notes (Some f) differs =
     first_difference differs
-    (differs_by home (permission_of (caller_of g.called)) x.desk.log notes.known f)
+    (differs_by home (permission_of g.called.doors (caller_of g.called)) x.desk.log notes.known f)
 
 -- how another desk differs, after what the next frame says
 abbrev pub heard_next : Home → Seen → Guarding → Notes → Option Difference → Option Difference
@@ -119,7 +119,7 @@ listened_to home g notes None = notes
 listened_to home g notes (Some f) =
     record {
       until = notes.until;
-      known = known_after home (permission_of (caller_of g.called)) notes.known f;
+      known = known_after home (permission_of g.called.doors (caller_of g.called)) notes.known f;
     }
 
 abbrev pub listened : Home → Guarding → Notes → Notes

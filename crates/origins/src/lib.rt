@@ -5,4 +5,4 @@ mod entering;
 mod origins;
 
 pub use entering::{entered_at, last_entering};
-pub use origins::last_change;
+pub use origins::{is_change, last_change, reads_change};

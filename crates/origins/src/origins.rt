@@ -26,7 +26,12 @@ fn changes(round: RoundId, number: u16, command: &Command) -> bool
 }
 
 /// Whether a text spells such a command.
-fn reads_change(alloc: Global, round: RoundId, number: u16, text: &[u8]) -> Result<bool, AllocError>
+pub fn reads_change(
+    alloc: Global,
+    round: RoundId,
+    number: u16,
+    text: &[u8],
+) -> Result<bool, AllocError>
     ensures { IfOk result (λ is. is ≡ reads_change round number (command_of text.now)) }
 {
     match read(alloc, text) {
@@ -64,8 +69,9 @@ pub(crate) fn is_accepted(mirror: &Mirror, position: u32) -> bool
     }
 }
 
-/// Whether the entry at a position is such a change.
-fn is_change(
+/// Whether the entry at a position was accepted and entered, corrected or struck an attempt of the
+/// competitor in the round, or was a card of the competitor.
+pub fn is_change(
     alloc: Global,
     mirror: &Mirror,
     round: RoundId,

@@ -22,7 +22,7 @@ use Rattle.outbox.specs.declared.item.Taken.TheVariants as taken
 use Rattle.outbox.specs.declared.state.State.{State}
 use Rattle.outbox.specs.Histories.{Aim, Answer, Call, CallLeads, History, InDialogue, Kept, Leads}
 use Rattle.outbox.specs.Histories.{Look, NotKept, PromisesOf, Restart, Start, Take, Then, World}
-use Rattle.outbox.specs.Histories.{after_call, promises, promises_of, targets, world}
+use Rattle.outbox.specs.Histories.{after_call, aimed_by, promises, promises_of, targets, world}
 use Rattle.outbox.specs.Items.{ItemsOf, Takes, TakesBy, all_kept, is_answered, is_line, item_in}
 use Rattle.outbox.specs.Items.{queued, taken_back, with_answer}
 use Rattle.outbox.specs.Laws.{Fixed, IsOfSubmit, NothingTakenIsLost}
@@ -34,6 +34,7 @@ use Rattle.outbox.specs.States.{state_of}
 use Rattle.outbox.proofs.Crash.{InStep, reads_part, step_answered, step_back, step_kept}
 use Rattle.outbox.proofs.Crash.{step_queued}
 use Rattle.outbox.proofs.Lists.{all_contains, all_weaker, contains_next, found_holds}
+use Rattle.outbox.proofs.Ones.{one_each}
 use Rattle.outbox.proofs.Pieces.{cut_after, whole_after}
 use Rattle.outbox.proofs.Reading.{IsIn, IsKeyed, in_front}
 use Rattle.outbox.proofs.Sent.{after_dialogue, after_look, more_desks}
@@ -200,7 +201,7 @@ module _ (hall : HallOf) (desks : List ℕ) (p : PromisesOf) (old : World)
       all_weaker (IsPromised s.tail (take old.outbox.list.kept old.outbox.list.items))
       (IsWritten tail)
       (λ e i. record {
-        fit = i.fit;
+        read = i.read;
         line =
             subst (λ l. Contains l (item_line e)) longer
             (Contains-append_left s.tail (whole_lines more) (item_line e) i.line);
@@ -242,34 +243,34 @@ to : (hall : HallOf) (desks : List ℕ) (p : PromisesOf) (a b : World) → b ≡
     → IsSound hall desks p a → IsSound hall desks p b
 to hall desks p a b e s = subst (IsSound hall desks p) (sym e) s
 
-after_a_call : (hall : HallOf) (h : History) (call : Call) (old new : World)
-    → IsSound hall (targets h) (promises h) old → CallLeads hall call old new
-    → IsSound hall (targets (Then h call)) (promises (Then h call)) new
-after_a_call hall h (Take entry now came) old new s (is, list, takes, e) =
-    to hall (targets h) (after_call (Take entry now came) (promises h)) _ new e
-    (after_take hall (targets h) (promises h) old entry now came list is s takes)
-after_a_call hall h Kept old new s e =
-    to hall (targets h) _ _ new e (after_kept hall (targets h) (promises h) old s)
-after_a_call hall h NotKept old new s e =
-    to hall (targets h) _ _ new e
-    (relisted hall (targets h) (promises h) (promises_of (promises h).made []) old
+pub after_a_call : (hall : HallOf) (desks : List ℕ) (p : PromisesOf) (call : Call) (old new : World)
+    → IsSound hall desks p old → CallLeads hall call old new
+    → IsSound hall (aimed_by call desks) (after_call call p) new
+after_a_call hall desks p (Take entry now came) old new s (is, list, takes, e) =
+    to hall desks (after_call (Take entry now came) p) _ new e
+    (after_take hall desks p old entry now came list is s takes)
+after_a_call hall desks p Kept old new s e =
+    to hall desks _ _ new e (after_kept hall desks p old s)
+after_a_call hall desks p NotKept old new s e =
+    to hall desks _ _ new e
+    (relisted hall desks p (promises_of p.made []) old
     (taken_back old.outbox.list) s (back_kept s.tail old.outbox.list s.keeps)
-    (back_promised s.tail old.outbox.list s.keeps (promises h) s.promised)
+    (back_promised s.tail old.outbox.list s.keeps p s.promised)
     (step_back s.tail old.outbox.list s.keeps.within s.step))
-after_a_call hall h (Answer log id told) old new s (after, answers, e) =
-    to hall (targets h) (promises h) _ new e
-    (after_answer hall (targets h) (promises h) old s log id told after answers.0 answers.1)
-after_a_call hall h (Look log) old new s e =
-    to hall (targets h) (promises h) _ new e
-    (after_look hall (targets h) (promises h) old.file log old.outbox s)
-after_a_call hall h (Aim desk) old new s e =
-    let desks = targets h ++ desk ∷ [] in
+after_a_call hall desks p (Answer log id told) old new s (after, answers, e) =
+    to hall desks p _ new e
+    (after_answer hall desks p old s log id told after answers.0 answers.1)
+after_a_call hall desks p (Look log) old new s e =
+    to hall desks p _ new e
+    (after_look hall desks p old.file log old.outbox s)
+after_a_call hall desks p (Aim desk) old new s e =
+    let more = desks ++ desk ∷ [] in
     let wide =
-    more_desks hall (targets h) desks (promises h) old (longer (targets h) desk) s in
-    to hall desks (promises h) _ new e (record {
+    more_desks hall desks more p old (longer desks desk) s in
+    to hall more p _ new e (record {
       number = wide.number;
       desk = wide.desk;
-      aim = here (targets h) desk;
+      aim = here desks desk;
       tail = wide.tail;
       named = wide.named;
       ends = wide.ends;
@@ -278,20 +279,19 @@ after_a_call hall h (Aim desk) old new s e =
       step = wide.step;
       says = wide.says;
     })
-after_a_call hall h (InDialogue call) old new s (after, leads, e) =
-    to hall (targets h) (promises h) _ new e
-    (after_dialogue hall (targets h) (promises h) old.file call old.outbox after s leads)
-after_a_call hall h (Restart count desk now) old new s start =
-    let more = take count old.outbox.list.lines in
-    started hall desk now (old.file ++ more) new (targets h ++ desk ∷ []) (promises h).made
-    (here (targets h) desk) start (written hall (targets h) (promises h) old s more)
+after_a_call hall desks p (InDialogue call) old new s (after, leads, e) =
+    to hall desks p _ new e
+    (after_dialogue hall desks p old.file call old.outbox after s leads)
+after_a_call hall desks p (Restart more desk now) old new s start =
+    started hall desk now (old.file ++ more) new (desks ++ desk ∷ []) p.made
+    (here desks desk) start (written hall desks p old s more)
 
 pub sound : (hall : HallOf) (h : History) (w : World) → Leads hall h w
     → IsSound hall (targets h) (promises h) w
 sound hall (Start desk now bytes) w start =
     started hall desk now bytes w (desk ∷ []) [] (Contains-push [] desk) start (λ tail is. tt)
 sound hall (Then h call) w (before, leads, call_leads) =
-    after_a_call hall h call before w (sound hall h before leads) call_leads
+    after_a_call hall (targets h) (promises h) call before w (sound hall h before leads) call_leads
 
 -- ---- the laws
 
@@ -323,6 +323,7 @@ fixed hall h w leads =
       submits =
           of_submit hall (targets h) s.tail w.file w.outbox.line.talking s.named s.says;
       named = (s.tail, s.named);
+      one = one_each hall (targets h) (promises h) w s;
     }
 
 pub nothing_is_lost : NothingTakenIsLost

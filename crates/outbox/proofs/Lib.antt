@@ -12,6 +12,7 @@ mod Lists
 mod Looking
 mod Needed
 mod Once
+mod Ones
 mod Openings
 mod Passing
 mod Pieces
@@ -19,6 +20,7 @@ mod Reading
 mod Sent
 mod Sound
 mod Spelled
+mod Staying
 mod Told
 mod Worked
 mod WorkedRuns

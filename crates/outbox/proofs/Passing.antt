@@ -279,7 +279,7 @@ module _ (log : List Entry) where
   known_after hall (InDialogue call) old new k looks (after, leads, e) =
       in_world after new (ap (λ (w : World). w.outbox) e)
       (kept_so old.outbox after k (far_dialogue call old.outbox after leads))
-  known_after hall (Restart count desk now) old new k looks start =
+  known_after hall (Restart more desk now) old new k looks start =
       fresh new.outbox (ap (λ (o : OutboxOf). o.seen) start.fresh)
       (ap (λ (o : OutboxOf). o.decided) start.fresh)
 

@@ -17,12 +17,13 @@ use Rattle.outbox.specs.Journals.{after_lines, answered_again, followed_if, go_o
 use Rattle.outbox.specs.Journals.{restored, with_item}
 use Rattle.outbox.specs.Lines.{item_line, said}
 use Rattle.outbox.proofs.Lists.{all_append, contains_cases, found_front, found_last}
-use Rattle.outbox.proofs.Spelled.{IsFit, IsSpelled, item_spelled, said_item}
+use Rattle.outbox.proofs.Spelled.{IsSpelled, ReadsBack, item_spelled}
 
 -- what a line that fits does to the items: it puts one more there, or none
 pub record AddsItem (bytes : List ℕ) (now : ℕ) (q next : ItemsOf) : Type 0 where
   pub entry : Entry
   pub spelled : IsSpelled bytes entry
+  pub read : ReadsBack entry
   pub new : item_in q entry.id ≡ None
   pub becomes : next ≡ with_item q entry now
 
@@ -52,6 +53,7 @@ adds_item bytes now q next entry is h =
     go false false k e = inl (record {
       entry = entry;
       spelled = item_spelled bytes entry is;
+      read = ap said (sym (item_spelled bytes entry is).is) ∙ is;
       new = none_of (item_in q entry.id) k;
       becomes = let same : with_item q entry now ≡ next = cc in sym same;
     })
@@ -114,6 +116,7 @@ pub record IsKeyed (pair : ℕ × Item) : Type 0 where
   pub is : pair.0 ≡ pair.1.entry.id
   pub first : 1 ≤ pair.1.entry.id
   pub last : pair.1.entry.id < 2 ^ 63
+  pub read : ReadsBack pair.1.entry
 
 abbrev pub HasLine : List (List ℕ) → ℕ × Item → Type 0
 HasLine lines pair = Contains lines (item_line pair.1.entry)
@@ -132,8 +135,15 @@ module _ (now : ℕ) (all : List (List ℕ)) where
       let one : ℕ × Item = (a.entry.id, taken_at a.entry now) in
       subst (IsRead all) (sym a.becomes) (record {
         keyed =
-            all_append IsKeyed q.items (one ∷ []) r.keyed
-            (record { is = refl; first = a.spelled.first; last = a.spelled.last }, tt);
+            all_append IsKeyed q.items (one ∷ []) r.keyed (
+              record {
+                is = refl;
+                first = a.spelled.first;
+                last = a.spelled.last;
+                read = a.read;
+              },
+              tt,
+            );
         lines =
             all_append (HasLine all) q.items (one ∷ []) r.lines
             (subst (Contains all) a.spelled.is c, tt);
@@ -190,11 +200,11 @@ module _ (now : ℕ) (entry : Entry) where
       (in_front q.items ((a.entry.id, taken_at a.entry now) ∷ []) entry i)
   stays bytes q next (inr a) i = subst (λ items. IsIn items entry) (sym a.items) i
 
-  comes : IsFit entry → (q next : ItemsOf)
+  comes : ReadsBack entry → (q next : ItemsOf)
       → followed_if q now (said (item_line entry)) ≡ Some next → IsIn next.items entry
-  comes fit q next h =
+  comes read q next h =
       go (is_some (item_in q entry.id)) (is_full q) refl
-      (sym (ap (followed_if q now) (said_item entry fit)) ∙ h)
+      (sym (ap (followed_if q now) read) ∙ h)
     where
       go : (known full : Bool) → is_some (item_in q entry.id) ≡ known
           → cond known None (cond full None (Some (with_item q entry now))) ≡ Some next
@@ -206,16 +216,16 @@ module _ (now : ℕ) (entry : Entry) where
           subst (λ (x : ItemsOf). IsIn x.items entry) same
           (in_last q.items entry now (none_of (item_in q entry.id) k))
 
-  pub line_read : IsFit entry → (q r : ItemsOf) (number : ℕ) (lines : List (List ℕ))
+  pub line_read : ReadsBack entry → (q r : ItemsOf) (number : ℕ) (lines : List (List ℕ))
       → after_lines q now number lines ≡ Ok r
       → IsIn q.items entry ⊎ Contains lines (item_line entry)
       → IsIn r.items entry
-  line_read fit q r number [] e (inl i) = let same : q ≡ r = cc in
+  line_read read q r number [] e (inl i) = let same : q ≡ r = cc in
       subst (λ (x : ItemsOf). IsIn x.items entry) same i
-  line_read fit q r number [] e (inr (k, less, is)) = absurd (omega (arith, less))
-  line_read fit q r number (bytes ∷ lines) e known =
+  line_read read q r number [] e (inr (k, less, is)) = absurd (omega (arith, less))
+  line_read read q r number (bytes ∷ lines) e known =
       step (followed_if q now (said bytes)) refl e
-      (λ next k s. line_read fit next r (number + 1) lines s k)
+      (λ next k s. line_read read next r (number + 1) lines s k)
     where
       on : (next : ItemsOf) → followed_if q now (said bytes) ≡ Some next
           → IsIn q.items entry ⊎ Contains (bytes ∷ lines) (item_line entry)
@@ -224,7 +234,7 @@ module _ (now : ℕ) (entry : Entry) where
       on next is (inr c) =
           elim (contains_cases bytes lines (item_line entry) c) [
             | inl same ↦
-                inl (comes fit q next
+                inl (comes read q next
                 (subst (λ (b : List ℕ). followed_if q now (said b) ≡ Some next) same is))
             | inr later ↦ inr later
           ]

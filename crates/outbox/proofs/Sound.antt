@@ -29,7 +29,7 @@ use Rattle.outbox.proofs.Lists.{all_append, all_take, all_weaker, contains_next}
 use Rattle.outbox.proofs.Pieces.{IsNoEnd}
 use Rattle.outbox.proofs.Reading.{HasLine, IsIn, IsKeyed, IsRead, in_front, in_last, is_read}
 use Rattle.outbox.proofs.Reading.{line_read}
-use Rattle.outbox.proofs.Spelled.{IsFit, answered_no_end, item_no_end}
+use Rattle.outbox.proofs.Spelled.{IsFit, ReadsBack, answered_no_end, item_no_end, said_item}
 
 -- a Submit of an entry whose line is among these, for one of the desks
 pub record IsQuestion (number : ℕ) (desks : List ℕ) (lines : List (List ℕ)) (question : Frame)
@@ -51,7 +51,7 @@ pub record AreKept (tail : List (List ℕ)) (q : ItemsOf) : Type 0 where
 -- an entry whose line is among these is that of one of the items
 pub record IsPromised (lines : List (List ℕ)) (items : List (ℕ × Item)) (entry : Entry)
     : Type 0 where
-  pub fit : IsFit entry
+  pub read : ReadsBack entry
   pub line : Contains lines (item_line entry)
   pub listed : IsIn items entry
 
@@ -80,7 +80,7 @@ promised_wider : (lines more : List (List ℕ)) (items longer : List (ℕ × Ite
     → AllByRecursion (IsPromised more longer) entries
 promised_wider lines more items longer wide long entries all =
     all_weaker (IsPromised lines items) (IsPromised more longer)
-    (λ e i. record { fit = i.fit; line = wide (item_line e) i.line; listed = long e i.listed })
+    (λ e i. record { read = i.read; line = wide (item_line e) i.line; listed = long e i.listed })
     entries all
 
 lines_wider : (lines more : List (List ℕ)) → ((x : List ℕ) → Contains lines x → Contains more x)
@@ -125,8 +125,15 @@ module _ (tail : List (List ℕ)) (q : ItemsOf) (entry : Entry) (now : ℕ) (k :
         ends = ends_more q.lines (item_line entry) k.ends free;
         within = omega (arith, k.within, length-append q.items (pair ∷ []));
         keyed =
-            all_append IsKeyed q.items (pair ∷ []) k.keyed
-            (record { is = refl; first = fit.first; last = fit.last }, tt);
+            all_append IsKeyed q.items (pair ∷ []) k.keyed (
+              record {
+                is = refl;
+                first = fit.first;
+                last = fit.last;
+                read = said_item entry fit;
+              },
+              tt,
+            );
         kept = subst (AllByRecursion (HasLine tail)) (sym front_same) k.kept;
         due = queued_due;
       }
@@ -147,7 +154,7 @@ module _ (tail : List (List ℕ)) (q : ItemsOf) (entry : Entry) (now : ℕ) (k :
             (wide q.lines (item_line entry) k.ends free)
             (λ e i. in_front q.items (pair ∷ []) e i) p.due m.due) (
               record {
-                fit = fit;
+                read = said_item entry fit;
                 line = has_new q.lines (item_line entry) k.ends free;
                 listed = in_last q.items entry now new;
               },
@@ -265,7 +272,7 @@ all_self (x ∷ xs) = (
 
 -- the lines of entries are among those that are read
 pub record IsWritten (lines : List (List ℕ)) (entry : Entry) : Type 0 where
-  pub fit : IsFit entry
+  pub read : ReadsBack entry
   pub line : Contains lines (item_line entry)
 
 module _ (now : ℕ) (tail : List (List ℕ)) (q : ItemsOf)
@@ -295,9 +302,9 @@ module _ (now : ℕ) (tail : List (List ℕ)) (q : ItemsOf)
           subst (λ front. AllByRecursion (IsPromised tail front) made) (sym whole_front)
           (all_weaker (IsWritten tail) (IsPromised tail q.items)
           (λ e i. record {
-            fit = i.fit;
+            read = i.read;
             line = i.line;
-            listed = line_read now e i.fit no_items q 2 tail reads (inr i.line);
+            listed = line_read now e i.read no_items q 2 tail reads (inr i.line);
           }) made all);
       due = tt;
     }

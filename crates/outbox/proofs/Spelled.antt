@@ -34,16 +34,24 @@ id_read id first last = number_between-decimal 1 (2 ^ 63 - 1) id first (omega ar
 few : (n : ℕ) → n ≤ 600 → nat_le n 600 ≡ true
 few n h = grind (arith, nat_tests)
 
-pub said_item : (entry : Entry) → IsFit entry → said (item_line entry) ≡ Some (line.Item entry)
-said_item entry fit =
+-- the line of an entry is read as it
+abbrev pub ReadsBack : Entry → Type 0
+ReadsBack entry = said (item_line entry) ≡ Some (line.Item entry)
+
+pub said_entry : (entry : Entry) → 1 ≤ entry.id → entry.id < 2 ^ 63 → length entry.text ≤ 600
+    → ReadsBack entry
+said_entry entry first last short =
     let rest : List ℕ = decimal entry.id ++ 32 ∷ entry.text in
     let word : cut 32 (item_line entry) ≡ (codes "item", Some rest) =
     cut-behind 32 (codes "item") (Some rest) refl in
-    let small : entry.id < 10000000000000000000 = let l = fit.last in omega arith in
+    let small : entry.id < 10000000000000000000 = omega (arith, last) in
     let number : cut 32 rest ≡ (decimal entry.id, Some entry.text) =
     cut-behind 32 (decimal entry.id) (Some entry.text) (decimal_no_space entry.id small) in
     ap said_by word ∙ ap item_by number
-    ∙ rw (id_read entry.id fit.first fit.last) (rw (few (length entry.text) fit.short) refl)
+    ∙ rw (id_read entry.id first last) (rw (few (length entry.text) short) refl)
+
+pub said_item : (entry : Entry) → IsFit entry → ReadsBack entry
+said_item entry fit = said_entry entry fit.first fit.last fit.short
 
 pub said_answered : (id : ℕ) → 1 ≤ id → id < 2 ^ 63
     → said (answered_line id) ≡ Some (line.Answered id)

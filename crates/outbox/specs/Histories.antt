@@ -1,5 +1,5 @@
 -- An outbox and the file of its journal, after calls of any kind in any order, and after restarts.
-use Rattle.std.specs.Prelude.{ℕ, ◌≡◌, List, [], ◌∷◌, ◌++◌, take, Bool, Ok}
+use Rattle.std.specs.Prelude.{ℕ, ◌≡◌, List, [], ◌∷◌, ◌++◌, Bool, Ok}
 use Rattle.acceptor.specs.declared.entry.Entry.{Entry}
 use Rattle.learner.specs.Laws.{IsPrefix}
 use Rattle.wire.specs.Entries.{IsEntry}
@@ -34,9 +34,10 @@ pub data Call : Type 0 where
   Aim : (desk : ℕ) → Call
   -- a call of its dialogue
   InDialogue : DialogueCall → Call
-  -- The program, or its machine, ends, and is started again, over this desk. Of the lines that were
-  -- to be put into the file it has so many bytes; what stands after its last whole line is cut off.
-  Restart : (count : ℕ) → (desk now : ℕ) → Call
+  -- The program, or its machine, ends, and is started again, over this desk. After the lines of the
+  -- file stand these bytes: a part of the lines that were to be put there, or whatever a write that
+  -- failed has left; what stands after the last whole line is cut off.
+  Restart : (more : List ℕ) → (desk now : ℕ) → Call
 
 -- a file has the whole lines of these bytes, and nothing stands after them
 pub record IsCutFrom (bytes file : List ℕ) : Type 0 where
@@ -70,8 +71,7 @@ CallLeads hall (Look log) old new = Becomes old new (looked old.outbox log)
 CallLeads hall (Aim desk) old new = Becomes old new (aimed old.outbox desk)
 CallLeads hall (InDialogue call) old new =
     (after : OutboxOf) × DialogueLeads call old.outbox after × Becomes old new after
-CallLeads hall (Restart count desk now) old new =
-    IsStarted hall desk now (old.file ++ take count old.outbox.list.lines) new
+CallLeads hall (Restart more desk now) old new = IsStarted hall desk now (old.file ++ more) new
 
 -- all calls since a file was read first, the last one last
 pub data History : Type 0 where
@@ -109,7 +109,7 @@ abbrev pub after_call : Call → PromisesOf → PromisesOf
 after_call (Take entry now taken.New) p = promises_of p.made (p.due ++ entry ∷ [])
 after_call Kept p = promises_of (p.made ++ p.due) []
 after_call NotKept p = promises_of p.made []
-after_call (Restart count desk now) p = promises_of p.made []
+after_call (Restart more desk now) p = promises_of p.made []
 after_call _ p = p
 
 abbrev pub promises : History → PromisesOf
@@ -117,8 +117,11 @@ promises (Start desk now bytes) = promises_of [] []
 promises (Then h call) = after_call call (promises h)
 
 -- the desks that were aimed at, the first one first
+abbrev pub aimed_by : Call → List ℕ → List ℕ
+aimed_by (Aim desk) desks = desks ++ desk ∷ []
+aimed_by (Restart more desk now) desks = desks ++ desk ∷ []
+aimed_by _ desks = desks
+
 abbrev pub targets : History → List ℕ
 targets (Start desk now bytes) = desk ∷ []
-targets (Then h (Aim desk)) = targets h ++ desk ∷ []
-targets (Then h (Restart count desk now)) = targets h ++ desk ∷ []
-targets (Then h _) = targets h
+targets (Then h call) = aimed_by call (targets h)

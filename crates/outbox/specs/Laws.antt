@@ -11,13 +11,16 @@ use Rattle.texts.specs.declared.answer.Answer.{Answer}
 use Rattle.texts.specs.declared.answer.Answer.TheVariants as answer
 use Rattle.texts.specs.declared.answer.Code.TheVariants as code
 use Rattle.mirror.specs.Answered.{answer_at}
+use Rattle.wire.specs.Entries.{IsEntry}
 use Rattle.wire.specs.Spelling.{spelling}
+use Rattle.desk_talks.specs.Dialogues.{CallsLead}
 use Rattle.desk_talks.specs.Lines.{unsent_by}
 use Rattle.outbox.specs.declared.item.Item.{Item}
 use Rattle.outbox.specs.declared.state.State.{State}
 use Rattle.outbox.specs.declared.state.State.TheVariants as state
-use Rattle.outbox.specs.Histories.{History, Leads, LooksAt, World, promises, targets}
-use Rattle.outbox.specs.Items.{ItemsOf, is_answered, item_in}
+use Rattle.outbox.specs.Histories.{Call, CallLeads, History, Leads, LooksAt, World, promises}
+use Rattle.outbox.specs.Histories.{targets}
+use Rattle.outbox.specs.Items.{ItemsOf, is_answered, item_in, taken_back}
 use Rattle.outbox.specs.Journals.{read_back}
 use Rattle.outbox.specs.Lines.{HallOf, hall_line, item_line, whole_lines}
 use Rattle.outbox.specs.Outboxes.{is_decided, submit_request}
@@ -82,12 +85,20 @@ pub record IsOfSubmit (hall : HallOf) (desks : List ℕ) (file bytes : List ℕ)
   pub line : Contains (whole_lines file) (item_line entry)
   pub is : bytes ≡ drop sent (spelling (submit_request hall.number desk entry))
 
--- what is to be written to a desk after any calls is nothing else; and the first line of the file
--- is the hall's
+-- the lines of a file say of an id one entry at most
+abbrev pub SaysOneEach : List ℕ → Type 0
+SaysOneEach file =
+    (entry other : Entry) → IsEntry entry → IsEntry other
+    → Contains (whole_lines file) (item_line entry)
+    → Contains (whole_lines file) (item_line other) → entry.id ≡ other.id → entry ≡ other
+
+-- what is to be written to a desk after any calls is nothing else; the first line of the file is
+-- the hall's, and of an id it has one line at most
 pub record IsFixed (hall : HallOf) (h : History) (w : World) : Type 0 where
   pub submits : (unsent_by w.outbox.line.talking ≡ [])
       ⊎ IsOfSubmit hall (targets h) w.file (unsent_by w.outbox.line.talking)
   pub named : (lines : List (List ℕ)) × (whole_lines w.file ≡ hall_line hall ∷ lines)
+  pub one : SaysOneEach w.file
 
 abbrev pub Fixed : Type 0
 Fixed = (hall : HallOf) (h : History) (w : World) → Leads hall h w → IsFixed hall h w
@@ -136,6 +147,20 @@ abbrev pub NothingTakenIsLost : Type 0
 NothingTakenIsLost =
     (hall : HallOf) (h : History) (w : World) (entry : Entry) → Leads hall h w
     → Contains (promises h).made entry → IsListed w.outbox.list entry
+
+-- the item of an id stands in the journal, and is this entry
+pub record StandsUnder (q : ItemsOf) (id : ℕ) (entry : Entry) : Type 0 where
+  pub item : Item
+  pub found : item_in (taken_back q) id ≡ Some item
+  pub is : item.entry ≡ entry
+
+-- an item that stands in the journal stays there as it is, whatever calls are made after that, a
+-- start after a crash at any moment among them
+abbrev pub StaysInTheJournal : Type 0
+StaysInTheJournal =
+    (hall : HallOf) (h : History) (calls : List Call) (old new : World) (id : ℕ) (entry : Entry)
+    → Leads hall h old → CallsLead (CallLeads hall) old calls new
+    → StandsUnder old.outbox.list id entry → StandsUnder new.outbox.list id entry
 
 -- what a crash leaves of the file, at whatever byte its end was cut off, is read
 abbrev pub ReadsAfterCrash : Type 0

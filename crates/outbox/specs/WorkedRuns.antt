@@ -55,7 +55,7 @@ submitted =
 -- A second command is taken; then the program ends, of whose line nine bytes were written. It is
 -- started again, over desk 2.
 abbrev pub ending : History
-ending = Then (Then submitting (Take six 6 taken.New)) (Restart 9 2 8)
+ending = Then (Then submitting (Take six 6 taken.New)) (Restart (codes "item 6 CL") 2 8)
 
 abbrev pub started_again : World
 started_again = world (new_outbox 7 2 (five_since 8)) file_of_five

@@ -4,7 +4,7 @@ ghost use Rattle.outbox.specs.Cards.{SavedCardIsOverWhatWasSeen, SavedFixIsOverW
 ghost use Rattle.outbox.specs.Cards.{SavedIsEntered};
 ghost use Rattle.outbox.specs.Laws.{CountsOnce, Fixed, NamesOneHall, NeverByGuess};
 ghost use Rattle.outbox.specs.Laws.{NothingTakenIsLost, OfThisHallAlone, PassesOverByTheLog};
-ghost use Rattle.outbox.specs.Laws.{ReadsAfterCrash, ToldAtOnce, ToldForGood};
+ghost use Rattle.outbox.specs.Laws.{ReadsAfterCrash, StaysInTheJournal, ToldAtOnce, ToldForGood};
 ghost use Rattle.outbox.specs.Worked.{WorkedJournal, WorkedStates};
 ghost use Rattle.outbox.specs.WorkedRuns.{WorkedRun};
 
@@ -39,7 +39,8 @@ pub fn counts_once()
 
 /// A law: whatever calls were made, whatever bytes came, and however often the program was started
 /// again after a crash, what is to be written to a desk is nothing but the end of a Submit, for
-/// this hall, of an entry whose line stands in the journal: its id and its text, byte for byte.
+/// this hall, of an entry whose line stands in the journal: its id and its text, byte for byte. Of
+/// an id the journal has one such line at most.
 pub fn submits_what_is_kept()
     ensures { Fixed }
 {}
@@ -60,9 +61,11 @@ pub fn names_one_hall()
 
 /// A law: each entry of which it may be answered that it is taken, since its line was kept, is in
 /// the list, whatever calls were made, and after a crash at any moment, at whatever byte the file
-/// was cut; and what a crash leaves of the file is read.
+/// was cut. An item that stands in the journal stays there, those among them that were there when
+/// the program was started. What a crash leaves of the file is read.
 pub fn loses_nothing()
     ensures listed { NothingTakenIsLost }
+    ensures stays { StaysInTheJournal }
     ensures reads { ReadsAfterCrash }
 {}
 

@@ -2,11 +2,11 @@
 //! hall's log, and submits what is entered at a desk.
 #![tactic(auto)]
 
-mod arguments;
+mod options;
 
-use arguments::run_given;
 use command_line::given;
 use hall_file::hall_options::tell_no_arguments;
+use options::run_given;
 use prompt_lines::PromptLines;
 use std::process::ExitCode;
 use table_service::PROGRAM;

@@ -69,7 +69,12 @@ SidesAreConnected =
 
 -- a desk with two keys, and the random bytes of a connection
 abbrev pub two_locks : Locks
-two_locks = record { hall = replicate 32 1; entry = Some (replicate 32 2); sheets = false }
+two_locks = record {
+  hall = replicate 32 1;
+  entry = Some (replicate 32 2);
+  old = false;
+  sheets = false;
+}
 
 abbrev pub threes : List ℕ
 threes = replicate 16 3

@@ -76,6 +76,13 @@ impl Called {
         })
     }
 
+    /// What the desk asks of the stream.
+    pub fn doors(&self) -> Doors
+        ensures { result ≡ self.now.doors }
+    {
+        self.doors
+    }
+
     /// Who calls, once it is known.
     pub fn caller(&self) -> Option<Caller>
         ensures { result ≡ caller_of self.now }

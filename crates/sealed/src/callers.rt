@@ -5,7 +5,7 @@
 pub enum Holder {
     /// The hall's key, which desks and the hall's own programs have.
     Hall,
-    /// The entry key.
+    /// The second key.
     Entry,
 }
 
@@ -25,8 +25,11 @@ pub enum Caller {
 pub struct Locks {
     /// The hall's key.
     pub hall: [u8; 32],
-    /// The entry key, where there is one.
+    /// A second key, where there is one: the entry key, or the one that was the hall's.
     pub entry: Option<[u8; 32]>,
+    /// Whether the second key was the hall's, and is one of its keys until it is changed at each
+    /// desk.
+    pub old: bool,
     /// Whether streams that are not sealed are let pass.
     pub sheets: bool,
 }

@@ -1,8 +1,8 @@
 //! What a desk asks of its clients: nothing, or a key.
 
 ghost use Rattle.std.specs.Prelude.{◌≡◌, IfErr, IfOk};
-ghost use Rattle.serve.specs.Keys.{AreDoors, IsEntry, IsKey, IsOfEntry, IsOfKeyFile, IsOfKeys};
-ghost use Rattle.serve.specs.Keys.{hall_key};
+ghost use Rattle.serve.specs.Keys.{AreDoors, IsKey, IsOfKeyFile, IsOfKeys, IsOfSecond};
+ghost use Rattle.serve.specs.Keys.{IsSecond, hall_key, old_key, second_file};
 
 use crate::fault::ServeFault;
 use hall_file::service::Service;
@@ -20,16 +20,24 @@ fn key_at(rt: &HostRuntime, path: &str) -> Result<[u8; 32], ServeFault>
     }
 }
 
-/// The key for entries alone, where one is asked for. It is not the hall's.
-fn entry_of(
+/// The path of the file of a second key, if one is named: that of the key that was the hall's, or
+/// else that of the entry key.
+pub(crate) fn second_file<'a>(service: Service<'a>) -> Option<&'a str>
+    ensures { result ≡ second_file service.entry }
+{
+    service.old_key.or(service.entry_key)
+}
+
+/// The second key, where one is asked for. It is not the hall's.
+fn second_of(
     rt: &HostRuntime,
     service: Service<'_>,
     hall: &[u8; 32],
 ) -> Result<Option<[u8; 32]>, ServeFault>
-    ensures ok { IfOk result (IsEntry service.entry hall.now) }
-    ensures err { IfErr result (λ f. IsOfEntry f service.entry) }
+    ensures ok { IfOk result (IsSecond service.entry hall.now) }
+    ensures err { IfErr result (λ f. IsOfSecond f service.entry) }
 {
-    let Some(path) = service.entry_key else {
+    let Some(path) = second_file(service) else {
         return Ok(None);
     };
     let key = match key_at(rt, path) {
@@ -46,7 +54,7 @@ fn entry_of(
 ///
 /// # Errors
 ///
-/// - `KeyFile` where the file of the hall's key gives none, and then where that of the entry key
+/// - `KeyFile` where the file of the hall's key gives none, and then where that of the second key
 ///   gives none.
 /// - `SameKeys` where the two keys are one.
 pub fn doors_of(rt: &HostRuntime, service: Service<'_>) -> Result<Doors, ServeFault>
@@ -60,7 +68,7 @@ pub fn doors_of(rt: &HostRuntime, service: Service<'_>) -> Result<Doors, ServeFa
         Ok(hall) => hall,
         Err(fault) => return Err(fault),
     };
-    let entry = match entry_of(rt, service, &hall) {
+    let entry = match second_of(rt, service, &hall) {
         Ok(entry) => entry,
         Err(fault) => return Err(fault),
     };
@@ -68,6 +76,7 @@ pub fn doors_of(rt: &HostRuntime, service: Service<'_>) -> Result<Doors, ServeFa
         locks: Locks {
             hall,
             entry,
+            old: service.old_key.is_some(),
             sheets: service.open_sheets,
         },
     })
@@ -80,5 +89,15 @@ pub fn hall_key(doors: Doors) -> Option<[u8; 32]>
     match doors {
         Doors::Open => None,
         Doors::Locked { locks } => Some(locks.hall),
+    }
+}
+
+/// The key that was the hall's, while it is changed.
+pub fn old_key(doors: Doors) -> Option<[u8; 32]>
+    ensures { result ≡ old_key doors }
+{
+    match doors {
+        Doors::Open => None,
+        Doors::Locked { locks } => { if locks.old { locks.entry } else { None } }
     }
 }

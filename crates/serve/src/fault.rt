@@ -15,11 +15,11 @@ pub enum ServeFault {
     BadDesk,
     /// Two desks of a hall's file have one address.
     SameAddresses,
-    /// An entry key, or open sheets, are asked for without a hall's key.
+    /// A second key, or open sheets, are asked for without a hall's key.
     NoHallKey,
-    /// The file of the hall's key gives none, or that of the entry key.
+    /// The file of the hall's key gives none, or that of the second key.
     KeyFile(KeyFileFault),
-    /// The hall's key and the entry key are one.
+    /// The hall's key and the second key are one.
     SameKeys,
     /// A store has to be there, and the file is not there or empty.
     NoStore,

@@ -3,10 +3,10 @@
 ghost use Rattle.std.specs.Prelude.{◌≡◌, IfOk, IfErr, IfSome, map};
 ghost use Rattle.mio_sockets.specs.Keying.{wires_of};
 ghost use Rattle.serve.specs.Addresses.{AreFoundFor, IsFoundFor, IsNoAddress, LeadTo};
-ghost use Rattle.serve.specs.Keys.{hall_key};
+ghost use Rattle.serve.specs.Keys.{hall_key, old_key};
 ghost use Rattle.serve.specs.Printing.{IsOfListener};
 
-use crate::doors::hall_key;
+use crate::doors::{hall_key, old_key};
 use crate::fault::ServeFault;
 use crate::twins::twins_in;
 use hall_file::service::Service;
@@ -141,8 +141,9 @@ pub fn send_rest(rt: &HostRuntime, links: &mut SocketLinks<'_, HostRuntime, Prom
 }
 
 /// The links to the other desks, at the desk's start of this number, whose sockets the poll of the
-/// clients tells of. Where the desk has keys, they speak under the hall's. Where lines about other
-/// desks are wanted, it says which two have one address, and of which no address was found.
+/// clients tells of. Where the desk has keys, they speak under the hall's, or the one that was its
+/// own. Where lines about other desks are wanted, it says which two have one address, and of which
+/// no address was found.
 pub fn links_to<'r>(
     rt: &'r HostRuntime,
     service: Service<'_>,
@@ -152,7 +153,8 @@ pub fn links_to<'r>(
 ) -> Result<SocketLinks<'r, HostRuntime, PromptLines>, ServeFault>
     ensures links { IfOk result
         (λ links. LeadTo (map (λ t. t.now) service.entry.addresses.now) links.lines) }
-    ensures key { IfOk result (λ links. links.wires ≡ wires_of (hall_key doors)) }
+    ensures keys { IfOk result
+        (λ links. links.wires ≡ wires_of (hall_key doors) (old_key doors)) }
     ensures err { IfErr result IsOfListener }
 {
     let registry = match clients.registry() {
@@ -176,6 +178,7 @@ pub fn links_to<'r>(
             registry,
             service.hall,
             hall_key(doors),
+            old_key(doors),
             start,
         ),
         lines,

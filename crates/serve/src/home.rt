@@ -6,6 +6,7 @@ ghost use Rattle.serve.specs.Addresses.{AreApart, HasTwins};
 ghost use Rattle.serve.specs.Keys.{IsKeyed, LacksKey};
 ghost use Rattle.serve.specs.Printing.{IsAllowed, IsOfFile, IsRefused, home_of, texts_of};
 
+use crate::doors::second_file;
 use crate::fault::ServeFault;
 use crate::twins::twins_in;
 use hall_file::service::{Making, Service};
@@ -58,7 +59,7 @@ fn apart(service: Service<'_>) -> Result<(), ServeFault>
     }
 }
 
-/// Refuses an entry key, and open sheets, without a hall's key.
+/// Refuses a second key, and open sheets, without a hall's key.
 fn keyed(service: Service<'_>) -> Result<(), ServeFault>
     ensures ok { OnOk result (IsKeyed service.entry) }
     ensures err { IfErr result (λ f. (f ≡ ServeFault.NoHallKey) × LacksKey service.entry) }
@@ -66,14 +67,14 @@ fn keyed(service: Service<'_>) -> Result<(), ServeFault>
     if service.key.is_some() {
         return Ok(());
     }
-    if service.entry_key.is_some() || service.open_sheets {
+    if second_file(service).is_some() || service.open_sheets {
         return Err(ServeFault::NoHallKey);
     }
     Ok(())
 }
 
 /// The desk, of a hall of as many desks as there are addresses. Of a hall's file no two addresses
-/// may be equal, and an entry key and open sheets come beside a hall's key.
+/// may be equal, and a second key and open sheets come beside a hall's key.
 pub fn home_of(service: Service<'_>) -> Result<Home, ServeFault>
     ensures ok { IfOk result (λ home. (home ≡ home_of service.entry) × IsHome home) }
     ensures allowed { OnOk result (IsAllowed service.entry) }

@@ -195,8 +195,8 @@ fn serve_kept<K: Keeper + Close + Drop, W: Write>(
 ///   none of those: nothing is opened.
 /// - Where it is said whether the store is opened or made, next `SameAddresses` where two addresses
 ///   are equal.
-/// - `NoHallKey` where an entry key or open sheets are asked for without a hall's key; then
-///   `KeyFile` where the file of the hall's key gives none, then where that of the entry key gives
+/// - `NoHallKey` where a second key or open sheets are asked for without a hall's key; then
+///   `KeyFile` where the file of the hall's key gives none, then where that of the second key gives
 ///   none, and `SameKeys` where the two keys are one: nothing is opened.
 /// - Where it is said whether the store is opened or made, next `NoStore` or `StoreThere` by what
 ///   the file has (an empty one is as none), then `UnknownHost` where the system finds no address

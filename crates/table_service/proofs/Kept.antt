@@ -325,11 +325,13 @@ module _ (n : ℕ) where
 
   pub opens : (cut : Bool) (h0 h1 : Option DiskOf) → HasLines cut n h0 → CutsBack true n h0 h1
       → OpensOver n h0 (journal h1 n false)
-  opens cut None None has cuts = record { long = refl; whole = refl; lines = refl }
+  opens cut None None has cuts =
+      record { long = refl; whole = refl; synced = tt; lines = refl }
   opens cut None (Some e) has cuts = absurd cuts
   opens cut (Some d) None has cuts = absurd cuts
   opens cut (Some d) (Some e) has cuts = record {
     long = refl;
     whole = refl;
+    synced = opened_synced cut (Some d) (Some e) has cuts;
     lines = ap Some (opens_to d e (long_cut d e (low cut d has) cuts) cuts);
   }

@@ -16,3 +16,8 @@ pub mod Served
 pub mod Taken
 pub mod Handed
 pub mod Steps
+pub mod SentOnes
+pub mod Running
+pub mod Fronts
+pub mod OverFiles
+pub mod FoundOnes

@@ -61,7 +61,8 @@ use Rattle.table_service.specs.Services.{IsAround, Plans, PlansIf, PlansWith, Se
 use Rattle.table_service.specs.Undoing.{PlansUndoCard, PlansUndoEntry, PlansUndoId, PlansUndoIf}
 use Rattle.table_service.specs.Undoing.{PlansUndoItem, may_undo, undone_entry}
 use Rattle.table_service.specs.Taking.{AreTaken, PlansOther, PlansRoom, both_or, has_room, is_sent}
-use Rattle.table_service.specs.Taking.{last_id, other_by, other_in, place_after, place_with, sent_as}
+use Rattle.table_service.specs.Taking.{last_id, other_by, other_in, place_after, place_with}
+use Rattle.table_service.specs.Taking.{sent_as}
 
 -- the browser is sent on
 abbrev pub GoesOn : Reply → Type 0

@@ -1,11 +1,11 @@
 -- What is answered, by what is done for a request.
-use Rattle.std.proofs.Common.{◌∙◌, ◌⊎◌, [], ◌∷◌, inl, inr, sym, true, ℕ, List}
+use Rattle.std.proofs.Common.{◌∙◌, [], ◌∷◌, inl, inr, sym, ℕ, List}
 use Rattle.std.proofs.lemmas.List.{append-nil}
+use Rattle.acceptor.specs.declared.entry.Entry.{Entry}
 use Rattle.http.specs.declared.request.Request.{Request}
 use Rattle.http1.specs.Fields.{Header}
 use Rattle.http_server.specs.declared.response.Response.{Response}
 use Rattle.http_server.specs.Response.{IsResponse}
-use Rattle.outbox.specs.Items.{ItemsOf}
 use Rattle.table_service.specs.declared.plan.Effect.{Effect}
 use Rattle.table_service.specs.declared.plan.Effect.TheVariants as effect
 use Rattle.table_service.specs.declared.plan.Plan.{Plan}
@@ -13,8 +13,7 @@ use Rattle.table_service.specs.declared.plan.Reply.{Reply}
 use Rattle.table_service.specs.declared.plan.Reply.TheVariants as reply
 use Rattle.table_service.specs.Laws.{IsSecured}
 use Rattle.table_service.specs.Replies.{Writes, fields_with, security}
-use Rattle.table_service.specs.Services.{Answers, DoesAs, IsTakenAgain, KeepsList, ServiceOf}
-use Rattle.table_service.specs.Services.{TakesNone}
+use Rattle.table_service.specs.Services.{Answers, DoesAs, ServiceOf, TakesAgain, TakesThem}
 
 secured_with : (code : ℕ) (field : Header) (content : List ℕ) (r : Response)
     → IsResponse code (fields_with field) content r → IsSecured r
@@ -30,22 +29,19 @@ secured_by (reply.SeeOther location) r (inr is) =
     ([], is.1.headers ∙ sym (append-nil security))
 
 module _ (plan : Plan) (old new : ServiceOf) (r : Response) where
-  taken : (list : ItemsOf)
-      → TakesNone list old r new ⊎ (KeepsList true list old new × Writes plan.reply r)
-      → IsSecured r
-  taken list (inl none) = secured_with _ _ _ r none.1
-  taken list (inr kept) = secured_by plan.reply r kept.1
+  taken : (entries : List Entry) → TakesThem entries plan old r new → IsSecured r
+  taken entries (inl none) = secured_with _ _ _ r none.1
+  taken entries (inr kept) = secured_by plan.reply r kept.3
 
-  again : (list : ItemsOf) (of : ℕ)
-      → TakesNone list old r new ⊎ IsTakenAgain list of plan old r new → IsSecured r
-  again list of (inl none) = secured_with _ _ _ r none.1
-  again list of (inr is) = secured_by plan.reply r is.writes
+  again : (entry : Entry) (of : ℕ) → TakesAgain entry of plan old r new → IsSecured r
+  again entry of (inl none) = secured_with _ _ _ r none.1
+  again entry of (inr is) = secured_by plan.reply r is.2.writes
 
   secured_as : (what : Effect) → DoesAs what plan old r new → IsSecured r
   secured_as effect.Nothing does = secured_by plan.reply r does.1
   secured_as effect.Ids does = secured_by plan.reply r does.1
-  secured_as (effect.Take entries) does = taken does.0 does.2
-  secured_as (effect.Again entry of) does = again does.0 of does.2
+  secured_as (effect.Take entries) does = taken entries.items does
+  secured_as (effect.Again entry of) does = again entry of does
   secured_as (effect.Answer of) does = secured_by plan.reply r does.1
 
 pub secured : (old new : ServiceOf) (request : Request (List ℕ)) (response : Response)

@@ -1,5 +1,5 @@
 -- What becomes of the items, and what is answered, by what is done for a request.
-use Rattle.std.proofs.Common.{◌≡◌, ◌∙◌, ◌⊎◌, ◌≤◌, ◌∷◌, [], inl, inr, Bool, true, false, ℕ, List, ap}
+use Rattle.std.proofs.Common.{◌≡◌, ◌∙◌, ◌≤◌, ◌∷◌, [], inl, inr, Bool, true, false, ℕ, List, ap}
 use Rattle.std.proofs.Common.{arith, length, refl, subst, sym, take}
 use Rattle.std.proofs.Math.Seq.{take-length}
 use Rattle.acceptor.specs.declared.entry.Entry.{Entry}
@@ -12,9 +12,9 @@ use Rattle.table_service.specs.declared.plan.Effect.{Effect}
 use Rattle.table_service.specs.declared.plan.Plan.{Plan}
 use Rattle.table_service.specs.Replies.{Writes}
 use Rattle.table_service.specs.Services.{Answers, AnswersIt, DoesAs, IsKept, KeepsList, Plans}
-use Rattle.table_service.specs.Services.{ServiceOf, TakesAgain, TakesAgainFor, TakesAll, TakesFor}
-use Rattle.table_service.specs.Services.{TakesThem, with_ids_used}
-use Rattle.table_service.proofs.TakenOnes.{StaysKept, stays_kept}
+use Rattle.table_service.specs.Services.{ServiceOf, StaysKept, TakesAgain, TakesAgainFor, TakesAll}
+use Rattle.table_service.specs.Services.{TakesFor, TakesThem, with_ids_used}
+use Rattle.table_service.proofs.TakenOnes.{stays_kept}
 
 -- ---- what is taken, and taken back
 
@@ -23,8 +23,8 @@ pub all_stay : (entries : List Entry) (old new : ItemsOf) (now : ℕ)
     → old.kept ≤ length old.items → TakesAll old entries now new → StaysKept old new
 all_stay [] old new now low takes = subst (λ (q : ItemsOf). StaysKept old q) (sym takes) (refl, low)
 all_stay (entry ∷ entries) old new now low takes =
-    let one = stays_kept old takes.1 entry now low takes.0 takes.3 in
-    let more = all_stay entries takes.1 new now one.1 takes.4 in (more.0 ∙ one.0, more.1)
+    let one = stays_kept old takes.0 entry now low takes.1.came takes.1.takes in
+    let more = all_stay entries takes.0 new now one.1 takes.2 in (more.0 ∙ one.0, more.1)
 
 pub is_low : (o : OutboxOf) → IsKept o → o.list.kept ≤ length o.list.items
 is_low o kept = let same : o.list.kept ≡ length o.list.items = kept.0 in omega (arith, same)
@@ -107,26 +107,29 @@ module _ (plan : Plan) (old : ServiceOf) (before response : Response) (new : Ser
     (writes : Writes plan.reply before) where
   pub taken_does : (done : Bool) (entries : List Entry)
       → TakesFor done entries old before new response → TakesThem entries plan old response new
-  taken_does true entries takes = (
-    takes.0,
-    takes.1,
-    inr (takes.2, subst (λ (r : Response). Writes plan.reply r) (sym takes.3) writes),
-  )
-  taken_does false entries takes = (takes.0, takes.1, inl takes.2)
+  taken_does true entries takes =
+      inr (
+        takes.0,
+        takes.1,
+        takes.2,
+        subst (λ (r : Response). Writes plan.reply r) (sym takes.3) writes,
+      )
+  taken_does false entries none = inl none
 
   pub again_does : (entry : Entry) (of : ℕ) → TakesAgainFor entry of old before new response
       → TakesAgain entry of plan old response new
-  again_does entry of (inl none) = (none.0, none.1, inl none.2)
-  again_does entry of (inr is) = (
-    is.1.0,
-    is.1.1,
-    inr record {
-      kept = is.0;
-      keeps = is.1.2;
-      answers = is.2;
-      writes = subst (λ (r : Response). Writes plan.reply r) (sym is.1.3) writes;
-    },
-  )
+  again_does entry of (inl none) = inl none
+  again_does entry of (inr is) =
+      inr (
+        is.1.0,
+        is.1.1,
+        record {
+          kept = is.0;
+          keeps = is.1.2;
+          answers = is.2;
+          writes = subst (λ (r : Response). Writes plan.reply r) (sym is.1.3) writes;
+        },
+      )
 
 pub answers_as : (plan : Plan) (old : ServiceOf) (request : Request (List ℕ)) (response : Response)
     (new : ServiceOf) (what : Effect) → Plans old request plan → plan.effect ≡ what

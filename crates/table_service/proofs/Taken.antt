@@ -1,5 +1,5 @@
 -- What is taken for a request, and that nothing else is.
-use Rattle.std.proofs.Common.{◌≡◌, ◌∙◌, ◌⊎◌, ◌∷◌, [], inl, inr, Bool, true, ℕ, List, ap, refl}
+use Rattle.std.proofs.Common.{◌≡◌, ◌∙◌, ◌⊎◌, ◌∷◌, [], inl, inr, Bool, true, ℕ, List, ap}
 use Rattle.std.proofs.Common.{subst, sym}
 use Rattle.acceptor.specs.declared.entry.Entry.{Entry}
 use Rattle.http.specs.declared.request.Request.{Request}
@@ -17,8 +17,10 @@ use Rattle.table_service.specs.Remarks.{remark_of}
 use Rattle.table_service.specs.Replies.{Writes}
 use Rattle.table_service.specs.Requests.{path_of, sent_pairs}
 use Rattle.table_service.specs.Services.{Answers, AnswersIt, DoesAs, IsKept, IsTakenAgain}
-use Rattle.table_service.specs.Services.{KeepsList, ServiceOf, TakesAll, TakesNone, with_ids_used}
+use Rattle.table_service.specs.Services.{KeepsList, LeavesAll, ServiceOf, TakesAll, TakesThem}
+use Rattle.table_service.specs.Services.{with_ids_used}
 use Rattle.table_service.proofs.Planned.{FoundBy, GoesOn, found}
+use Rattle.table_service.proofs.SentOnes.{sent_in}
 use Rattle.table_service.proofs.Served.{all_back, kept_all, same_items}
 
 sent_on : (answer : Reply) (r : Response) → GoesOn answer → Writes answer r → r.status ≡ 303
@@ -51,48 +53,49 @@ module _ (old new : ServiceOf) (request : Request (List ℕ)) (response : Respon
       FoundBy (IsForm old request) old.mirroring.entries old.outbox.list (path_of request)
       (sent_pairs request) (remark_of old.name old.clock) plan.reply what
 
-  module _ (entries : List Entry) (list : ItemsOf)
-      (takes : TakesAll old.outbox.list entries old.time list) where
-    none : TakesNone list old response new → TakesNothing old new
-    none is =
-        ap (λ (s : ServiceOf). s.outbox.list.items) is.0.2
-        ∙ ap (λ (q : ItemsOf). q.items) (all_back old.outbox kept entries old.time list takes)
+  none : (entries : List Entry) → LeavesAll entries old new → TakesNothing old new
+  none entries (inl left) = ap (λ (s : ServiceOf). s.outbox.list.items) left.1
+  none entries (inr (list, takes, keeps)) =
+      ap (λ (s : ServiceOf). s.outbox.list.items) keeps.2
+      ∙ ap (λ (q : ItemsOf). q.items) (all_back old.outbox kept entries old.time list takes)
 
-  module _ (entries : List Entry) (list : ItemsOf)
-      (takes : TakesAll old.outbox.list entries old.time list)
+  module _ (entries : List Entry)
       (asks : AsksFor old.mirroring.entries old.outbox.list (path_of request)
       (sent_pairs request) (remark_of old.name old.clock) entries)
       (form : IsForm old request) (on : GoesOn plan.reply) where
-    taken : TakesNone list old response new
-        ⊎ (KeepsList true list old new × Writes plan.reply response) → Comes
-    taken (inl is) = inl (none entries list takes is)
-    taken (inr is) =
+    taken : TakesThem entries plan old response new → Comes
+    taken (inl is) = inl (none entries is.0)
+    taken (inr (list, takes, keeps, writes)) =
+        let items = ap (λ (s : ServiceOf). s.outbox.list.items) keeps.2 in
         inr record {
           entries = entries;
           list = list;
           form = form;
           asked = asks;
           taken = takes;
-          items = ap (λ (s : ServiceOf). s.outbox.list.items) is.0.2;
-          synced = synced_by true list old new is.0;
-          told = sent_on plan.reply response on is.1;
+          items = items;
+          sent = sent_in entries old.outbox.list list old.time new.outbox.list takes items;
+          synced = synced_by true list old new keeps;
+          told = sent_on plan.reply response on writes;
         }
 
-    again : (of : ℕ) → TakesNone list old response new ⊎ IsTakenAgain list of plan old response new
-        → Comes
-    again of (inl is) = inl (none entries list takes is)
-    again of (inr is) =
+    again : (list : ItemsOf) → TakesAll old.outbox.list entries old.time list → (of : ℕ)
+        → IsTakenAgain list of plan old response new → Comes
+    again list takes of is =
         let all : IsKept is.kept.outbox =
         subst (λ (s : ServiceOf). IsKept s.outbox) (sym is.keeps.2)
         (kept_all (with_list old.outbox list)) in
+        let items =
+        same_items of (with_ids_used is.kept) new all is.answers
+        ∙ ap (λ (s : ServiceOf). s.outbox.list.items) is.keeps.2 in
         inr record {
           entries = entries;
           list = list;
           form = form;
           asked = asks;
           taken = takes;
-          items = same_items of (with_ids_used is.kept) new all is.answers
-              ∙ ap (λ (s : ServiceOf). s.outbox.list.items) is.keeps.2;
+          items = items;
+          sent = sent_in entries old.outbox.list list old.time new.outbox.list takes items;
           synced = synced_after of (with_ids_used is.kept) new
               (synced_by true list old is.kept is.keeps) is.answers;
           told = sent_on plan.reply response on is.writes;
@@ -101,10 +104,10 @@ module _ (old new : ServiceOf) (request : Request (List ℕ)) (response : Respon
   comes : (what : Effect) → FoundAs what → DoesAs what plan old response new → Comes
   comes effect.Nothing tells does = inl (ap (λ (s : ServiceOf). s.outbox.list.items) does.0)
   comes effect.Ids tells does = inl (ap (λ (s : ServiceOf). s.outbox.list.items) does.0)
-  comes (effect.Take entries) tells does =
-      taken entries.items does.0 does.1 tells.1 tells.0 tells.2 does.2
-  comes (effect.Again entry of) tells does =
-      again (entry ∷ []) does.0 does.1 tells.1 tells.0 tells.2 of does.2
+  comes (effect.Take entries) tells does = taken entries.items tells.1 tells.0 tells.2 does
+  comes (effect.Again entry of) tells (inl is) = inl (none (entry ∷ []) is.0)
+  comes (effect.Again entry of) tells (inr is) =
+      again (entry ∷ []) tells.1 tells.0 tells.2 is.0 is.1 of is.2
   comes (effect.Answer of) tells does = inl (same_items of old new kept does.0)
 
 -- nothing is taken but what a form asks for

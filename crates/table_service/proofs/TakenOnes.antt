@@ -7,11 +7,7 @@ use Rattle.outbox.specs.declared.item.Item.{Item}
 use Rattle.outbox.specs.declared.item.Taken.{Taken}
 use Rattle.outbox.specs.declared.item.Taken.TheVariants as taken
 use Rattle.outbox.specs.Items.{ItemsOf, Takes, TakesBy, item_in, items_of, queued, taken_at}
-use Rattle.outbox.specs.Items.{taken_back}
-
--- what stands in the journal are items, and they are what they were
-abbrev pub StaysKept : ItemsOf → ItemsOf → Type 0
-StaysKept old new = (taken_back new ≡ taken_back old) × (new.kept ≤ length new.items)
+use Rattle.table_service.specs.Services.{StaysKept}
 
 module _ (old new : ItemsOf) (entry : Entry) (now : ℕ) (low : old.kept ≤ length old.items) where
   same_kept : new ≡ old → StaysKept old new

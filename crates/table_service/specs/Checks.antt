@@ -235,12 +235,16 @@ is_again _ _ = false
 abbrev pub is_entered : List (Option Entered) → ℕ → Bool
 is_entered now at = enters (λ x. true) (get_or now at None)
 
--- attempts 3 and 4 are left as results, those of 1 and 2 again, and one of them is entered
+-- attempts 3 and 4, or 4 and 5, are left as results, those of 1 and 2 again, and one of them is
+-- entered
 abbrev pub is_repeat : List (Option Entered) → List Value → Bool
 is_repeat now left =
     (is_entered now 2 || is_entered now 3)
     && (is_again (slice_get left 0) (slice_get left 2)
     && is_again (slice_get left 1) (slice_get left 3))
+    || (is_entered now 3 || is_entered now 4)
+    && (is_again (slice_get left 0) (slice_get left 3)
+    && is_again (slice_get left 1) (slice_get left 4))
 
 abbrev pub repeat_notes : List (Option Entered) → List Value → List Note
 repeat_notes now left = if is_repeat now left then note.Repeats ∷ [] else []

@@ -139,9 +139,10 @@ abbrev pub HasLines : Bool → ℕ → Option DiskOf → Type 0
 HasLines cut count None = Unit {0}
 HasLines cut count (Some d) = HasLinesTo cut count d
 
--- the file of a journal over a file with so many bytes of whole lines: these are its lines, and it
--- goes on after them
+-- the file of a journal over a file with so many bytes of whole lines: these are its lines, a crash
+-- leaves them, and it goes on after them
 pub record OpensOver (count : ℕ) (old : Option DiskOf) (new : JournalOf) : Type 0 where
   pub long : new.length ≡ count
   pub whole : new.broken ≡ false
+  pub synced : IsSynced new
   pub lines : lines_in new ≡ option_map (λ d. take count d.bytes) old

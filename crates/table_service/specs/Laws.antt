@@ -1,6 +1,7 @@
 -- What holds of each answer of the score table.
 use Rattle.std.specs.Prelude.{◌≡◌, ◌⊎◌, ℕ, ◌+◌, ◌++◌, ◌||◌, ◌∷◌, [], true, false, List, Some, Ok}
 use Rattle.std.specs.Prelude.{codes, map, take}
+use Rattle.std.specs.List.{AllByRecursion}
 use Rattle.acceptor.specs.declared.entry.Entry.{Entry}
 use Rattle.attempts.specs.declared.Value.{Value}
 use Rattle.http.specs.declared.request.Request.{Request}
@@ -20,9 +21,7 @@ use Rattle.commands.specs.Accepted.{are_values, card_values, round_by, scramble_
 use Rattle.learner.specs.Laws.{IsPrefix}
 use Rattle.outbox.specs.declared.item.Item.{Item}
 use Rattle.outbox.specs.declared.state.State.TheVariants as state
-use Rattle.outbox.specs.Histories.{Call, CallLeads, World, world}
 use Rattle.outbox.specs.Items.{ItemsOf, item_in}
-use Rattle.outbox.specs.Lines.{HallOf}
 use Rattle.outbox.specs.Outboxes.{may_answer}
 use Rattle.outbox.specs.States.{state_of}
 use Rattle.rounds.specs.Tables.{Table}
@@ -37,13 +36,14 @@ use Rattle.texts.specs.declared.command.Settings.{Settings}
 use Rattle.table_service.specs.declared.plan.Problem.TheVariants as problem
 use Rattle.table_service.specs.Answering.{card_over, id_of}
 use Rattle.table_service.specs.Checks.{doubts}
-use Rattle.table_service.specs.Disks.{IsSynced, lines_in}
+use Rattle.table_service.specs.Disks.{IsSynced}
 use Rattle.table_service.specs.Gate.{has_token, is_own}
 use Rattle.table_service.specs.Lists.{is_known, would_be_done}
 use Rattle.table_service.specs.Plans.{are_confirmed}
 use Rattle.table_service.specs.Remarks.{remark_of, remark_under}
 use Rattle.table_service.specs.Replies.{IsProblem, security}
 use Rattle.table_service.specs.Requests.{is_post, path_of, sent_pairs}
+use Rattle.table_service.specs.Taking.{is_sent}
 use Rattle.table_service.specs.Undoing.{may_undo, undone_entry}
 use Rattle.table_service.specs.Services.{Answers, IsKept, ServiceOf, TakesAll}
 
@@ -140,8 +140,12 @@ AsksFor log q path pairs remark entries =
 abbrev pub TakesNothing : ServiceOf → ServiceOf → Type 0
 TakesNothing old new = new.outbox.list.items ≡ old.outbox.list.items
 
--- the entries that a form asks for are taken, their lines are kept, a crash leaves them, and the
--- browser is sent on
+-- the item of an entry's id is in the list, with its text, whatever the remarks are
+abbrev pub IsSentIn : ItemsOf → Entry → Type 0
+IsSentIn q entry = is_sent q entry ≡ true
+
+-- the entries that a form asks for are taken, or were before; each is in the list, their lines are
+-- kept, a crash leaves them, and the browser is sent on
 pub record IsTaken (old : ServiceOf) (request : Request (List ℕ)) (response : Response)
     (new : ServiceOf) : Type 0 where
   pub entries : List Entry
@@ -151,6 +155,7 @@ pub record IsTaken (old : ServiceOf) (request : Request (List ℕ)) (response : 
       (remark_of old.name old.clock) entries
   pub taken : TakesAll old.outbox.list entries old.time list
   pub items : new.outbox.list.items ≡ list.items
+  pub sent : AllByRecursion (IsSentIn new.outbox.list) entries
   pub synced : IsSynced new.file
   pub told : response.status ≡ 303
 
@@ -178,29 +183,6 @@ RefusesForeign =
     (old new : ServiceOf) (request : Request (List ℕ)) (response : Response)
     → Answers old request response new → is_own old.hosts request ≡ false
     → IsProblem problem.Foreign response × (new ≡ old)
-
--- ---- the journal
-
--- calls of an outbox, one after the other
-abbrev pub CallsLead : HallOf → List Call → World → World → Type 0
-CallsLead hall [] old new = new ≡ old
-CallsLead hall (call ∷ calls) old new =
-    (next : World) × CallLeads hall call old next × CallsLead hall calls next new
-
--- the items, and the lines of the journal, come from calls of the outbox
-pub record IsCalled (hall : HallOf) (file : List ℕ) (old new : ServiceOf) : Type 0 where
-  pub calls : List Call
-  pub after : List ℕ
-  pub kept : lines_in new.file ≡ Some after
-  pub lead : CallsLead hall calls (world old.outbox file) (world new.outbox after)
-
--- whatever is asked, the items and the lines of the journal come from calls of the outbox
-abbrev pub CallsAreOfTheOutbox : Type 0
-CallsAreOfTheOutbox =
-    (hall : HallOf) (file : List ℕ) (old new : ServiceOf) (request : Request (List ℕ))
-    (response : Response)
-    → Answers old request response new → lines_in old.file ≡ Some file
-    → IsCalled hall file old new
 
 -- ---- saved is the card
 

@@ -18,3 +18,5 @@ pub mod Services
 pub mod Laws
 pub mod Lists
 pub mod Steps
+pub mod Openings
+pub mod Runs

@@ -1,11 +1,13 @@
 -- What the score table answers, and what it takes.
-use Rattle.std.specs.Prelude.{◌≡◌, ◌⊎◌, ℕ, ◌∷◌, [], Bool, true, false, List, drop, length}
+use Rattle.std.specs.Prelude.{◌≡◌, ◌⊎◌, ◌||◌, ◌≤◌, ℕ, ◌∷◌, [], Bool, true, false, List, drop}
+use Rattle.std.specs.Prelude.{length}
 use Rattle.std.specs.Prelude.{slice_get, Option, None, Some}
 use Rattle.acceptor.specs.declared.entry.Entry.{Entry}
 use Rattle.http.specs.declared.request.Request.{Request}
 use Rattle.http_server.specs.declared.response.Response.{Response}
 use Rattle.mirroring.specs.Mirrorings.{MirroringOf}
 use Rattle.outbox.specs.declared.item.Taken.{Taken}
+use Rattle.outbox.specs.declared.item.Taken.TheVariants as taken
 use Rattle.outbox.specs.Items.{ItemsOf, Takes, all_kept, taken_back}
 use Rattle.outbox.specs.Outboxes.{Answers as AnswersItem, OutboxOf, with_list}
 use Rattle.wire.specs.Entries.{IsEntry}
@@ -24,6 +26,7 @@ use Rattle.table_service.specs.Replies.{IsProblem, Writes}
 use Rattle.table_service.specs.Replying.{refuses}
 use Rattle.table_service.specs.Requests.{sent_before}
 use Rattle.table_service.specs.Sent.{PlansOwn}
+use Rattle.table_service.specs.Taking.{is_sent}
 
 -- the title of the hall, the name of the table, the hosts and the token of the program, the mirror
 -- with what keeps it up, what is known of the desks, what was entered, the ids for the forms of
@@ -103,12 +106,44 @@ Plans s request plan = PlansIf s request (is_own s.hosts request) plan
 
 -- ---- what is done
 
--- entries, whose ids and texts are in their ranges, are taken, one after the other
+-- what stands in the journal are items, and they are what they were
+abbrev pub StaysKept : ItemsOf → ItemsOf → Type 0
+StaysKept old new = (taken_back new ≡ taken_back old) × (new.kept ≤ length new.items)
+
+abbrev pub is_new : Taken → Bool
+is_new taken.New = true
+is_new taken.Same = false
+is_new taken.Other = false
+is_new taken.Unfit = false
+is_new taken.Full = false
+
+-- an entry, whose id and text are in their ranges, is tried to be taken: whether it is queued, or
+-- was known with its text, whatever the remarks are
+pub record TakesAs (there : Bool) (old : ItemsOf) (entry : Entry) (now : ℕ) (new : ItemsOf)
+    : Type 0 where
+  pub fit : IsEntry entry
+  pub came : Taken
+  pub takes : Takes old entry now came new
+  pub is : there ≡ (is_sent old entry || is_new came)
+
+-- entries are taken, one after the other
 abbrev pub TakesAll : ItemsOf → List Entry → ℕ → ItemsOf → Type 0
 TakesAll old [] now new = new ≡ old
 TakesAll old (entry ∷ entries) now new =
-    (came : Taken) × (next : ItemsOf) × IsEntry entry × Takes old entry now came next
-    × TakesAll next entries now new
+    (next : ItemsOf) × TakesAs true old entry now next × TakesAll next entries now new
+
+-- one of the entries can't be taken after those in front of it: its id is known with another text,
+-- it has no line, or there is no room
+abbrev pub CannotTake : ItemsOf → List Entry → ℕ → Type 0
+CannotTake old [] now = ⊥
+CannotTake old (entry ∷ entries) now =
+    (next : ItemsOf)
+    × (TakesAs false old entry now next
+    ⊎ (TakesAs true old entry now next × CannotTake next entries now))
+
+abbrev pub TriesAll : Bool → ItemsOf → List Entry → ℕ → ItemsOf → Type 0
+TriesAll true old entries now new = TakesAll old entries now new
+TriesAll false old entries now new = CannotTake old entries now
 
 -- what becomes of items whose lines are kept, or could not be kept
 abbrev pub list_if : Bool → ItemsOf → ItemsOf
@@ -122,25 +157,31 @@ KeepsList kept list old new =
     (file : JournalOf) × Keeps kept list.lines old.file file
     × (new ≡ record old { outbox = with_list old.outbox (list_if kept list); file = file })
 
--- the items of entries that are taken could not be kept, and that is answered
-abbrev pub TakesNone : ItemsOf → ServiceOf → Response → ServiceOf → Type 0
-TakesNone list old response new = KeepsList false list old new × IsProblem problem.Busy response
+-- one of the entries can't be taken, and nothing changes; or they could not be kept, and are taken
+-- back
+abbrev pub LeavesAll : List Entry → ServiceOf → ServiceOf → Type 0
+LeavesAll entries old new =
+    (CannotTake old.outbox.list entries old.time × (new ≡ old))
+    ⊎ ((list : ItemsOf) × TakesAll old.outbox.list entries old.time list
+    × KeepsList false list old new)
 
--- what `take` does: the entries are taken and kept, and the answer stays; or they could not be kept
+-- none of the entries is taken, and that is answered
+abbrev pub TakesNone : List Entry → ServiceOf → Response → ServiceOf → Type 0
+TakesNone entries old response new = LeavesAll entries old new × IsProblem problem.Busy response
+
+-- what `take` does: the entries are taken and kept, and the answer stays; or none is
 abbrev pub TakesFor : Bool → List Entry → ServiceOf → Response → ServiceOf → Response → Type 0
 TakesFor true entries old before new response =
     (list : ItemsOf) × TakesAll old.outbox.list entries old.time list
     × KeepsList true list old new × (response ≡ before)
-TakesFor false entries old before new response =
-    (list : ItemsOf) × TakesAll old.outbox.list entries old.time list
-    × TakesNone list old response new
+TakesFor false entries old before new response = TakesNone entries old response new
 
--- the entries are taken and kept, and the browser is sent on; or they could not be kept
+-- the entries are taken and kept, and the browser is sent on; or none is
 abbrev pub TakesThem : List Entry → Plan → ServiceOf → Response → ServiceOf → Type 0
 TakesThem entries plan old response new =
-    (list : ItemsOf) × TakesAll old.outbox.list entries old.time list
-    × (TakesNone list old response new
-    ⊎ (KeepsList true list old new × Writes plan.reply response))
+    TakesNone entries old response new
+    ⊎ ((list : ItemsOf) × TakesAll old.outbox.list entries old.time list
+    × KeepsList true list old new × Writes plan.reply response)
 
 -- the item of an id counts as answered, where it may, and that is kept, or could not be kept
 pub record AnswersKept (of : ℕ) (old new : ServiceOf) : Type 0 where
@@ -172,8 +213,9 @@ TakesAgainFor entry of old before new response =
 
 abbrev pub TakesAgain : Entry → ℕ → Plan → ServiceOf → Response → ServiceOf → Type 0
 TakesAgain entry of plan old response new =
-    (list : ItemsOf) × TakesAll old.outbox.list (entry ∷ []) old.time list
-    × (TakesNone list old response new ⊎ IsTakenAgain list of plan old response new)
+    TakesNone (entry ∷ []) old response new
+    ⊎ ((list : ItemsOf) × TakesAll old.outbox.list (entry ∷ []) old.time list
+    × IsTakenAgain list of plan old response new)
 
 abbrev pub DoesAs : Effect → Plan → ServiceOf → Response → ServiceOf → Type 0
 DoesAs effect.Nothing plan old response new = (new ≡ old) × Writes plan.reply response

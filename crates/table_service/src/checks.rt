@@ -430,13 +430,17 @@ fn is_entered(now: &[Option<Entered>], at: usize) -> bool
     }
 }
 
-/// Whether attempts 3 and 4, one of which is entered, are left as results, those of 1 and 2 again.
+/// Whether attempts 3 and 4, or 4 and 5, one of which is entered, are left as results, those of 1
+/// and 2 again.
 fn is_repeat(now: &[Option<Entered>], left: &[Value]) -> bool
     ensures { result ≡ is_repeat now.now left.now }
 {
     (is_entered(now, 2) || is_entered(now, 3))
         && is_again(value_at(left, 0), value_at(left, 2))
         && is_again(value_at(left, 1), value_at(left, 3))
+        || (is_entered(now, 3) || is_entered(now, 4))
+            && is_again(value_at(left, 0), value_at(left, 3))
+            && is_again(value_at(left, 1), value_at(left, 4))
 }
 
 /// Notes that the first two results come again.

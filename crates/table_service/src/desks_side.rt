@@ -224,7 +224,7 @@ impl<'a, R: Net + RandomSource> DesksSide<'a, R> {
     }
 
     /// Goes on to the desk that the mirror follows, where it is another one than before; and to the
-    /// next desk, where nothing was decided for five seconds.
+    /// next desk, where a majority answers and nothing was decided for five seconds.
     fn follow<D: Disk>(&mut self, service: &mut TableService<D>, now: u64)
         ensures { IsKeptUp service.old service.new }
     {
@@ -232,6 +232,12 @@ impl<'a, R: Net + RandomSource> DesksSide<'a, R> {
         if desk != self.followed {
             self.followed = desk;
             return self.aim_at(service, desk, now);
+        }
+        if self.said == Said::Few {
+            // Without a majority nothing is decided at any desk: the five seconds begin when one
+            // answers.
+            self.aimed_at = now;
+            return;
         }
         let Some(since) = self.still_since(service) else {
             return;
@@ -288,7 +294,7 @@ impl<'a, R: Net + RandomSource> DesksSide<'a, R> {
     /// Submits what was taken, once the mirror had all that a desk's log had.
     fn hand_out<D: Disk>(&mut self, service: &mut TableService<D>, now: u64)
         ensures keeps { IsKeptUp service.old service.new }
-        ensures hands { self.old.caught_up ≡ true → HandsOut service.old service.new }
+        ensures hands { self.old.caught_up ≡ true → HandsOut now service.old service.new }
     {
         if !self.caught_up {
             return;
@@ -340,7 +346,7 @@ impl<'a, R: Net + RandomSource> DesksSide<'a, R> {
     ) -> io::Result<bool>
         ensures keeps { IsKeptUp service.old service.new }
         ensures hands { IfOk result (λ goes_on. goes_on ≡ true → self.old.caught_up ≡ true
-            → HandsOut service.old service.new) }
+            → HandsOut now service.old service.new) }
     {
         keep_asked(&mut self.asked, now, faults);
         if !self.keep_mirror(service, now)? {

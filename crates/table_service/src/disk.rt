@@ -1,16 +1,26 @@
 //! A file of which is known what a crash leaves.
 
-ghost use Rattle.std.specs.Prelude.{Option};
+ghost use Rattle.std.specs.Prelude.{IfOk, Option};
 ghost use Rattle.table_service.specs.Disks.{Appends, Cuts, DiskOf, Syncs};
+ghost use Rattle.table_service.specs.Openings.{HasBytes};
 
+use crate::journal_file::{FileFault, fault_of};
+use std::alloc::Global;
 use std::fs::File;
-use std::io::Write;
+use std::io::{Read, Write};
+
+/// The most bytes that a journal may have when it is read: those of more than 200,000 cards.
+const MOST_BYTES: u64 = 67_108_864;
 
 /// A file at whose end bytes are put.
 pub trait Disk {
     /// Its bytes, how many of the first of them a crash leaves, and how many of its calls failed,
     /// where that is told.
     ghost holds: { Self → Option DiskOf };
+
+    /// All its bytes, at most 67,108,864.
+    fn read(&self, alloc: Global) -> Result<Vec<u8>, FileFault>
+        ensures { IfOk result (λ bytes. HasBytes bytes.items (holds self.now)) };
 
     /// Puts bytes after the others. False where that fails; then a front part of them may be there.
     fn append(&mut self, bytes: &[u8]) -> bool
@@ -37,6 +47,20 @@ impl Disk for SystemFile {
 
     // What stands in a file of the system no contract can say.
     ghost holds = { λ _. None };
+
+    fn read(&self, alloc: Global) -> Result<Vec<u8>, FileFault> {
+        let mut bytes = Vec::new(alloc);
+        let file = &self.file;
+        let mut reader = file.take(MOST_BYTES + 1);
+        match reader.read_to_end(&mut bytes) {
+            Ok(_) => {}
+            Err(error) => return Err(fault_of(&error)),
+        }
+        if bytes.len() as u64 > MOST_BYTES {
+            return Err(FileFault::TooLong);
+        }
+        Ok(bytes)
+    }
 
     fn append(&mut self, bytes: &[u8]) -> bool {
         self.file.write_all(bytes).is_ok()

@@ -2,18 +2,17 @@
 
 ghost use Rattle.std.specs.Prelude.{◌≡◌, IfOk, false, true};
 ghost use Rattle.table_service.specs.Disks.{CutsBack, HasLines, Keeps, OpensOver, Puts};
+ghost use Rattle.table_service.specs.Openings.{HasBytes, HasNow, IsOverIn, OpensIn};
+ghost use Rattle.table_service.specs.Openings.{journal_bytes};
 
 use crate::disk::{Disk, SystemFile};
 use outbox::{HallName, Journal, JournalFault, read_journal};
 use std::alloc::Global;
 use std::fs::{File, OpenOptions, TryLockError};
 use std::io;
-use std::io::{ErrorKind, Read};
+use std::io::ErrorKind;
 use std::marker::Model;
 use thiserror::Error;
-
-/// The most bytes that a journal may have when it is read: those of more than 200,000 cards.
-const MOST_BYTES: u64 = 67_108_864;
 
 /// The desk that is asked first.
 const FIRST_DESK: u8 = 1;
@@ -47,7 +46,7 @@ impl From<JournalFault> for FileFault {
 }
 
 /// A fault of the system.
-fn fault_of(error: &io::Error) -> FileFault {
+pub(crate) fn fault_of(error: &io::Error) -> FileFault {
     match error.kind() {
         ErrorKind::OutOfMemory => FileFault::Unread(JournalFault::NoMemory),
         _ => FileFault::System,
@@ -123,9 +122,9 @@ impl<D: Disk> JournalFile<D> {
 
 /// What is in a journal's file, and the file.
 #[derive(Drop)]
-pub struct Opened {
+pub struct Opened<D: Disk> {
     pub journal: Journal,
-    pub file: JournalFile<SystemFile>,
+    pub file: JournalFile<D>,
 }
 
 /// The file at a path, which is made where there is none, and which nobody else uses.
@@ -144,20 +143,6 @@ fn opened_file(rt: &HostRuntime, path: &str) -> Result<File, FileFault> {
         Err(TryLockError::WouldBlock) => Err(FileFault::InUse),
         Err(TryLockError::Error(error)) => Err(fault_of(&error)),
     }
-}
-
-/// All bytes of a file.
-fn bytes_of(alloc: Global, file: &File) -> Result<Vec<u8>, FileFault> {
-    let mut bytes = Vec::new(alloc);
-    let mut reader = file.take(MOST_BYTES + 1);
-    match reader.read_to_end(&mut bytes) {
-        Ok(_) => {}
-        Err(error) => return Err(fault_of(&error)),
-    }
-    if bytes.len() as u64 > MOST_BYTES {
-        return Err(FileFault::TooLong);
-    }
-    Ok(bytes)
 }
 
 /// Makes sure that a file has its whole lines alone, of so many bytes, also after a crash: a part
@@ -191,44 +176,84 @@ fn opened_over<D: Disk + Drop>(disk: D, length: u64, cut: bool) -> Result<Journa
     })
 }
 
-/// The journal that a file has, whose last line is taken out of it where it was not written to its
-/// end.
-fn opened_with(disk: SystemFile, journal: Journal) -> Result<Opened, FileFault>
-    ensures { IfOk result (λ opened. (opened.journal ≡ journal)
-        × (opened.file.length ≡ journal.whole) × (opened.file.broken ≡ false)) }
+/// Puts a line into a file in place of all that it has. False where that fails.
+fn write_first<D: Disk>(disk: &mut D, line: &[u8]) -> bool
+    ensures { result ≡ true → HasNow line.now (D.holds disk.old) (D.holds disk.new) }
 {
+    if !disk.cut(0) {
+        return false;
+    }
+    put(disk, line)
+}
+
+/// The bytes of a journal's file, which has these: where no line was written to its end, it is
+/// begun with the one that names the hall.
+fn begun<D: Disk>(
+    alloc: Global,
+    disk: &mut D,
+    hall: &HallName,
+    bytes: Vec<u8>,
+) -> Result<Vec<u8>, FileFault>
+    requires { HasBytes bytes.items (D.holds disk.old) }
+    ensures are { IfOk result (λ all. all.items ≡ journal_bytes hall.now bytes.items) }
+    ensures there { IfOk result (λ all.
+        HasNow all.items (D.holds disk.old) (D.holds disk.new)) }
+{
+    if bytes.contains(&b'\n') {
+        return Ok(bytes);
+    }
+    let Ok(line) = hall.first_line(alloc) else {
+        return Err(FileFault::Unread(JournalFault::NoMemory));
+    };
+    if !write_first(disk, &line) {
+        return Err(FileFault::System);
+    }
+    Ok(line)
+}
+
+/// The journal of a hall in a file that has these bytes. A line that was not written to its end is
+/// taken out of the file.
+fn read_over<D: Disk + Drop>(
+    alloc: Global,
+    disk: D,
+    hall: &HallName,
+    bytes: &[u8],
+    now: u64,
+) -> Result<Opened<D>, FileFault>
+    requires { HasBytes bytes.now (D.holds disk) }
+    ensures { IfOk result (λ opened. IsOverIn hall.now now bytes.now (D.holds disk)
+        opened.journal.outbox opened.file) }
+{
+    let journal = read_journal(alloc, hall, FIRST_DESK, bytes, now)?;
     let file = opened_over(disk, journal.whole as u64, journal.cut)?;
     Ok(Opened { journal, file })
 }
 
-/// A journal that is begun: its first line names the hall.
-fn begun(alloc: Global, disk: SystemFile, hall: &HallName, now: u64) -> Result<Opened, FileFault> {
-    let Ok(line) = hall.first_line(alloc) else {
-        return Err(FileFault::Unread(JournalFault::NoMemory));
-    };
-    let mut disk = disk;
-    if !(disk.cut(0) && disk.append(&line) && disk.sync()) {
-        return Err(FileFault::System);
-    }
-    let journal = read_journal(alloc, hall, FIRST_DESK, &line, now)?;
-    opened_with(disk, journal)
-}
-
-/// Opens the journal of a hall at a path, or begins it there, and reads what it says. A line that
+/// Opens the journal of a hall in a file, or begins it there, and reads what it says. A line that
 /// was not written to its end is taken out of the file. A journal of another hall, or of the
 /// program that knows no edition 4, is refused.
+fn open_in<D: Disk + Drop>(
+    alloc: Global,
+    disk: D,
+    hall: &HallName,
+    now: u64,
+) -> Result<Opened<D>, FileFault>
+    ensures { IfOk result (λ opened. OpensIn hall.now now (D.holds disk) opened.journal.outbox
+        opened.file) }
+{
+    let bytes = disk.read(alloc)?;
+    let mut disk = disk;
+    let bytes = begun(alloc, &mut disk, hall, bytes)?;
+    read_over(alloc, disk, hall, &bytes, now)
+}
+
+/// Opens the journal of a hall at a path, or begins it there, as `open_in` does it.
 pub fn open_journal(
     rt: &HostRuntime,
     path: &str,
     hall: &HallName,
     now: u64,
-) -> Result<Opened, FileFault> {
+) -> Result<Opened<SystemFile>, FileFault> {
     let file = opened_file(rt, path)?;
-    let bytes = bytes_of(rt.alloc(), &file)?;
-    let disk = SystemFile { file };
-    match read_journal(rt.alloc(), hall, FIRST_DESK, &bytes, now) {
-        Ok(journal) => opened_with(disk, journal),
-        Err(JournalFault::Empty) => begun(rt.alloc(), disk, hall, now),
-        Err(fault) => Err(FileFault::Unread(fault)),
-    }
+    open_in(rt.alloc(), SystemFile { file }, hall, now)
 }

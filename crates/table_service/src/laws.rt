@@ -1,14 +1,15 @@
 //! What holds of each answer and of the journal, whatever is asked.
 
-ghost use Rattle.table_service.specs.Laws.{CallsAreOfTheOutbox, RefusesForeign, SavedIsTheCard};
-ghost use Rattle.table_service.specs.Laws.{SecuresAll, TakesForForms};
+ghost use Rattle.table_service.specs.Laws.{RefusesForeign, SavedIsTheCard, SecuresAll};
+ghost use Rattle.table_service.specs.Laws.{TakesForForms};
+ghost use Rattle.table_service.specs.Runs.{RunsAreOfTheOutbox, TakenStays};
 
-use outbox::laws::{saved_is_entered, told_by_the_log};
+use outbox::laws::{loses_nothing, saved_is_entered, submits_what_is_kept, told_by_the_log};
 
 /// A law: nothing is taken but what a form asks for that names no foreign host or origin, comes by
 /// POST and carries the token: a card is the one command that its form is read as, under the id of
 /// that form, which confirms all that the mirror's log of that moment asks of the card. It is
-/// answered that it is taken only where its line is kept.
+/// answered that it is taken only where it is in the list, and its line is kept.
 pub fn forms_alone_are_taken()
     ensures { TakesForForms }
 {}
@@ -23,12 +24,24 @@ pub fn foreign_requests_are_refused()
     ensures { RefusesForeign }
 {}
 
-/// A law: whatever a service is asked, what becomes of its items and of the lines of its journal is
-/// what calls of the outbox make of them. So the laws of `outbox` are of the service: what is
-/// submitted is what the journal has, and nothing that was answered to be taken is lost.
-pub fn calls_are_of_the_outbox()
-    ensures { CallsAreOfTheOutbox }
-{}
+/// A law: whatever is asked, whatever the loop does, and however often the program is started again
+/// after a crash, the items and the lines of the journal are what calls of the outbox make of them.
+/// So the laws of `outbox` are of the program: what is to be written to a desk is nothing but the
+/// end of a Submit, for this hall, of an entry whose line stands in the journal and is synced.
+pub fn runs_are_of_the_outbox()
+    ensures { RunsAreOfTheOutbox }
+{
+    submits_what_is_kept();
+}
+
+/// A law: what a form was answered to be taken is in the list from then on, whatever is asked and
+/// whatever the loop does, and after a crash at any moment, whatever stands then in the file after
+/// what was synced.
+pub fn what_is_taken_stays()
+    ensures { TakenStays }
+{
+    loses_nothing();
+}
 
 /// A law: a card that is told to be saved at a position stands there, in every log that long: just
 /// before it the competitor's attempts were those that the card's page showed, and just after it

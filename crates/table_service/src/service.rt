@@ -1,13 +1,14 @@
 //! The service of the score table.
 
-ghost use Rattle.std.specs.Prelude.{◌≡◌, ◌≤◌, ◌∷◌, [], IfOk, OnOk, length, slice_get};
+ghost use Rattle.std.specs.Prelude.{◌≡◌, ◌≤◌, ◌∷◌, [], IfOk, length, slice_get};
 ghost use Rattle.std.specs.Option.{option_copied};
 ghost use Rattle.outbox.specs.Items.{taken_back};
 ghost use Rattle.outbox.specs.Outboxes.{with_list};
-ghost use Rattle.table_service.specs.Services.{TakesAll};
+ghost use Rattle.table_service.specs.Services.{StaysKept, TakesAs, TriesAll, is_new};
 ghost use Rattle.wire.specs.Ranges.{IsId};
 
 use crate::disk::Disk;
+use crate::entries::is_sent;
 use crate::gate::is_own;
 use crate::journal_file::JournalFile;
 use crate::plan::{Effect, Plan, Problem};
@@ -25,7 +26,7 @@ use desk_sockets::{DeskStream, Kept};
 use http::Request;
 use http_server::{Response, Service};
 use mirroring::Mirroring;
-use outbox::Outbox;
+use outbox::{Outbox, Taken};
 use std::alloc::{AllocError, Global};
 use std::collections::VecDeque;
 use std::marker::Model;
@@ -89,18 +90,51 @@ fn first_set(ids: &VecDeque<[FormId; 32]>) -> Option<&[FormId; 32]>
     ids.front()
 }
 
-/// Takes entries, one after the other. At NoMemory the first of them were taken.
-fn take_all(outbox: &mut Outbox, entries: &[Entry], now: u64) -> Result<(), NoMemory>
-    ensures ok { OnOk result (TakesAll outbox.old.list entries.now now outbox.new.list) }
+/// Whether an entry is queued that was given to the outbox.
+fn is_new(came: Taken) -> bool
+    ensures { result ≡ is_new came }
+{
+    matches!(came, Taken::New)
+}
+
+/// Takes an entry. Whether it is queued, or was known with its text, whatever the remarks are.
+fn take_one(outbox: &mut Outbox, entry: &Entry, now: u64) -> Result<bool, NoMemory>
+    ensures ok { IfOk result (λ there.
+        TakesAs there outbox.old.list entry.now now outbox.new.list) }
+    ensures same { outbox.old.list.kept ≤ length outbox.old.list.items
+        → StaysKept outbox.old.list outbox.new.list }
+    ensures others { outbox.new ≡ with_list outbox.old outbox.new.list }
+{
+    let was_sent = is_sent(outbox, entry);
+    let came = outbox.take(entry.copy()?, now)?;
+    Ok(was_sent || is_new(came))
+}
+
+/// Takes entries, one after the other. False: one of them can't be taken. Then, and at NoMemory,
+/// the first of them were taken.
+fn take_all(outbox: &mut Outbox, entries: &[Entry], now: u64) -> Result<bool, NoMemory>
+    ensures ok { IfOk result (λ all.
+        TriesAll all outbox.old.list entries.now now outbox.new.list) }
     ensures same { outbox.old.list.kept ≤ length outbox.old.list.items
         → taken_back outbox.new.list ≡ taken_back outbox.old.list }
     ensures others { outbox.new ≡ with_list outbox.old outbox.new.list }
 {
     for entry in entries {
-        let copy = entry.copy()?;
-        let _came = outbox.take(copy, now)?;
+        if !take_one(outbox, entry, now)? {
+            return Ok(false);
+        }
     }
-    Ok(())
+    Ok(true)
+}
+
+/// Takes back what was taken since the journal was written last, and answers that.
+fn take_back(outbox: &mut Outbox, busy: Response, response: &mut Response)
+    ensures back { outbox.new ≡ with_list outbox.old (taken_back outbox.old.list) }
+    ensures all { outbox.new.list.kept ≡ length outbox.new.list.items }
+    ensures told { response.new ≡ busy }
+{
+    outbox.not_kept();
+    *response = busy;
 }
 
 /// A list of one entry.
@@ -118,7 +152,9 @@ impl<D: Disk> TableService<D> {
     ghost use Rattle.table_service.specs.Services.{AnswersIt, IsKeptBut, IsNew, IsSentBut};
     ghost use Rattle.table_service.specs.Services.{Plans, PlansAround, TakesAgainFor, TakesFor};
     ghost use Rattle.table_service.specs.Services.{with_ids_used};
+    ghost use Rattle.desk_sockets.specs.Asking.{AsksNow};
     ghost use Rattle.desk_talks.specs.Dialogues.{Reaches};
+    ghost use Rattle.mirroring.specs.Mirrorings.{DialogueLeads as MirrorLeads, awaiting, hurried};
     ghost use Rattle.outbox.specs.Outboxes.{DialogueLeads, aimed, looked};
     ghost use Rattle.wire.specs.Ranges.{IsDesk};
 
@@ -207,6 +243,7 @@ impl<D: Disk> TableService<D> {
     /// `DeskStream::keep` does it.
     pub fn keep<R: Net + RandomSource>(&mut self, stream: &mut DeskStream<'_, R>, now: u64) -> Kept
         ensures others { IsKeptBut self.old self.new }
+        ensures went { Reaches MirrorLeads self.old.mirroring self.new.mirroring }
         ensures same { result ≡ Kept.Same
             → self.new.mirroring.entries ≡ self.old.mirroring.entries }
     {
@@ -215,8 +252,7 @@ impl<D: Disk> TableService<D> {
 
     /// Asks the desk at once for what comes next.
     pub fn hurry(&mut self)
-        ensures others { IsKeptBut self.old self.new }
-        ensures entries { self.new.mirroring.entries ≡ self.old.mirroring.entries }
+        ensures { self.new ≡ record self.old { mirroring = hurried self.old.mirroring } }
     {
         self.mirroring.hurry();
     }
@@ -225,8 +261,7 @@ impl<D: Disk> TableService<D> {
     /// comes next. The desk has to know version 5 of the wire.
     pub fn await_next(&mut self, id: u64)
         requires { IsId id }
-        ensures others { IsKeptBut self.old self.new }
-        ensures entries { self.new.mirroring.entries ≡ self.old.mirroring.entries }
+        ensures { self.new ≡ record self.old { mirroring = awaiting self.old.mirroring id } }
     {
         self.mirroring.await_next(id);
     }
@@ -261,6 +296,7 @@ impl<D: Disk> TableService<D> {
     ) -> Kept
         ensures others { IsSentBut self.old self.new }
         ensures went { Reaches DialogueLeads self.old.outbox self.new.outbox }
+        ensures asked { AsksNow DialogueLeads now self.old.outbox self.new.outbox }
         ensures list { self.new.outbox.list ≡ self.old.outbox.list }
     {
         stream.keep(&mut self.outbox, now)
@@ -319,7 +355,7 @@ impl<D: Disk> TableService<D> {
     }
 
     /// Takes entries, and puts their lines into the journal, or says that it couldn't be done:
-    /// then none is taken. Whether they are taken. That answer is made first: memory may be refused
+    /// then none is taken. Whether all of them are, or were taken before. That answer is made first: memory may be refused
     /// for it, and what was tried with the file can't be undone.
     fn take(&mut self, entries: &[Entry], response: &mut Response) -> Result<bool, AllocError>
         ensures ok { IfOk result (λ kept.
@@ -328,16 +364,22 @@ impl<D: Disk> TableService<D> {
     {
         let mut busy = Response::new(self.alloc);
         tell_problem(&mut busy, Problem::Busy)?;
-        if let Err(fault) = take_all(&mut self.outbox, entries, self.time) {
-            self.outbox.not_kept();
-            return Err(fault);
+        match take_all(&mut self.outbox, entries, self.time) {
+            Ok(true) => {}
+            Ok(false) => {
+                take_back(&mut self.outbox, busy, response);
+                return Ok(false);
+            }
+            Err(fault) => {
+                self.outbox.not_kept();
+                return Err(fault);
+            }
         }
         if self.file.keep(self.outbox.lines()) {
             self.outbox.kept();
             return Ok(true);
         }
-        self.outbox.not_kept();
-        *response = busy;
+        take_back(&mut self.outbox, busy, response);
         Ok(false)
     }
 

@@ -97,7 +97,7 @@ fn service_of<'a, R: RandomSource>(
     address: SocketAddr,
     title: String,
     name: String,
-    opened: Opened,
+    opened: Opened<SystemFile>,
 ) -> io::Result<&'a mut TableService<SystemFile>> {
     let setup = Setup::new(runtime, alloc, address, title, name)?;
     let mirroring = Mirroring::new(alloc, hall.number, count_desks(hall.addresses))?;
@@ -128,7 +128,7 @@ pub fn serve<'a, R: Net + RandomSource + Clock + Drop, W: Write, F: Write>(
     hall: Hall<'_>,
     title: String,
     name: String,
-    opened: Opened,
+    opened: Opened<SystemFile>,
     browsers: &mut Browsers<BrowserSockets<'a, R>>,
     writer: &mut W,
     faults: &mut F,

@@ -203,9 +203,9 @@ abbrev pub recent_line : Around → Option ℕ → Recent → List ℕ
 recent_line around newest recent =
     line_of around newest recent (card_in recent.item.now.entry.text)
 
--- the list says aloud what became of what was sent
+-- what was sent, newest first
 abbrev pub recent_section : Around → List ℕ
 recent_section around =
-    codes "<section id=\"recent\"><h2>Last entered</h2>\n<ol aria-live=\"polite\">\n"
+    codes "<section id=\"recent\"><h2>Last entered</h2>\n<ol>\n"
     ++ flat_map (recent_line around (newest_saved around.recent.now)) around.recent.now
     ++ codes "</ol></section>\n"

@@ -27,6 +27,7 @@ h2 { font-size: 1.05rem; margin: .8rem 0 .3rem; }
 .count, .options { margin: .2rem 0; }
 .rules { margin: .1rem 0 .6rem; }
 form label { display: inline-block; }
+label output { margin-left: .5rem; }
 input, select, button { font: inherit; padding: .3rem .5rem; color: inherit;
   background: var(--paper); border: 1px solid var(--line); border-radius: .3rem; }
 button { background: var(--soft); cursor: pointer; }
@@ -56,11 +57,12 @@ kbd { padding: 0 .25rem; border: 1px solid var(--line); border-radius: .2rem; }
 #found { grid-column: 2 / 5; list-style: none; margin: 0; padding: 0; }
 #found li { padding: .2rem .4rem; }
 #found li.chosen { background: var(--mark); }
-#recent ol, #back ol { list-style: none; margin: 0; padding: 0; }
+#recent ol, #back { list-style: none; margin: 0; padding: 0; }
 #recent li, #back li { padding: .25rem 0; border-bottom: 1px solid var(--line);
   overflow-wrap: anywhere; }
 #recent small { color: inherit; opacity: .8; }
-#recent .typed span { margin-right: .7rem; font-variant-numeric: tabular-nums; }
+#recent .typed span { display: inline-block; margin-right: .7rem;
+  font-variant-numeric: tabular-nums; }
 #recent .typed span:empty { display: none; }
 #recent em, #back em { display: block; font-style: normal; }
 #recent form { display: inline-block; margin: .2rem .6rem .2rem 0; }
@@ -72,7 +74,8 @@ table { border-collapse: collapse; width: 100%; font-variant-numeric: tabular-nu
 th, td { padding: .15rem .4rem; border-bottom: 1px solid var(--line); text-align: right; }
 #round thead { position: sticky; top: 0; background: var(--paper); }
 #round :is(table, caption, thead, tbody) { display: block; }
-#round tr { display: grid; grid-template-columns: 3rem 3.5rem minmax(10rem, 1fr);
+#round th { font-size: .85rem; }
+#round tr { display: grid; grid-template-columns: 3.5rem 4.5rem minmax(9rem, 1fr);
   grid-auto-columns: minmax(4.4rem, 6.2rem); grid-auto-flow: column; }
 #round tbody tr { content-visibility: auto; contain-intrinsic-size: auto 1.7rem; }
 #round th:nth-child(3), #round td:nth-child(3), body.hall th, body.hall td { text-align: left; }
@@ -447,9 +450,11 @@ async function who(number) {
   const page = answer.ok ? pageOf(await answer.text()) : null, it = $('who');
   const [event, round] = form.elements.round.value.split('-');
   const button = Object.assign(make('button', 'enter in this round'), { type: 'button' });
-  if (!page || $('number').value.trim() !== number || !it.className) return;
-  it.append(' ' + page.querySelector('h1').textContent
-    + page.querySelector('h1 + p').textContent.replace(/^Number [0-9]+/, ''));
+  if ($('number').value.trim() !== number || !it.className) return;
+  if (answer.status === 404) it.append(', and nobody has this number');
+  if (!page) return;
+  const told = page.querySelector('h1 + p').textContent.replace(/^Number [0-9]+/, '');
+  it.append(' ' + page.querySelector('h1').textContent + told.replace(/:$/, ': none'));
   button.addEventListener('click', () => enterIn(event, number));
   if (round === '1') it.append(' ', button);
 }
@@ -472,9 +477,9 @@ function doubts(readings, place) {
   return time === undefined ? found : [...found, ...tooFast(time), ...unlike(readings, place)];
 }
 function tooFast(time) {
-  if (time < Number(rules.floor)) return [['fast', 'faster than anybody has ever been?']];
-  const half = 2 * time < Number(rules.best);
-  return half ? [['half', 'less than half of the best of the round?']] : [];
+  const fast = time < Number(rules.floor), half = 2 * time < Number(rules.best);
+  return [...(fast ? [['fast', 'faster than anybody has ever been?']] : []),
+    ...(half ? [['half', 'less than half of the best of the round?']] : [])];
 }
 // A time is looked at beside the others that are typed, and beside all others.
 function unlike(readings, place) {
@@ -486,16 +491,16 @@ function unlike(readings, place) {
     : some((other) => 2 * time < other) ? 'less than half of the others?' : '';
   return asks ? [['unlike', asks]] : [];
 }
-// Whether the third and the fourth result are the first two again.
+// The place, from the third on, from which the first two results come again; none where none does.
 function repeats(readings) {
-  const [a, b, c, d] = readings.map((it) => it && Number.isFinite(it.value) ? it.value : null);
-  const typed = fields.slice(2, 4).some((field) => touched(field) !== null);
-  return a && b && a === c && b === d && typed;
+  const all = readings.map((it) => it && Number.isFinite(it.value) ? it.value : null);
+  return all[0] && all[1] && [2, 3].find((at) => all[0] === all[at] && all[1] === all[at + 1]
+    && fields.slice(at, at + 2).some((field) => touched(field) !== null));
 }
 // The words of all that is to be confirmed, which are shown; none where there is nothing.
 function questions(readings) {
-  const told = fields.map((field, place) => doubts(readings, place));
-  if (repeats(readings)) told[2].push(['repeats', 'the first two again?']);
+  const told = fields.map((field, place) => doubts(readings, place)), again = repeats(readings);
+  if (again) told[again].push(['repeats', 'the first two again?']);
   told.forEach((found, place) => {
     const it = beside(fields[place], 'output'), asks = found.map(([, words]) => words);
     if (asks.length > 0) say(it, [it.textContent, ...asks].join(' '), true);
@@ -551,7 +556,7 @@ function compare(row, readings) {
     const { value = '-', result = value } = reading || {}, here = stands[place] || '-';
     return result === here ? [] : [place + 1 + ': ' + result + ' on paper, ' + here + ' here'];
   });
-  if (differs.length > 0) list(nameOf(row), differs.join('; '), () => open(row));
+  if (differs.length > 0) list(nameOf(row), differs.join('; '), () => (open(row), row));
   else if (hasAny(row)) tick(row);
   empty();
 }
@@ -562,7 +567,7 @@ let spare = form ? rules.spare.trim().split(' ') : [], busy = false;
 function list(name, why, again) {
   const line = make('li', name), button = make('button', 'open again');
   line.append(make('em', why), button);
-  button.addEventListener('click', () => { if (mayLeave()) again(), line.remove(); });
+  button.addEventListener('click', () => { if (mayLeave() && again()) line.remove(); });
   $('back').prepend(line);
   beep();
 }
@@ -572,8 +577,9 @@ function giveBack(card, text, status) {
   list(card.name, why, () => {
     const row = rowOf(card.body.get('number'));
     if (row) open(row, card.typed);
-    sure = asks ? asks.value : '';
-    say($('average'), why, true);
+    sure = row && asks ? asks.value : '';
+    say($('average'), row ? why : 'nobody in this round: ' + card.name, true);
+    return row;
   });
 }
 async function send() {
@@ -585,7 +591,8 @@ async function send() {
       .catch(() => ({ status: 500 }));
     const taken = answer.status !== 403 && answer.status < 500;
     askOften();
-    say($('unsent'), taken ? '' : sending.length + ' wait in this page: leave it open', true);
+    const count = sending.length, wait = count === 1 ? ' card waits' : ' cards wait';
+    say($('unsent'), taken ? '' : count + wait + ' in this page: leave it open', true);
     if (!taken) await new Promise((done) => setTimeout(done, 1000));
     else if (sending.shift() && answer.type === 'opaqueredirect') sent.push({ ...card, asked });
     else giveBack(card, await answer.text(), answer.status);
@@ -688,7 +695,8 @@ const controls = () => all('main :is(a, button, input:not([type=hidden]), select
 // What each of them holds before anybody typed in it.
 const held = (it) => it.value + ' ' + it.checked, first = new WeakMap();
 const remember = () => controls().forEach((it) => first.set(it, held(it)));
-const isFilled = () => controls().some((it) => first.has(it) && first.get(it) !== held(it));
+const filled = () => controls().filter((it) => first.has(it) && first.get(it) !== held(it));
+const isFilled = () => filled().length > 0;
 // What a page shows, but for ids and tokens of forms, and what was entered of late.
 function bare(main) {
   const it = main.cloneNode(true), recent = it.querySelector('#recent');
@@ -708,9 +716,22 @@ function replaceMain(page) {
   if (at >= 0 && controls()[at]) controls()[at].focus();
   lookOver();
 }
+// A competition's file that is chosen may have numbers of persons who are not registered here: the
+// one that is proposed for somebody new is after those too.
+async function keepGreatest({ target }) {
+  const text = target.type === 'file' && target.files[0] ? await target.files[0].text() : '';
+  const found = [...text.matchAll(/\"registrantId\"\\s*:\\s*([0-9]{1,4})\\b/g)];
+  const greatest = Math.max(...found.map(([, number]) => Number(number)));
+  if (found.length > 0) localStorage.setItem('greatest', greatest);
+}
+function proposeNumber() {
+  const field = document.querySelector('form:has([value=REG]) [name=number]');
+  const free = Math.min(9999, 1 + Number(localStorage.getItem('greatest')));
+  if (field && Number(field.value) < free) field.value = free;
+}
 // What is to be done for what a page without a card's form shows first.
 function lookOver() {
-  remember();
+  proposeNumber(), remember();
   all('input[data-unit=time]').forEach(readRule);
 }
 // Beside a time limit or a cutoff stands what is read.
@@ -720,10 +741,12 @@ function readRule(field) {
   say(told, wrong || result, wrong);
   field.after(told);
 }
-function mayOpen(it) {
+function maySend(it) {
   const limit = it.elements.limit && readTime(it.elements.limit.value.trim());
-  return !limit || !(limit.value < 6000)
-    || confirm('The time limit is ' + limit.result + ', which is below a minute. Is it right?');
+  const others = filled().filter((field) => !it.contains(field)).map((field) => field.value);
+  return (!limit || !(limit.value < 6000)
+    || confirm('The time limit is ' + limit.result + ', which is below a minute. Is it right?'))
+    && (others.length === 0 || confirm('Typed and not sent: ' + others.join(', ') + '. Leave it?'));
 }
 // ---- what the table answers
 // What the page of an answer says against what was sent.
@@ -818,6 +841,8 @@ function keys(event) {
   const on = event.key === 'Enter' || (event.key === 'Tab' && inNumber && !event.shiftKey);
   const more = rest[1] && !rest[1].disabled && rest.some((it) => it.value);
   if (event.isComposing) return;
+  // a key that is held down answers nothing
+  if (event.repeat && event.key === 'Enter') return event.preventDefault();
   if (event.key === 'Escape') { if (mayLeave()) empty(); }
   else if (step && inNumber) { chosen += step; suggest(candidates()); }
   else if (step && at >= 0) enter(fields[at + step] || $('number'));
@@ -893,11 +918,12 @@ async function learn() {
 let leaves = false;
 document.addEventListener('input', narrow, true);
 document.addEventListener('compositionend', narrow, true);
+document.addEventListener('change', keepGreatest);
 document.addEventListener('keydown', (event) => event.key === 'F9' && takeBack());
 document.addEventListener('submit', (event) => {
   if (event.target === form) { event.preventDefault(); submit(); }
   else if (event.target.closest('#recent')) answer(event);
-  else if (mayOpen(event.target)) leaves = true;
+  else if (maySend(event.target)) leaves = true;
   else event.preventDefault();
 });
 document.addEventListener('input', (event) => {

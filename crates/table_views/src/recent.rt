@@ -470,9 +470,7 @@ pub fn push_recent(out: &mut Vec<u8>, around: &Around<'_>) -> Result<(), NoMemor
     ensures { OnOk result (out.new.items ≡ out.old.items ++ recent_section around.entry.now) }
 {
     let newest = newest_saved(*out.allocator(), around.recent)?;
-    out.extend_from_slice(
-        b"<section id=\"recent\"><h2>Last entered</h2>\n<ol aria-live=\"polite\">\n",
-    )?;
+    out.extend_from_slice(b"<section id=\"recent\"><h2>Last entered</h2>\n<ol>\n")?;
     push_lines(out, around, newest, around.recent)?;
     out.extend_from_slice(b"</ol></section>\n")
 }

@@ -1,8 +1,12 @@
 -- A desk that is asked once, for its newest sheet, or for its log, and its answer printed.
-use Rattle.std.specs.Prelude.{◌≡◌, ◌⊎◌, ℕ, List, Option}
+use Rattle.std.specs.Prelude.{◌≡◌, ◌⊎◌, ℕ, Bool, true, false, List, Option, None}
 use Rattle.std.specs.Io.KnownBytes.{Keeps}
 use Rattle.arguments.specs.declared.places.Place.{Place}
+use Rattle.arguments.specs.declared.places.Place.TheVariants as place
+use Rattle.arguments.specs.declared.task.LogForm.{LogForm as AskedForm}
+use Rattle.arguments.specs.declared.task.LogForm.TheVariants as asked
 use Rattle.arguments.specs.declared.task.Request.{Request}
+use Rattle.arguments.specs.declared.task.Request.TheVariants as request
 use Rattle.batch.specs.Dialing.{Told}
 use Rattle.batch.specs.declared.asking.Receiver.{Receiver}
 use Rattle.batch.specs.declared.dialing.Contact.{Contact}
@@ -12,12 +16,31 @@ use Rattle.errands.specs.Logs.{FailsTold, PrintsTold}
 use Rattle.errands.specs.Newest.{FailsToPrint, PrintsNewest}
 use Rattle.errands.specs.Statuses.{status_of}
 use Rattle.errands.specs.declared.fault.DeskFault.{DeskFault}
+use Rattle.errands.specs.declared.logs.LogForm.{LogForm}
+use Rattle.errands.specs.declared.logs.LogForm.TheVariants as form
 use Rattle.errands.specs.declared.requests.Errand.{Errand}
+use Rattle.log_rows.specs.declared.writing.Shown.TheVariants as shown
 use Rattle.tasks.specs.Places.{EndsAt, Reach}
 
-abbrev pub errand_of : Receiver → Contact → Request → Errand
-errand_of one there request =
-    record { hall = one.hall; desk = one.desk; contact = there; request = request }
+-- the desk is one of a file's hall, and is named where it did what was asked
+abbrev pub is_of_file : Place → Bool
+is_of_file (place.Desk hall desk address key) = false
+is_of_file (place.File file desk key) = true
+
+abbrev pub errand_of : (names : Bool) → Receiver → Contact → Request → Errand
+errand_of names one there request =
+    record {
+      hall = one.hall;
+      desk = one.desk;
+      contact = there;
+      request = request;
+      names = names;
+    }
+
+-- a desk is to stop, and none is named
+abbrev pub lacks_name : Place → Request → Bool
+lacks_name (place.File file None key) request.Stop = true
+lacks_name _ _ = false
 
 -- the desk was asked and its answer printed, or that failed
 abbrev pub EndsErrand : ℕ → Errand → Told → (old new : Option (List ℕ)) → Type 0
@@ -25,10 +48,29 @@ EndsErrand status e t old new =
     ((status ≡ 0) × DoesErrand e t old new)
     ⊎ ((f : DeskFault) × (status ≡ status_of f) × FailsErrand f e t old new)
 
+-- so it was of the desk that was found
+abbrev pub EndsRequest : Place → ℕ → Request → (names : Bool) → ℕ → Reach
+    → (old new : Option (List ℕ)) → Type 0
+EndsRequest p patience request names status r old new =
+    EndsAt p patience status r (Keeps old new)
+    (λ one there t. EndsErrand status (errand_of names one there request) t old new)
+
+-- none was found, or one was, and it was asked no more
+abbrev pub EndsUnnamed : Place → ℕ → ℕ → Reach → Type 0
+EndsUnnamed p patience status r =
+    EndsAt p patience status r (Unit {0}) (λ _ _ t. (status ≡ 2) × (t.old ≡ t.new))
+
+-- where a desk is to stop and none is named, none is asked
+abbrev pub EndsAsBidden : (lacks : Bool) → Place → ℕ → Request → ℕ → Reach
+    → (old new : Option (List ℕ)) → Type 0
+EndsAsBidden true p patience request status r old new =
+    EndsUnnamed p patience status r × Keeps old new
+EndsAsBidden false p patience request status r old new =
+    EndsRequest p patience request (is_of_file p) status r old new
+
 abbrev pub EndsCarry : Place → ℕ → Request → ℕ → Reach → (old new : Option (List ℕ)) → Type 0
 EndsCarry p patience request status r old new =
-    EndsAt p patience status r (Keeps old new)
-    (λ one there t. EndsErrand status (errand_of one there request) t old new)
+    EndsAsBidden (lacks_name p request) p patience request status r old new
 
 -- its newest sheet of the round was printed, or that failed
 abbrev pub EndsSheet : ℕ → Receiver → RoundSheet → Told → (old new : Option (List ℕ)) → Type 0
@@ -41,13 +83,22 @@ EndsNewest p patience sheet status r old new =
     EndsAt p patience status r (Keeps old new)
     (λ one _ t. EndsSheet status one sheet t old new)
 
--- the lines of its log from a position on were printed, or that failed
-abbrev pub EndsCopy : ℕ → Receiver → (from : ℕ) → Told → (old new : Option (List ℕ)) → Type 0
-EndsCopy status one from t old new =
-    ((status ≡ 0) × PrintsTold one from t old new)
-    ⊎ ((f : DeskFault) × (status ≡ status_of f) × FailsTold f one from t old new)
+-- in which form a log is printed
+abbrev pub log_form : AskedForm → LogForm
+log_form asked.Lines = form.Lines
+log_form asked.Rows = form.Rows shown.All
+log_form (asked.ChangesOf event round number) =
+    form.Rows (shown.ChangesOf (record { event = event; round = round; number = number }))
 
-abbrev pub EndsCopyLog : Place → ℕ → (from : ℕ) → ℕ → Reach → (old new : Option (List ℕ)) → Type 0
-EndsCopyLog p patience from status r old new =
+-- its log from a position on was printed, or that failed
+abbrev pub EndsCopy : ℕ → Receiver → LogForm → (from : ℕ) → Told → (old new : Option (List ℕ))
+    → Type 0
+EndsCopy status one form from t old new =
+    ((status ≡ 0) × PrintsTold one form from t old new)
+    ⊎ ((f : DeskFault) × (status ≡ status_of f) × FailsTold f one form from t old new)
+
+abbrev pub EndsCopyLog : Place → ℕ → (from : ℕ) → LogForm → ℕ → Reach
+    → (old new : Option (List ℕ)) → Type 0
+EndsCopyLog p patience from form status r old new =
     EndsAt p patience status r (Keeps old new)
-    (λ one _ t. EndsCopy status one from t old new)
+    (λ one _ t. EndsCopy status one form from t old new)

@@ -54,6 +54,18 @@ pub fn tell_missing<F: Write>(
     status
 }
 
+/// Says that a desk has to be named that is to stop, and which one answers, and returns the exit
+/// status.
+pub(crate) fn tell_unnamed<F: Write>(faults: &mut F, desk: u8, address: &str) -> u8
+    ensures { result ≡ 2 }
+{
+    let _ = writeln!(
+        faults,
+        "which desk is to stop? --desk {desk} stops the one at {address}"
+    );
+    2
+}
+
 /// As `tell_asked`, of a desk that was to serve.
 pub fn tell_service<F: Write>(
     rt: &HostRuntime,

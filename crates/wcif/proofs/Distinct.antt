@@ -13,7 +13,7 @@ use Rattle.texts.proofs.Numerals.{bytes_eq-same}
 use Rattle.wcif.specs.declared.options.SameNames.{SameNames}
 use Rattle.wcif.specs.declared.fault.PersonFault.TheVariants as fault
 use Rattle.wcif.specs.Persons.{is_accepted, number_of, is_number, has_number, name_as, has_name}
-use Rattle.wcif.specs.Persons.{name_faults, accepted_faults, most_events, number_faults}
+use Rattle.wcif.specs.Persons.{bad_name, name_faults, accepted_faults, most_events, number_faults}
 use Rattle.wcif.specs.Persons.{events_faults, event_ids}
 use Rattle.wcif.specs.Faults.{person_faults}
 use Rattle.wcif.specs.Told.{told, told_from}
@@ -50,8 +50,8 @@ untaken : (taken : Bool) (name : List ℕ) → name_faults taken name ≡ [] →
 untaken taken name none = step (not (is_clear_name name)) taken none
   where
     step : (a b : Bool)
-        → cond a (fault.BadName ∷ []) (cond b (fault.NameTaken ∷ []) []) ≡ [] → b ≡ false
-    step true b h = absurd (no_cons fault.BadName [] h)
+        → cond a (bad_name name ∷ []) (cond b (fault.NameTaken ∷ []) []) ≡ [] → b ≡ false
+    step true b h = absurd (no_cons (bad_name name) [] h)
     step false true h = absurd (no_cons fault.NameTaken [] h)
     step false false h = refl
 

@@ -11,7 +11,7 @@ use Rattle.wcif.specs.declared.options.Options.{Options}
 use Rattle.wcif.specs.declared.options.SameNames.{SameNames}
 use Rattle.wcif.specs.declared.fault.PersonFault.TheVariants as fault
 use Rattle.wcif.specs.Persons.{is_accepted, number_of, is_number, has_number, name_as}
-use Rattle.wcif.specs.Persons.{name_faults, accepted_faults, number_faults, taken_faults}
+use Rattle.wcif.specs.Persons.{bad_name, name_faults, accepted_faults, number_faults, taken_faults}
 use Rattle.wcif.specs.Persons.{events_faults, event_ids, last_number}
 use Rattle.wcif.specs.Faults.{person_faults, faults_in}
 use Rattle.wcif.specs.Told.{told_from}
@@ -23,9 +23,9 @@ named : (taken : Bool) (name : List ℕ) → name_faults taken name ≡ [] → i
 named taken name none = step (is_clear_name name) taken none
   where
     step : (a b : Bool)
-        → cond (not a) (fault.BadName ∷ []) (cond b (fault.NameTaken ∷ []) []) ≡ [] → a ≡ true
+        → cond (not a) (bad_name name ∷ []) (cond b (fault.NameTaken ∷ []) []) ≡ [] → a ≡ true
     step true b h = refl
-    step false b h = absurd (no_cons fault.BadName [] h)
+    step false b h = absurd (no_cons (bad_name name) [] h)
 
 in_desk_range : (earlier : List Data) (o : Option ℕ) (n : ℕ) → number_faults earlier o ≡ []
     → is_number n o ≡ true → (1 ≤ n) × (n ≤ last_number)

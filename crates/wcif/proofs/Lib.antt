@@ -17,6 +17,7 @@ pub mod Named
 pub mod Nested
 pub mod Numbered
 pub mod Opening
+pub mod Places
 pub mod Registering
 pub mod RoundSettings
 pub mod SetUp

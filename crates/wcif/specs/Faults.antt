@@ -7,16 +7,22 @@ use Rattle.wcif.specs.declared.options.Options.{Options}
 use Rattle.wcif.specs.declared.options.SameNames.{SameNames}
 use Rattle.wcif.specs.declared.fault.Fault.{Fault}
 use Rattle.wcif.specs.declared.fault.Fault.TheVariants as of
+use Rattle.wcif.specs.declared.fault.Who.{Who}
 use Rattle.wcif.specs.Members.{list_at}
-use Rattle.wcif.specs.Persons.{is_accepted, accepted_faults, most_events}
+use Rattle.wcif.specs.Persons.{accepted_faults, given_name, is_accepted, most_events, number_of}
 use Rattle.wcif.specs.Events.{event_faults}
 use Rattle.wcif.specs.Told.{told, place}
+
+-- the name and the number of a person
+abbrev pub who : Data → Who
+who p = record { name = given_name p; number = number_of p }
 
 -- of a person: nothing, where he is not accepted
 unfoldable pub person_faults : SameNames → List Data → List Data → List Data → Data → List Fault
 person_faults how events everyone earlier p =
     if is_accepted p
-    then map (of.Person (place earlier)) (accepted_faults how events everyone earlier p) else []
+    then map (of.Person (place earlier) (who p)) (accepted_faults how events everyone earlier p)
+    else []
 
 abbrev pub faults_in : Options → Option (List Data) → Option (List Data) → List Fault
 faults_in options None None = of.NoPersons ∷ of.NoEvents ∷ []

@@ -3,6 +3,7 @@ pub mod Events
 pub mod Faults
 pub mod Files
 pub mod Imports
+pub mod Later
 pub mod Laws
 pub mod Lines
 pub mod Members

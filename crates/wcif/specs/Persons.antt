@@ -93,10 +93,21 @@ name_as how everyone p = with_id (given_name p) (id_as how everyone p)
 abbrev pub has_name : SameNames → List Data → List ℕ → Data → Bool
 has_name how everyone name p = is_accepted p && bytes_eq name (name_as how everyone p)
 
+abbrev pub has_quote : List ℕ → Bool
+has_quote name = list_any (λ byte. byte == 34) name
+
+-- what is wrong with a name that a desk refuses
+abbrev pub bad_name : List ℕ → PersonFault
+bad_name name =
+    if length name == 0 then fault.NoName
+    else if nat_lt 160 (length name) then fault.LongName
+    else if has_quote name then fault.QuoteInName
+    else fault.BadName
+
 -- a name that is spelled wrong, or that a person in front has
 abbrev pub name_faults : Bool → List ℕ → List PersonFault
 name_faults taken name =
-    if not (is_clear_name name) then fault.BadName ∷ []
+    if not (is_clear_name name) then bad_name name ∷ []
     else if taken then fault.NameTaken ∷ []
     else []
 

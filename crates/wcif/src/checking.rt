@@ -4,25 +4,44 @@ ghost use Rattle.std.specs.Prelude.{◌≡◌, ◌++◌, ◌∷◌, [], ◌+◌,
 ghost use Rattle.serde_json.specs.Data.{Data};
 ghost use Rattle.serde_json.specs.View.{view};
 ghost use Rattle.wcif.specs.declared.fault.Fault.TheVariants.{Person as PersonOf};
-ghost use Rattle.wcif.specs.Faults.{person_faults};
+ghost use Rattle.wcif.specs.Faults.{person_faults, who};
 ghost use Rattle.wcif.specs.Told.{told};
 ghost use Rattle.wcif.specs.model.Kept.{AreKept, AddsFaults, KeepsPerson};
 
-use crate::fault::{Fault, PersonFault};
+use crate::fault::{Fault, PersonFault, Who};
 use crate::options::SameNames;
 use crate::people::People;
-use crate::persons::is_accepted;
+use crate::persons::{given_name, is_accepted, number_of};
+use crate::quoted::Quoted;
 use attempts::NoMemory;
 use serde_json::Value;
 use std::alloc::Global;
 
+/// The name and the number of a person.
+fn who(alloc: Global, person: &Value) -> Result<Who, NoMemory>
+    ensures { IfOk result (λ found. found ≡ who (view person.now)) }
+{
+    Ok(Who {
+        name: Quoted::of(alloc, given_name(person).as_bytes())?,
+        number: number_of(person),
+    })
+}
+
 /// Adds what a desk cannot hold of the person at a place.
-fn push_found(faults: &mut Vec<Fault>, place: usize, found: &[PersonFault]) -> Result<(), NoMemory>
-    ensures { OnOk result (faults.new.items ≡ faults.old.items ++ map (PersonOf place) found.now) }
+fn push_found(
+    alloc: Global,
+    faults: &mut Vec<Fault>,
+    place: usize,
+    person: &Value,
+    found: &[PersonFault],
+) -> Result<(), NoMemory>
+    ensures { OnOk result (faults.new.items
+        ≡ faults.old.items ++ map (PersonOf place (who (view person.now))) found.now) }
 {
     for fault in found {
         faults.push(Fault::Person {
             place,
+            who: who(alloc, person)?,
             fault: *fault,
         })?;
     }
@@ -48,7 +67,7 @@ fn push_person<'v>(
         return Ok(());
     }
     let found = people.add(alloc, how, events, person)?;
-    push_found(faults, place, &found)
+    push_found(alloc, faults, place, person, &found)
 }
 
 /// Notes all accepted persons, and adds what a desk cannot hold of them.

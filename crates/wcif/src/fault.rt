@@ -1,6 +1,8 @@
 //! What a desk cannot hold of a competition.
 
+use crate::quoted::Quoted;
 use formats::Event;
+use std::fmt;
 use thiserror::Error;
 
 /// What a desk cannot hold of a round.
@@ -43,8 +45,17 @@ pub enum PersonFault {
     /// An accepted person in front has the number.
     #[error("another accepted person has this registrantId")]
     NumberTaken,
-    /// The name is missing, or is none that a desk accepts.
-    #[error("the desk refuses the name")]
+    /// The name is missing, or empty.
+    #[error("the name is missing")]
+    NoName,
+    /// The name has more than 160 bytes.
+    #[error("the name has more than 160 bytes")]
+    LongName,
+    /// The name has a double quote.
+    #[error("the name has a double quote")]
+    QuoteInName,
+    /// The name has a space at an end, two in a row, or a character that is not seen.
+    #[error("the name has a space too many, or a character that is not seen")]
     BadName,
     /// An accepted person in front has the name.
     #[error("another accepted person has this name")]
@@ -83,8 +94,25 @@ pub enum EventFault {
     TooManyRounds,
 }
 
+/// A person of the file: the name, and the number where there is one.
+#[derive(Debug, Drop)]
+pub struct Who {
+    pub name: Quoted,
+    pub number: Option<u64>,
+}
+
+impl fmt::Display for Who {
+    fn fmt<W: fmt::Write>(&self, f: &mut fmt::Formatter<W>) -> fmt::Result {
+        self.name.fmt(f)?;
+        match self.number {
+            Some(number) => write!(f, " ({number})"),
+            None => Ok(()),
+        }
+    }
+}
+
 /// What a desk cannot hold of a competition.
-#[derive(Clone, Copy, Debug, PartialEq, Eq, Error)]
+#[derive(Debug, Drop, Error)]
 pub enum Fault {
     /// There is no list of persons.
     #[error("no list of persons")]
@@ -96,9 +124,10 @@ pub enum Fault {
     #[error("more than 100 events")]
     TooManyEvents,
     /// Of the person at this place in the list, from 1.
-    #[error("person {place}: {fault}")]
+    #[error("person {place}, {who}: {fault}")]
     Person {
         place: usize,
+        who: Who,
         fault: PersonFault,
     },
     /// Of the event at this place in the list, from 1.

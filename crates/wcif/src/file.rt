@@ -2,14 +2,14 @@
 
 ghost use Rattle.std.specs.Prelude.{◌≡◌, IfOk, IfErr};
 ghost use Rattle.wcif.specs.Files.{without_mark, SetsUp, FileFails};
+ghost use Rattle.wcif.specs.Later.{SaysLater};
 
 use crate::fault::Fault;
-use crate::importing::{ImportFault, import};
+use crate::importing::{ImportFault, Imported, import};
 use crate::nesting::nests_within;
 use crate::options::Options;
 use serde_json::{Error, Value};
 use std::alloc::Global;
-use texts::Command;
 
 /// The most bytes of a file: 64 MiB.
 const MOST_BYTES: usize = 67_108_864;
@@ -44,8 +44,9 @@ fn without_mark(bytes: &[u8]) -> &[u8]
     }
 }
 
-/// The commands that set up the competition of a file in the WCA Competition Interchange Format.
-/// A byte-order mark at the front is dropped.
+/// The commands that set up the competition of a file in the WCA Competition Interchange Format,
+/// and what is to be known of rounds that they do not open. A byte-order mark at the front is
+/// dropped.
 ///
 /// # Errors
 ///
@@ -55,8 +56,9 @@ fn without_mark(bytes: &[u8]) -> &[u8]
 /// - `Refused` where a desk cannot hold all of the competition: every fault, as [`import`] has
 ///   them.
 /// - `NoMemory` where memory ran out.
-pub fn import_file(alloc: Global, bytes: &[u8], options: Options) -> Result<Vec<Command>, FileFault>
-    ensures ok { IfOk result (λ made. SetsUp options bytes.now made.items) }
+pub fn import_file(alloc: Global, bytes: &[u8], options: Options) -> Result<Imported, FileFault>
+    ensures ok { IfOk result (λ made. SetsUp options bytes.now made.commands.items) }
+    ensures later { IfOk result (λ made. SaysLater options bytes.now made.later.items) }
     ensures err { IfErr result (FileFails options bytes.now) }
 {
     if bytes.len() > MOST_BYTES {

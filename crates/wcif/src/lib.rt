@@ -7,22 +7,26 @@ mod events;
 mod fault;
 mod file;
 mod importing;
+mod later;
 mod laws;
 mod members;
 mod nesting;
 mod options;
 mod people;
 mod persons;
+mod quoted;
 mod setting_up;
 mod settings;
 mod text;
 
-pub use fault::{EventFault, Fault, PersonFault, RoundFault};
+pub use fault::{EventFault, Fault, PersonFault, RoundFault, Who};
 pub use file::{FileFault, import_file};
-pub use importing::{ImportFault, import};
+pub use importing::{ImportFault, Imported, import};
+pub use later::Later;
 pub use laws::{
     accepts_all, commands_are_fit, does_all_lines, lists_are_held, names_are_apart,
     prints_whole_lines, sets_up_meet,
 };
 pub use options::{CumulativeLimits, Edition, Options, SameNames};
-pub use text::print_lines;
+pub use quoted::Quoted;
+pub use text::{print_imported, print_lines};

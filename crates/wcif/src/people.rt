@@ -10,7 +10,7 @@ ghost use Rattle.serde_json.specs.View.{view};
 ghost use Rattle.texts.specs.Numerals.{within};
 ghost use Rattle.wcif.specs.Persons.{is_accepted, is_shared, id_as, with_id, name_as, number_of};
 ghost use Rattle.wcif.specs.Persons.{number_faults, name_faults, has_name, has_number, has_given};
-ghost use Rattle.wcif.specs.Persons.{accepted_faults, last_number};
+ghost use Rattle.wcif.specs.Persons.{accepted_faults, bad_name, has_quote, last_number};
 ghost use Rattle.wcif.specs.model.Kept.{CountsNames, AreNumbers, AreNames, AreKept};
 ghost use Rattle.wcif.specs.declared.options.SameNames.{SameNames as Named};
 
@@ -23,6 +23,9 @@ use serde_json::Value;
 use std::alloc::Global;
 use std::collections::{HashMap, HashSet};
 use texts::is_clear_name;
+
+/// The most bytes of a name.
+const MOST_NAME: usize = 160;
 
 /// The greatest number of a competitor.
 pub(crate) const LAST_NUMBER: u16 = 9999;
@@ -170,6 +173,28 @@ impl<'v> Numbers<'v> {
     }
 }
 
+/// Whether a name has a double quote.
+fn has_quote(name: &[u8]) -> bool
+    ensures { result ≡ has_quote name.now }
+{
+    name.iter().any(|byte| *byte == b'"')
+}
+
+/// What is wrong with a name that a desk refuses.
+fn bad_name(name: &[u8]) -> PersonFault
+    ensures { result ≡ bad_name name.now }
+{
+    if name.is_empty() {
+        PersonFault::NoName
+    } else if name.len() > MOST_NAME {
+        PersonFault::LongName
+    } else if has_quote(name) {
+        PersonFault::QuoteInName
+    } else {
+        PersonFault::BadName
+    }
+}
+
 /// The names that accepted persons have at a desk.
 #[derive(Drop)]
 pub(crate) struct Names {
@@ -194,9 +219,10 @@ impl Names {
             ≡ (bytes_eq other (string_bytes name) || contains_text self.old.names other)) }
     {
         let is_clear = is_clear_name(name.as_bytes());
+        let bad = bad_name(name.as_bytes());
         let is_new = self.names.insert(name)?;
         if !is_clear {
-            Ok(Some(PersonFault::BadName))
+            Ok(Some(bad))
         } else if !is_new {
             Ok(Some(PersonFault::NameTaken))
         } else {

@@ -1,8 +1,11 @@
 //! Commands as lines.
 
 ghost use Rattle.std.specs.Prelude.{◌≡◌, ◌++◌, flat_map, IfOk, OnOk};
+ghost use Rattle.wcif.specs.Later.{later_lines};
 ghost use Rattle.wcif.specs.Lines.{line, lines};
 
+use crate::importing::Imported;
+use crate::later::print_later;
 use attempts::NoMemory;
 use std::alloc::Global;
 use texts::{Command, print};
@@ -25,5 +28,17 @@ pub fn print_lines(alloc: Global, commands: &[Command]) -> Result<Vec<u8>, NoMem
     for command in commands {
         push_line(alloc, &mut out, command)?;
     }
+    Ok(out)
+}
+
+/// The commands of an import as lines, and after them what is to be known of rounds that they do
+/// not open, each a comment, which `desk enter-lines` passes over.
+pub fn print_imported(alloc: Global, made: &Imported) -> Result<Vec<u8>, NoMemory>
+    ensures { IfOk result (λ text. text.items
+        ≡ lines made.now.commands.items ++ later_lines made.now.later.items) }
+{
+    let mut out = print_lines(alloc, &made.commands)?;
+    let said = print_later(alloc, &made.later)?;
+    out.extend_from_slice(&said)?;
     Ok(out)
 }

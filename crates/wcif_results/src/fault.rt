@@ -1,8 +1,8 @@
 //! What of a meet a competition's file has no place for.
 
-use crate::quoted::Quoted;
 use formats::Event;
 use std::fmt;
+use wcif::Quoted;
 
 /// What of a meet a competition's file has no place for. `name` is the last that the number was
 /// given, and `other` that of the file's person.

@@ -12,11 +12,11 @@ ghost use Rattle.wcif_results.specs.model.Opened.{held_view, round_view};
 use crate::fault::Fault;
 use crate::meet_rounds::MeetRound;
 use crate::named_meet::{Given, NamedMeet};
-use crate::quoted::Quoted;
 use crate::reading::{HeldRound, held_rounds, list_under, person_with, round_with_id, text_under};
 use attempts::{NoMemory, push_decimal};
 use json::Value;
 use std::alloc::Global;
+use wcif::Quoted;
 
 /// A number in decimal.
 fn decimal_text(alloc: Global, number: u16) -> Result<Vec<u8>, NoMemory>

@@ -3,9 +3,9 @@
 ghost use Rattle.std.specs.Prelude.{◌≡◌};
 ghost use Rattle.wcif_results.specs.Notes.{any_runs, is_running};
 
-use crate::quoted::Quoted;
 use formats::{Event, Format};
 use std::fmt;
+use wcif::Quoted;
 
 /// What is told of an export that is made.
 #[derive(Drop)]

@@ -8,12 +8,12 @@ ghost use Rattle.wcif_results.specs.model.Opened.{held_view, round_view};
 
 use crate::meet_rounds::MeetRound;
 use crate::note::Note;
-use crate::quoted::Quoted;
 use crate::reading::{HeldRound, held_rounds, round_with_id};
 use attempts::NoMemory;
 use formats::Format;
 use json::Value;
 use std::alloc::Global;
+use wcif::Quoted;
 
 /// A format as a file has it.
 fn format_text(format: Format) -> &'static str

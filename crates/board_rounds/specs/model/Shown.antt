@@ -2,7 +2,7 @@
 use Rattle.std.specs.Prelude.{◌≡◌, ℕ, Bool, List, Some}
 use Rattle.formats.specs.Events.{unit_of}
 use Rattle.board_rounds.specs.declared.shown.Shown.{Shown}
-use Rattle.board_rounds.specs.Rows.{line_of}
+use Rattle.board_rounds.specs.Rows.{line_of, listed}
 use Rattle.commands.specs.Accepted.{round_of, seen_of}
 use Rattle.sheets.specs.declared.going_on.GoingOn.{GoingOn}
 use Rattle.sheets.specs.Going.{Tells}
@@ -29,10 +29,16 @@ abbrev pub line_shown : Shown → ℕ → List ℕ
 line_shown s n =
     line_of (unit_of s.id.event) s.meet.now.accepted s.settings s.table.now (through_shown s) n
 
--- the round at a position
-abbrev pub section_shown : Shown → ℕ → List ℕ
-section_shown s position =
-    section_of s.meet.now.accepted s.id position (s.settings, s.table.now)
+-- the same, where the podium alone may be shown
+abbrev pub listed_shown : Bool → Shown → ℕ → List ℕ
+listed_shown podium s n =
+    listed podium (unit_of s.id.event) s.meet.now.accepted s.settings s.table.now
+    (through_shown s) n
+
+-- the round at a position, or its podium
+abbrev pub section_shown : Bool → Shown → ℕ → List ℕ
+section_shown podium s position =
+    section_of podium s.meet.now.accepted s.id position (s.settings, s.table.now)
 
 -- a link to it
 abbrev pub link_shown : Shown → List ℕ

@@ -9,10 +9,10 @@ use Rattle.wcif.specs.declared.file.FileFault.{FileFault}
 use Rattle.wcif.specs.declared.file.FileFault.TheVariants as file
 use Rattle.wcif.specs.declared.options.Options.{Options}
 use Rattle.texts.specs.declared.command.Command.{Command}
-use Rattle.std.specs.Io.KnownBytes.{Appends}
-use Rattle.lines.specs.Bytes.{AppendsPart}
+use Rattle.wcif.specs.Later.{SaysLater, later_lines}
 use Rattle.wcif.specs.Lines.{lines}
-use Rattle.exports.specs.imports.Printing.{GivesNone, IsFront, PrintsImport, PrintsPart}
+use Rattle.wcif.specs.declared.later.Later.{Later}
+use Rattle.exports.specs.imports.Printing.{GivesNone, IsFront, IsImported}
 
 -- what was read with a limit
 pub front_of : (had : Option (List ℕ)) (limit : ℕ) (start items : List ℕ) → start ≡ []
@@ -51,29 +51,20 @@ gives_none (file.Refused found) options had bytes front h =
 gives_none file.NoMemory options None bytes front h = (bytes, tt, tt)
 gives_none file.NoMemory options (Some all) bytes front h = (all, refl, tt)
 
--- what was written are the lines of the commands that those bytes set up
-pub prints : (options : Options) (had old new : Option (List ℕ)) (bytes was : List ℕ)
-    (made of_made : List Command) (out : List ℕ)
-    → IsFront had bytes → was ≡ bytes → SetsUp options was made → of_made ≡ made
-    → out ≡ lines of_made → Appends old new out → PrintsImport options had old new
-prints options had old new bytes was made of_made out front same sets is text given =
+-- what was written is what those bytes are imported to
+pub imported : (options : Options) (had : Option (List ℕ)) (bytes was : List ℕ)
+    (made : List Command) (later : List Later) (text : List ℕ)
+    → IsFront had bytes → was ≡ bytes → SetsUp options was made → SaysLater options was later
+    → text ≡ lines made ++ later_lines later
+    → HasLeft had bytes × IsImported options bytes text
+imported options had bytes was made later text front same sets says is =
     let here = subst (λ z. SetsUp options z made) same sets in (
-      bytes,
-      made,
       all_of had bytes front here.1.short,
-      here,
-      subst (λ z. Appends old new z) (text ∙ ap lines is) given,
-    )
-
-pub prints_part : (options : Options) (had old new : Option (List ℕ)) (bytes was : List ℕ)
-    (made of_made : List Command) (out : List ℕ)
-    → IsFront had bytes → was ≡ bytes → SetsUp options was made → of_made ≡ made
-    → out ≡ lines of_made → AppendsPart old new out → PrintsPart options had old new
-prints_part options had old new bytes was made of_made out front same sets is text given =
-    let here = subst (λ z. SetsUp options z made) same sets in (
-      bytes,
-      made,
-      all_of had bytes front here.1.short,
-      here,
-      subst (λ z. AppendsPart old new z) (text ∙ ap lines is) given,
+      record {
+        made = made;
+        later = later;
+        sets_up = here;
+        says = subst (λ z. SaysLater options z later) same says;
+        is = is;
+      },
     )

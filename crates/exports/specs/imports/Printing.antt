@@ -1,11 +1,13 @@
 -- What is printed of a competition's file, and what its faults leave.
-use Rattle.std.specs.Prelude.{◌≡◌, ℕ, ◌+◌, List, take, Option, None, Some}
+use Rattle.std.specs.Prelude.{◌≡◌, ℕ, ◌+◌, ◌++◌, List, take, Option, None, Some}
 use Rattle.std.specs.Io.KnownBytes.{Appends, Keeps}
 use Rattle.lines.specs.Bytes.{AppendsPart, HasLeft}
 use Rattle.wcif.specs.Files.{FileFails, SetsUp, most_bytes}
+use Rattle.wcif.specs.Later.{SaysLater, later_lines}
 use Rattle.wcif.specs.Lines.{lines}
 use Rattle.wcif.specs.declared.file.FileFault.{FileFault}
 use Rattle.wcif.specs.declared.file.FileFault.TheVariants as file
+use Rattle.wcif.specs.declared.later.Later.{Later}
 use Rattle.texts.specs.declared.command.Command.{Command}
 use Rattle.wcif.specs.declared.options.Options.{Options}
 use Rattle.exports.specs.declared.imports.fault.ImportsFault.{ImportsFault}
@@ -16,17 +18,26 @@ abbrev pub IsFront : Option (List ℕ) → List ℕ → Type 0
 IsFront None bytes = Unit {0}
 IsFront (Some all) bytes = bytes ≡ take (most_bytes + 1) all
 
--- the bytes set up a competition, and its commands were written, one a line
+-- the bytes set up a competition: this text is its commands, one a line, and what is to be known of
+-- rounds that they do not open
+pub record IsImported (options : Options) (bytes text : List ℕ) : Type 0 where
+  pub made : List Command
+  pub later : List Later
+  pub sets_up : SetsUp options bytes made
+  pub says : SaysLater options bytes later
+  pub is : text ≡ lines made ++ later_lines later
+
+-- it was written
 abbrev pub PrintsImport : Options → (had old new : Option (List ℕ)) → Type 0
 PrintsImport options had old new =
-    (bytes : List ℕ) × (made : List Command) × HasLeft had bytes × SetsUp options bytes made
-    × Appends old new (lines made)
+    (bytes text : List ℕ) × HasLeft had bytes × IsImported options bytes text
+    × Appends old new text
 
--- a front part of those lines was written
+-- a front part of it was written
 abbrev pub PrintsPart : Options → (had old new : Option (List ℕ)) → Type 0
 PrintsPart options had old new =
-    (bytes : List ℕ) × (made : List Command) × HasLeft had bytes × SetsUp options bytes made
-    × AppendsPart old new (lines made)
+    (bytes text : List ℕ) × HasLeft had bytes × IsImported options bytes text
+    × AppendsPart old new text
 
 -- the bytes give no commands for this reason
 abbrev pub GivesNone : FileFault → Options → Option (List ℕ) → Type 0

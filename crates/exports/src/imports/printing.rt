@@ -9,10 +9,11 @@ use lines::write_text;
 use std::alloc::Global;
 use std::fs::File;
 use std::io::{ErrorKind, Read, Write};
-use wcif::{FileFault, Options, import_file, print_lines};
+use wcif::{FileFault, Options, import_file, print_imported};
 
 /// Reads a competition in the WCA Competition Interchange Format, and prints the commands that set
-/// it up, one a line, as `desk enter-lines` takes them.
+/// it up, one a line, as `desk enter-lines` takes them, and what is to be known of rounds that they
+/// do not open, as comments.
 ///
 /// # Errors
 ///
@@ -43,7 +44,7 @@ pub fn print_import<R: Read + Drop, W: Write>(
         Err(FileFault::NoMemory) => return Err(ImportsFault::NoMemory),
         Err(fault) => return Err(ImportsFault::File(fault)),
     };
-    let Ok(text) = print_lines(alloc, &made) else {
+    let Ok(text) = print_imported(alloc, &made) else {
         return Err(ImportsFault::NoMemory);
     };
     match write_text(writer, &text) {

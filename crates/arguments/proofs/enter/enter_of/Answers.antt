@@ -1,29 +1,34 @@
-use Rattle.std.proofs.Common.{codes, refl}
+use Rattle.std.proofs.Common.{◌∙◌, Some, ap, codes, refl, sym}
 use Rattle.clap.specs.Words.{found_of}
-use Rattle.arguments.proofs.Found.{none_found, some_found}
+use Rattle.clap.proofs.WalkLemmas.{raw_values-rows}
+use Rattle.arguments.specs.Asking.{are_command}
+use Rattle.arguments.proofs.Words.{id_before}
 use Rattle.arguments.proofs.enter.enter_of.Goals as goal
 
-pub returns-in_ok-id_at-in-Some : goal.returns-in_ok-id_at-in-Some
-returns-in_ok-id_at-in-Some c = (
+pub returns-then-are_command : goal.returns-then-are_command
+returns-then-are_command c = (
   refl,
   c.in_ok-place.ensures,
   (
-    c.in_ok-id_at-in-Some.ensures.in_range,
-    c.in_ok-id_at-in-Some.ensures.id,
-    some_found (found_of c.args.found.now) (codes "second") c.get_str.result _ c.get_str.ensures
-        c.in-Some.is,
+    sym (raw_values-rows (found_of c.args.found.now) (codes "words")) ∙ sym c.in_ok-words.ensures,
+    sym c.are_command.ensures ∙ c.if-are_command.true,
   ),
   c.flag_at-waits.ensures,
 )
 
-pub returns-in_ok-text-in-None : goal.returns-in_ok-text-in-None
-returns-in_ok-text-in-None c = (
-  refl,
-  c.in_ok-place.ensures,
-  (
-    c.in_ok-text-in-None.ensures,
-    none_found (found_of c.args.found.now) (codes "second") c.get_str.result c.get_str.ensures
-        c.in-None.is,
-  ),
-  c.flag_at-waits.ensures,
-)
+pub returns : goal.returns
+returns c =
+    let whole =
+    id_before c.in_ok-words.words.now _ c.in_ok-id.id c.in-len1-up.len_at_least
+    c.in_ok-id.ensures.id in (
+      refl,
+      c.in_ok-place.ensures,
+      (
+        c.in_ok-id.ensures.in_range,
+        sym (raw_values-rows (found_of c.args.found.now) (codes "words"))
+            ∙ sym c.in_ok-words.ensures
+            ∙ ap Some whole,
+        ap are_command (sym whole) ∙ sym c.are_command.ensures ∙ c.if-are_command.false,
+      ),
+      c.flag_at-waits.ensures,
+    )

@@ -9,4 +9,5 @@ returns c =
       refl,
       c.in_ok-hall.ensures,
       sym (raw_values-rows f (codes "addr")) ∙ sym c.in_ok-addresses.ensures,
+      c.flag_at-keys.ensures,
     )

@@ -10,4 +10,5 @@ returns-then-is_none c = (
     within = search rules;
     no_store = c.in_ok-without.ensures;
   },
+  c.in_ok-form.ensures,
 )

@@ -21,6 +21,7 @@ returns c =
         quiet = c.flag_at-quiet.ensures;
         key = c.given_text-key.ensures;
         entry_key = c.given_text-entry_key.ensures;
+        old_key = c.given_text-old_key.ensures;
         open_sheets = c.flag_at-open_sheets.ensures;
         addresses = sym (raw_values-rows f (codes "addr")) ∙ sym c.in_ok-addresses.ensures;
       },

@@ -1,5 +1,5 @@
 use Rattle.std.proofs.Common.{◌≡◌, ◌++◌, ◌∙◌, List, ℕ, OnOk, flat_map, subst}
-use Rattle.board_rounds.specs.model.Shown.{line_shown}
+use Rattle.board_rounds.specs.model.Shown.{listed_shown}
 use Rattle.board_rounds.proofs.lines.push_entrants.Goals as goal
 
 pub push_lines-requires : goal.push_lines-requires
@@ -11,5 +11,5 @@ returns c =
     subst
     (λ (ns : List ℕ). OnOk c.push_lines.result
     (c.push_lines.new.out.items
-    ≡ c.args.out.now.items ++ flat_map (line_shown c.args.shown) ns))
+    ≡ c.args.out.now.items ++ flat_map (listed_shown c.args.podium c.args.shown) ns))
     (c.deref.ensures.value ∙ c.in_ok-numbers.ensures.order) c.push_lines.ensures

@@ -12,7 +12,7 @@ returns c =
     (settings_words c.args.event c.args.settings)
     (codes ", <strong>")
     (state_words c.args.closed c.args.settings.advance)
-    (codes "</strong></p>\n")
+    (codes "</strong></p></caption>\n")
     _ _ _ _ _
     c.in_ok-extend_from_slice.ensures.items
     c.in_ok-push_settings.ensures

@@ -6,7 +6,7 @@ use Rattle.board_rounds.proofs.rounds_shown.push_table_start.Goals as goal
 pub returns : goal.returns
 unfolding table_start
 returns c =
-    three_parts c.args.out.now.items (codes "<table><thead><tr>")
+    three_parts c.args.out.now.items (codes "<thead><tr>")
     (headings c.args.count) (codes "</tr></thead><tbody>\n")
     _ _ _ c.in_ok-extend_from_slice.ensures.items c.in_ok-push_headings.ensures
     c.in_ok-extend_from_slice-2.ensures.items

@@ -10,7 +10,7 @@ returns c =
     five_parts c.args.out.now.items
     (codes "<section id=\"")
     (round_name c.args.id)
-    (codes "\"><h2>")
+    (codes "\"><table><caption><h2>")
     (round_words c.args.id c.args.advance)
     (codes "</h2>\n")
     _ _ _ _ _

@@ -40,19 +40,15 @@ returns-in-Results g c =
     subst (λ a. Ends a c.run_results.result s d t) (sym c.in-Results.is)
     (c.run_results.ensures.ends, c.run_results.ensures.quiet)
 
-pub returns-in-Err-print_hall_file : goal.returns-in-Err-print_hall_file
-returns-in-Err-print_hall_file g c =
+pub returns-in-HallFile : goal.returns-in-HallFile
+returns-in-HallFile g c =
     let s =
     sides g.R.Read.remaining g.W.Write.contents c.args.reader.now c.args.reader.now
-    c.args.writer.now c.print_hall_file.new.writer in
+    c.args.writer.now c.run_hall_file.new.writer in
     let d = calls g.D.Dial.dialed c.args.dial.now c.args.dial.now in
-    let t = told g.F.Write.contents c.args.faults.now c.tell_missing.new.faults in
-    let fault = c.in-Err-print_hall_file.fault in
-    subst (λ a. Ends a c.tell_missing.result s d t) (sym c.in-HallFile.is) (
-      Keeps-refl _,
-      inr (fault, c.tell_missing.ensures, c.in-Err-print_hall_file.ensures.err),
-      λ zero. absurd (not_zero fault _ c.tell_missing.ensures zero),
-    )
+    let t = told g.F.Write.contents c.args.faults.now c.run_hall_file.new.faults in
+    subst (λ a. Ends a c.run_hall_file.result s d t) (sym c.in-HallFile.is)
+    (Keeps-refl _, c.run_hall_file.ensures.ends, c.run_hall_file.ensures.quiet)
 
 pub returns-in-Key : goal.returns-in-Key
 returns-in-Key g c =
@@ -88,11 +84,11 @@ pub returns-in-Enter : goal.returns-in-Enter
 returns-in-Enter g c =
     let s =
     sides g.R.Read.remaining g.W.Write.contents c.args.reader.now c.args.reader.now
-    c.args.writer.now c.enter_at.new.writer in
-    let d = calls g.D.Dial.dialed c.args.dial.now c.enter_at.new.dial in
-    let t = told g.F.Write.contents c.args.faults.now c.enter_at.new.faults in
-    subst (λ a. Ends a c.enter_at.result s d t) (sym c.in-Enter.is)
-    (Keeps-refl _, c.enter_at.ensures)
+    c.args.writer.now c.enter_words_at.new.writer in
+    let d = calls g.D.Dial.dialed c.args.dial.now c.enter_words_at.new.dial in
+    let t = told g.F.Write.contents c.args.faults.now c.enter_words_at.new.faults in
+    subst (λ a. Ends a c.enter_words_at.result s d t) (sym c.in-Enter.is)
+    (Keeps-refl _, c.enter_words_at.ensures)
 
 pub returns-in-EnterLines : goal.returns-in-EnterLines
 returns-in-EnterLines g c =

@@ -1,4 +1,5 @@
-use Rattle.std.proofs.Common.{◌≡◌, ◌∙◌, Bor, List, ℕ, ap, false, inl, inr, map, refl, subst, true}
+use Rattle.std.proofs.Common.{◌≡◌, ◌∙◌, Bor, List, ℕ, ap, false, inl, inr, map, option_map, refl}
+use Rattle.std.proofs.Common.{string_bytes, subst, true}
 use Rattle.std.proofs.KnownBytes.{Keeps-refl}
 use Rattle.addressing.specs.Keys.{key_file_of, naming}
 use Rattle.errands.specs.declared.fault.DeskFault.TheVariants as fault
@@ -47,18 +48,24 @@ returns-clause-ends g c =
     let texts = ap (map (λ (t : Bor (List ℕ)). t.now)) c.deref-2.ensures.value in
     let service = c.service_of-service.result in
     let key = key_file_of (naming c.args.file c.args.wanted.key) hall in
+    let entry_key = option_map string_bytes c.in-Ok-entry_key_file.entry_key in
     inr (
       hall,
       c.in-Ok.ensures.ok.0,
       c.in-Ok.ensures.ok.1,
       inr (
         service,
-        subst (λ xs. IsServiceOf service hall.hall c.args.wanted key xs)
+        entry_key,
+        c.in-Ok-entry_key_file.ensures.ok,
+        subst (λ xs. IsServiceOf service hall.hall c.args.wanted key entry_key xs)
             (texts ∙ c.in-Ok-addresses_of.ensures)
+            (subst (λ e. IsServiceOf service hall.hall c.args.wanted key e
+            (map (λ (t : Bor (List ℕ)). t.now) c.deref-2.result.now)) c.path_of-2.ensures
             (subst (λ k. IsServiceOf service hall.hall c.args.wanted k
+            (option_map (λ (t : Bor (List ℕ)). t.now) c.path_of-2.result)
             (map (λ (t : Bor (List ℕ)). t.now) c.deref-2.result.now))
             (c.path_of.ensures ∙ c.in-Ok-hall_key_file.ensures.ok)
-            c.service_of-service.ensures),
+            c.service_of-service.ensures)),
         subst (λ xs. AsksFirst c.args.file c.args.wanted hall xs true old new)
             (first ∙ c.in-Ok-addresses_of.ensures) asked,
         c.run_service.ensures.ends,

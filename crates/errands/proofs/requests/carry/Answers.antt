@@ -1,6 +1,6 @@
 use Rattle.std.proofs.Common.{[], inl, inr, refl}
 use Rattle.std.proofs.KnownBytes.{Appends-nil, Keeps-refl}
-use Rattle.client.specs.Printing.{reply_text}
+use Rattle.errands.specs.Errands.{answer_text}
 use Rattle.errands.proofs.requests.carry.Goals as goal
 
 pub returns-in-Err-clause-err : goal.returns-in-Err-clause-err
@@ -13,5 +13,5 @@ returns-in_default-clause-err g c =
       c.in-Ok.ensures.allowed,
       c.in-Ok.answer,
       c.in-Ok.ensures.ok,
-      ([], reply_text c.in-Ok.answer, record { parts = refl; written = Appends-nil _ }),
+      ([], answer_text c.args.errand c.in-Ok.answer, record { parts = refl; written = Appends-nil _ }),
     )

@@ -4,8 +4,7 @@ use Rattle.markup.proofs.board_page.Steps.{five_parts, when_ok}
 use Rattle.commands.specs.History.{History}
 use Rattle.formats.specs.Events.{all_events}
 use Rattle.table_views.specs.Logs.{accepted_in}
-use Rattle.hall_views.specs.People.{entered_in}
-use Rattle.hall_views.specs.Person.{mending_or_edition, person_head, person_section}
+use Rattle.hall_views.specs.Person.{mending_or_edition, person_head, person_section, within_event}
 use Rattle.hall_views.proofs.person.push_section.Goals as goal
 
 pub returns : goal.returns
@@ -17,12 +16,12 @@ returns c =
     let number = c.args.number in
     let name = c.args.name.now in
     on_ok_weaker c.extend_from_slice-2.result
-    (five_parts out (person_head number name) (flat_map (entered_in accepted number) all_events)
+    (five_parts out (person_head number name) (flat_map (within_event accepted number) all_events)
     (codes "</p>\n") (mending_or_edition around number name) (codes "</section>\n") _ _ _ _ _
     c.in_ok-push_pieces.ensures
-    (c.in_ok-push_entered.ensures
+    (c.in_ok-push_rounds.ensures
     ∙ ap
     (λ (h : History). c.push_pieces.new.out.items
-    ++ flat_map (entered_in h.accepted number) all_events) c.meet.ensures)
+    ++ flat_map (within_event h.accepted number) all_events) c.meet.ensures)
     c.in_ok-extend_from_slice.ensures.items c.in_ok-push_mending_or_edition.ensures)
     (when_ok _ _ _ _ c.extend_from_slice-2.ensures.items)

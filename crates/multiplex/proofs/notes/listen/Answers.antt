@@ -35,7 +35,8 @@ returns-clause-differs g c =
     c.permission-may.ensures
     ∙ ap
     (λ z. differs_by (d.home_of c.args.node.now)
-    (permission_of (caller_of c.args.talk.now.called)) z known frame) c.log.ensures.entries)
+    (permission_of c.args.talk.now.called.doors (caller_of c.args.talk.now.called)) z known frame)
+    c.log.ensures.entries)
     ∙ ap
     (λ z. heard_by (d.home_of c.args.node.now) (d.seen c.args.node.now) c.args.talk.now
     c.args.notes.now z c.args.differs.now)

@@ -9,7 +9,7 @@ returns c =
     let around = c.args.around.now in
     on_ok_weaker c.extend_from_slice-2.result
     (three_parts c.args.out.now.items
-    (codes "<section id=\"recent\"><h2>Last entered</h2>\n<ol aria-live=\"polite\">\n")
+    (codes "<section id=\"recent\"><h2>Last entered</h2>\n<ol>\n")
     (flat_map (recent_line around (newest_saved around.recent.now)) around.recent.now)
     (codes "</ol></section>\n") _ _ _ c.in_ok-extend_from_slice.ensures.items
     (c.in_ok-push_lines.ensures

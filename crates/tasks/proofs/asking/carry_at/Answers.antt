@@ -1,39 +1,39 @@
-use Rattle.std.proofs.Common.{false, inl, inr, refl}
-use Rattle.std.specs.Io.KnownBytes.{Keeps}
-use Rattle.tasks.specs.Asking.{EndsErrand, errand_of}
+use Rattle.std.proofs.Common.{Bool, ◌∙◌, subst, sym}
+use Rattle.std.proofs.KnownBytes.{Keeps-refl}
+use Rattle.tasks.specs.Asking.{EndsAsBidden, EndsRequest}
 use Rattle.tasks.specs.Places.{reach}
-use Rattle.tasks.proofs.Ending.{done}
+use Rattle.tasks.proofs.Unnamed.{names_none}
 use Rattle.tasks.proofs.asking.carry_at.Goals as goal
 
-pub returns-in-Ok-carry-clause-ends : goal.returns-in-Ok-carry-clause-ends
-returns-in-Ok-carry-clause-ends g c =
+pub returns-then-lacks_name-clause-ends : goal.returns-then-lacks_name-clause-ends
+returns-then-lacks_name-clause-ends g c =
     let old = g.W.Write.contents c.args.writer.now in
-    let new = g.W.Write.contents c.carry.new.writer in
-    done c.args.place c.args.patience 0
-    (reach g.D.Dial.dialed g.F.Write.contents c.args.dial.now c.carry.new.dial c.args.faults.now)
-    (Keeps old new) (λ one there t. EndsErrand 0 (errand_of one there c.args.request) t old new)
-    c.in-Ok.found (record {
-      address = c.as_str.result;
-      patience = c.args.patience;
-      key = c.in-Ok.found.key;
-    })
-    (g.D.Dial.dialed c.found_at.new.dial) (g.F.Write.contents c.found_at.new.faults) false
-    c.in-Ok.ensures.ok c.as_str.ensures.value refl refl
-    (inl (refl, c.in-Ok-carry.ensures.ok))
+    let r =
+    reach g.D.Dial.dialed g.F.Write.contents c.args.dial.now c.unnamed_at.new.dial
+    c.args.faults.now in
+    subst
+    (λ (b : Bool). EndsAsBidden b c.args.place c.args.patience c.args.request c.unnamed_at.result r
+    old old)
+    (sym c.if-lacks_name.true ∙ c.lacks_name.ensures)
+    (c.unnamed_at.ensures, Keeps-refl _)
+
+pub returns-then-lacks_name-clause-quiet : goal.returns-then-lacks_name-clause-quiet
+returns-then-lacks_name-clause-quiet g c =
+    λ zero named. absurd
+    (names_none c.args.place c.args.request (sym c.lacks_name.ensures ∙ c.if-lacks_name.true) named)
 
 pub returns-clause-ends : goal.returns-clause-ends
 returns-clause-ends g c =
     let old = g.W.Write.contents c.args.writer.now in
-    let new = g.W.Write.contents c.carry.new.writer in
-    done c.args.place c.args.patience c.tell_asked.result
-    (reach g.D.Dial.dialed g.F.Write.contents c.args.dial.now c.carry.new.dial c.args.faults.now)
-    (Keeps old new)
-    (λ one there t. EndsErrand c.tell_asked.result (errand_of one there c.args.request) t old new)
-    c.in-Ok.found (record {
-      address = c.as_str.result;
-      patience = c.args.patience;
-      key = c.in-Ok.found.key;
-    })
-    (g.D.Dial.dialed c.found_at.new.dial) (g.F.Write.contents c.found_at.new.faults) false
-    c.in-Ok.ensures.ok c.as_str.ensures.value refl refl
-    (inr (c.in-Err-carry.fault, c.tell_asked.ensures, c.in-Err-carry.ensures.err))
+    let new = g.W.Write.contents c.carry_named.new.writer in
+    let r =
+    reach g.D.Dial.dialed g.F.Write.contents c.args.dial.now c.carry_named.new.dial
+    c.args.faults.now in
+    subst
+    (λ (b : Bool). EndsAsBidden b c.args.place c.args.patience c.args.request c.carry_named.result r
+    old new)
+    (sym c.if-lacks_name.false ∙ c.lacks_name.ensures)
+    (subst
+    (λ (n : Bool). EndsRequest c.args.place c.args.patience c.args.request n c.carry_named.result r
+    old new)
+    c.is_of_file-names.ensures c.carry_named.ensures.ends)

@@ -11,10 +11,11 @@ returns-in-Ok-enter_one g c =
     let new = g.W.Write.contents c.enter_one.new.writer in
     let single : Single =
     record { id = c.args.id; text = c.args.text.now; waits = c.args.waits } in
-    done c.args.place c.args.patience 0
+    let status = c.in-Ok-enter_one.status in
+    done c.args.place c.args.patience status
     (reach g.D.Dial.dialed g.F.Write.contents c.args.dial.now c.enter_one.new.dial
     c.args.faults.now)
-    (Keeps old new) (λ one _ t. Probed one t (λ u. EndsOne 0 one single u old new))
+    (Keeps old new) (λ one _ t. Probed one t (λ u. EndsOne status one single u old new))
     c.in-Ok.found (record {
       address = c.as_str.result;
       patience = c.args.patience;
@@ -24,7 +25,7 @@ returns-in-Ok-enter_one g c =
     c.knows_await.result c.in-Ok.ensures.ok c.as_str.ensures.value refl refl (
       g.D.Dial.dialed c.knows_await.new.dial,
       c.knows_await.ensures,
-      inl (refl, c.in-Ok-enter_one.ensures.ok),
+      inl c.in-Ok-enter_one.ensures.ok,
     )
 
 pub returns : goal.returns

@@ -1,8 +1,11 @@
 use Rattle.std.proofs.Common.{◌≡◌, ◌++◌, map, take}
+use Rattle.serde_json.specs.View.{view}
+use Rattle.wcif.specs.Faults.{who}
 use Rattle.wcif.specs.declared.fault.Fault.TheVariants.{Person}
 use Rattle.wcif.proofs.checking.push_found.Given as goal
 
 abbrev pub invariant-loop-fault : goal.invariant-loop-fault
 invariant-loop-fault l =
     l.faults.items
-    ≡ l.initial.faults.items ++ map (Person l.place) (take l.fault-index l.found)
+    ≡ l.initial.faults.items
+    ++ map (Person l.place (who (view l.person))) (take l.fault-index l.found)

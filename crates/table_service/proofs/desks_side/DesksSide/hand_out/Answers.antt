@@ -5,14 +5,14 @@ use Rattle.table_service.proofs.desks_side.DesksSide.hand_out.Goals as goal
 pub returns-clause-keeps : goal.returns-clause-keeps
 returns-clause-keeps g c =
     both c.args.service.now c.follow.new.service c.submit-kept.new.self c.follow.ensures
-    (step Submits c.follow.new.service c.submit-kept.new.self
-    (c.submit-kept.ensures.others, c.submit-kept.ensures.went))
+    (step (Submits c.args.now) c.follow.new.service c.submit-kept.new.self
+    (c.submit-kept.ensures.others, c.submit-kept.ensures.asked))
 
 pub returns-clause-hands : goal.returns-clause-hands
 returns-clause-hands g c up = (
   c.follow.new.service,
   c.submit-kept.new.self,
   c.follow.ensures,
-  (c.submit-kept.ensures.others, c.submit-kept.ensures.went),
+  (c.submit-kept.ensures.others, c.submit-kept.ensures.asked),
   still c.submit-kept.new.self,
 )

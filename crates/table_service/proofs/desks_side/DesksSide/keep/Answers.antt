@@ -39,7 +39,8 @@ returns-clause-keeps g c =
 
 pub returns-clause-hands : goal.returns-clause-hands
 returns-clause-hands g c goes_on up =
-    amid c.args.service.now c.keep_mirror.new.service c.hand_out.new.service c.tell.new.service
+    amid c.args.now c.args.service.now c.keep_mirror.new.service c.hand_out.new.service
+    c.tell.new.service
     c.keep_mirror.ensures.keeps (c.hand_out.ensures.hands (c.keep_mirror.ensures.caught_up up))
     (both c.hand_out.new.service c.hurry.new.service c.tell.new.service c.hurry.ensures
     (both c.hurry.new.service c.keep_mirror-2.new.service c.tell.new.service

@@ -1,0 +1,5 @@
+pub mod UnderKeys
+pub mod LoopRuns
+pub mod Ways
+pub mod FullLinks
+pub mod Example

@@ -1,0 +1,220 @@
+-- Desks that serve by the program's own loop, behind doors and sealed streams, with Ticks of their
+-- own: what may happen to them, one event after the other, in any order, and what becomes of it.
+use Rattle.std.specs.Prelude.{ℕ, ◌≡◌, ◌≢◌, ◌⊎◌, List, [], ◌∷◌, ◌++◌, Option, Some, slice_get, take}
+use Rattle.acceptor.specs.declared.entry.Entry.{Entry}
+use Rattle.acceptor.specs.declared.message.Message.{Message}
+use Rattle.answers.specs.Seen.{Seen}
+use Rattle.learner.specs.Desks.{first_desk}
+use Rattle.learner.specs.Laws.{IsPrefix}
+use Rattle.learner.specs.Steps.{IsDesk}
+use Rattle.learner.specs.Worlds.{World, new_world}
+use Rattle.multiplex.specs.EachClient.{AreDoneInTurn, Deed, Frame, OwnTick, point_in}
+use Rattle.multiplex.specs.Happenings.{Happened}
+use Rattle.multiplex.specs.Passing.{IsServedEach, Room, Step}
+use Rattle.multiplex.specs.declared.ends.ServedEach.{ServedEach}
+use Rattle.multiplex.specs.declared.table.Terms.{Terms}
+use Rattle.replica.specs.Handles.{Handles}
+use Rattle.replica.specs.Nodes.{NodeValue}
+use Rattle.replica.specs.Opens.{Opens}
+use Rattle.replica.specs.Stores.{HoldsDesk}
+use Rattle.serving.specs.Connection.{Begun, serve_frame}
+use Rattle.serving.specs.Making.{Lead, calls_of, speaking}
+use Rattle.serving.specs.Serving.{Act}
+use Rattle.store.specs.declared.home.Home.{Home}
+use Rattle.store.specs.declared.keeper.Keeper.{Ghosts}
+use Rattle.hall_laws.specs.HallRuns.{FrameWasSent, IsSameStore, IsTakenIn, IsTick, StopsInSave}
+use Rattle.hall_laws.specs.OwnMessages.{sent_after}
+use Rattle.hall_laws.specs.Stops.{Happening, real_run}
+use Rattle.wire.specs.declared.frame.What.TheVariants as what
+
+-- ---- what a desk does
+
+-- what a desk does for a frame of a client, or for the one that stands for a Tick of its own: calls
+-- and pushes, in order
+pub record Doing : Type 0 where
+  pub one : Begun
+  pub acts : List Act
+
+-- it is all that the frame comes to, whatever was seen of the desk, or a front part of it; and its
+-- calls lead from the one node to the other
+pub record IsDone {K : Type 0} (k : Ghosts K) (home : Home) (doing : Doing)
+    (x y : NodeValue K) : Type 0 where
+  pub seen : Seen
+  pub rest : List Act
+  pub parts : (serve_frame home seen doing.one).acts ≡ doing.acts ++ rest
+  pub calls : Lead (Handles k) x (calls_of doing.acts) y
+
+-- one after the other
+abbrev pub AreDone : {K : Type 0} → Ghosts K → Home → NodeValue K → List Doing → NodeValue K
+    → Type 0
+AreDone k home x [] y = x ≡ y
+AreDone {K} k home x (doing ∷ more) y =
+    (z : NodeValue K) × IsDone k home doing x z × AreDone k home z more y
+
+-- it is done for this frame of a client, or for a Tick of the desk's own
+abbrev pub IsFor : Home → Deed → Doing → Type 0
+IsFor home (Frame f) doing = doing.one ≡ f.one
+IsFor home (OwnTick starved) doing = IsTick home doing.one
+
+abbrev pub AreFor : Home → List Deed → List Doing → Type 0
+AreFor home [] [] = Unit {0}
+AreFor home (deed ∷ deeds) (doing ∷ doings) = IsFor home deed doing × AreFor home deeds doings
+AreFor home [] (doing ∷ doings) = ⊥
+AreFor home (deed ∷ deeds) [] = ⊥
+
+-- What a desk does while it serves clients by the loop is such: for each frame that is begun, and
+-- for each Tick of its own, in order, from its node before to its node after.
+abbrev pub ServingsAreDoings : {K : Type 0} → Ghosts K → Type 0
+ServingsAreDoings {K} k =
+    (result : ServedEach) (home : Home) (t : Terms) (period : Option ℕ)
+    (a b : Room (speaking (Handles k) t.wire)) (before after : Option (List Happened))
+    (steps : List Step)
+    → IsServedEach result home t period a b before after steps
+    → (deeds : List Deed) × (doings : List Doing)
+    × AreDoneInTurn home (point_in a) deeds (point_in b) × AreFor home deeds doings
+    × AreDone k home a.outside.node doings b.outside.node
+
+-- ---- the desks of a hall
+
+-- their nodes by their numbers, and the messages that calls of them have handed out, in order
+pub record Loops (K : Type 0) : Type 0 where
+  pub nodes : ℕ → NodeValue K
+  pub sent : List Message
+
+abbrev pub home_in : {K : Type 0} → Ghosts K → NodeValue K → Home
+home_in k x = k.home_of x.keeper
+
+-- A desk does that; or it is opened again, after it ended or was stopped between two of these; or
+-- it stops in the middle of one, with so much of it done, and is opened again.
+pub data LoopEvent : Type 0 where
+  DoesAt : ℕ → Doing → LoopEvent
+  OpensAt : ℕ → LoopEvent
+  StopsAt : ℕ → Doing → LoopEvent
+
+-- no other desk has changed, and what the calls among these acts hand out was sent
+pub record OnlyAt {K : Type 0} (d : ℕ) (acts : List Act) (a b : Loops K) : Type 0 where
+  pub others : (j : ℕ) → j ≢ d → b.nodes j ≡ a.nodes j
+  pub sent : b.sent ≡ sent_after a.sent acts
+
+pub record Does {K : Type 0} (k : Ghosts K) (n d : ℕ) (doing : Doing) (a b : Loops K) : Type 0
+  where
+    pub ours : IsDesk n d
+    pub does : IsDone k (home_in k (a.nodes d)) doing (a.nodes d) (b.nodes d)
+    -- the premise on messages: what the frame brings was sent
+    pub brings : FrameWasSent (home_in k (a.nodes d)) a.sent doing.one
+    pub only : OnlyAt d doing.acts a b
+
+-- the node was opened over this keeper, whose store gave back what was written to it
+pub record IsOpened {K : Type 0} (k : Ghosts K) (keeper : K) (y : NodeValue K) : Type 0 where
+  pub opens : Opens k keeper y
+  -- the premise on files
+  pub honest : k.is_honest y.keeper
+
+pub record OpensAgain {K : Type 0} (k : Ghosts K) (n d : ℕ) (a b : Loops K) : Type 0 where
+  pub ours : IsDesk n d
+  pub keeper : K
+  pub store : IsSameStore k (a.nodes d).keeper keeper
+  pub opened : IsOpened k keeper (b.nodes d)
+  pub only : OnlyAt d [] a b
+
+pub record Stops {K : Type 0} (k : Ghosts K) (n d : ℕ) (doing : Doing) (a b : Loops K) : Type 0
+  where
+    pub ours : IsDesk n d
+    -- the node as it stopped, between two calls or in the next one
+    pub node : NodeValue K
+    pub does : IsDone k (home_in k (a.nodes d)) doing (a.nodes d) node
+    pub brings : FrameWasSent (home_in k (a.nodes d)) a.sent doing.one
+    pub keeper : K
+    pub store : IsSameStore k node.keeper keeper ⊎ StopsInSave k node keeper does.rest
+    pub opened : IsOpened k keeper (b.nodes d)
+    pub only : OnlyAt d doing.acts a b
+
+abbrev pub LoopGoes : {K : Type 0} → Ghosts K → ℕ → LoopEvent → Loops K → Loops K → Type 0
+LoopGoes k n (DoesAt d doing) a b = Does k n d doing a b
+LoopGoes k n (OpensAt d) a b = OpensAgain k n d a b
+LoopGoes k n (StopsAt d doing) a b = Stops k n d doing a b
+
+-- ---- a run
+
+-- an event, and the desks after it
+pub record LoopStep (K : Type 0) : Type 0 where
+  pub event : LoopEvent
+  pub after : Loops K
+
+abbrev pub AreLoopSteps : {K : Type 0} → Ghosts K → ℕ → Loops K → List (LoopStep K) → Type 0
+AreLoopSteps k n a [] = Unit {0}
+AreLoopSteps k n a (s ∷ ss) = LoopGoes k n s.event a s.after × AreLoopSteps k n s.after ss
+
+-- desk d of n, that was opened over an empty store
+pub record IsFirst {K : Type 0} (k : Ghosts K) (n d : ℕ) (x : NodeValue K) : Type 0 where
+  pub desks : (home_in k x).desks ≡ n
+  pub desk : (home_in k x).desk ≡ d
+  pub first : x.desk ≡ first_desk
+  pub stored : HoldsDesk k x.keeper first_desk
+
+pub record IsLoopRun {K : Type 0} (k : Ghosts K) (n : ℕ) (a : Loops K)
+    (steps : List (LoopStep K)) : Type 0 where
+  pub first : (d : ℕ) → IsDesk n d → IsFirst k n d (a.nodes d)
+  pub unsent : a.sent ≡ []
+  pub taken : AreLoopSteps k n a steps
+
+abbrev pub loops_after : {K : Type 0} → Loops K → List (LoopStep K) → Loops K
+loops_after a [] = a
+loops_after a (s ∷ ss) = loops_after s.after ss
+
+-- the log of desk d after the first i steps
+abbrev pub loop_log : {K : Type 0} → Loops K → List (LoopStep K) → ℕ → ℕ → List Entry
+loop_log a steps i d = ((loops_after a (take i steps)).nodes d).desk.log
+
+-- ---- what holds of every run
+
+-- each desk knows what the world's desk knows, and what was sent here was sent there
+pub record IsWorld {K : Type 0} (n : ℕ) (a : Loops K) (w : World) : Type 0 where
+  pub nodes : (d : ℕ) → IsDesk n d → (a.nodes d).desk ≡ w.desks d
+  pub sent : a.sent ≡ w.sent
+
+-- so it is at first, and after each step, where each step is these happenings
+abbrev pub AreHappenings : {K : Type 0} → ℕ → Loops K → World → List (LoopStep K)
+    → List (List Happening) → Type 0
+AreHappenings n a w [] [] = IsWorld n a w
+AreHappenings n a w [] (hs ∷ rest) = ⊥
+AreHappenings n a w (s ∷ ss) [] = ⊥
+AreHappenings n a w (s ∷ ss) (hs ∷ rest) =
+    IsWorld n a w × AreHappenings n s.after (real_run n w hs) ss rest
+
+-- the calls of all desks together are a run of the world
+abbrev pub LoopsAreRuns : {K : Type 0} → Ghosts K → Type 0
+LoopsAreRuns {K} k =
+    (n : ℕ) (a : Loops K) (steps : List (LoopStep K)) → IsLoopRun k n a steps
+    → (each : List (List Happening)) × AreHappenings n a new_world steps each
+
+-- of the logs of any two desks at any two moments one is a prefix of the other
+abbrev pub LoopLogsAgree : {K : Type 0} → Ghosts K → Type 0
+LoopLogsAgree {K} k =
+    (n : ℕ) (a : Loops K) (steps : List (LoopStep K)) (i j d f : ℕ)
+    → IsLoopRun k n a steps → IsDesk n d → IsDesk n f
+    → IsPrefix (loop_log a steps i d) (loop_log a steps j f)
+    ⊎ IsPrefix (loop_log a steps j f) (loop_log a steps i d)
+
+-- a desk does so for a frame, or stops while it does
+abbrev pub BeginsIn : LoopEvent → Doing → Type 0
+BeginsIn (DoesAt d it) doing = it ≡ doing
+BeginsIn (OpensAt d) doing = ⊥
+BeginsIn (StopsAt d it) doing = it ≡ doing
+
+-- in one of the steps a desk took the entry, of a frame that submits it
+pub record WasEntered {K : Type 0} (steps : List (LoopStep K)) (e : Entry) : Type 0 where
+  pub at : ℕ
+  pub step : LoopStep K
+  pub here : slice_get steps at ≡ Some step
+  pub doing : Doing
+  pub begins : BeginsIn step.event doing
+  pub asked : doing.one.frame.what ≡ what.Submit e
+  pub taken : IsTakenIn e (calls_of doing.acts)
+
+-- every entry of a log was submitted before, by such a frame
+abbrev pub LoopEntriesAreSubmitted : {K : Type 0} → Ghosts K → Type 0
+LoopEntriesAreSubmitted {K} k =
+    (n : ℕ) (a : Loops K) (steps : List (LoopStep K)) (i d pos : ℕ) (e : Entry)
+    → IsLoopRun k n a steps → IsDesk n d → slice_get (loop_log a steps i d) pos ≡ Some e
+    → WasEntered (take i steps) e

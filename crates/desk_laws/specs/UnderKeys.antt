@@ -1,0 +1,89 @@
+-- At a desk with a key: what needs one, and under which it came.
+use Rattle.std.specs.Prelude.{◌≡◌, ℕ, Bool, true, false, List, ◌∷◌, ◌++◌, length, Some, IsTrue}
+use Rattle.std.specs.List.{flat_map}
+use Rattle.connections.specs.Connections.{Served, begun_of}
+use Rattle.guarded.specs.GuardLaw.{IsHallKey}
+use Rattle.multiplex.specs.EachClient.{IsServedBehind}
+use Rattle.seal.specs.Records.{AreBodies, preface_of, records}
+use Rattle.seal.specs.Streams.{joined}
+use Rattle.sealed.specs.Admitting.{comes_under}
+use Rattle.sealed.specs.Sent.{key_for}
+use Rattle.sealed.specs.declared.callers.Doors.TheVariants.{Locked}
+use Rattle.sealed.specs.declared.callers.Holder.{Holder}
+use Rattle.sealed.specs.declared.callers.Locks.{Locks}
+use Rattle.serving.specs.Connection.{Begun, asked, frames_of}
+use Rattle.serving.specs.declared.request.Request.{Request}
+use Rattle.serving.specs.declared.request.Request.TheVariants.{Heard, Lagging, Learned, Entered}
+use Rattle.serving.specs.declared.request.Request.TheVariants.{Asked, Printed, Ticked, Stopped}
+use Rattle.serving.specs.declared.request.Request.TheVariants.{Inspected, Copied, Strange, Ignored}
+use Rattle.serving.specs.declared.request.Request.TheVariants.{Denied, Withheld}
+use Rattle.store.specs.declared.home.Home.{Home}
+use Rattle.wire.specs.Spelling.{spelling}
+
+-- it changes something at the desk, or ends it: a command is entered, a Tick or a Stop is given, or
+-- a message of another desk is delivered
+abbrev pub needs_key : Request → Bool
+needs_key (Entered e) = true
+needs_key Ticked = true
+needs_key Stopped = true
+needs_key (Heard m) = true
+needs_key (Lagging m) = true
+needs_key (Learned run) = true
+needs_key (Asked id) = false
+needs_key (Printed event round position style) = false
+needs_key (Inspected differs) = false
+needs_key (Copied position) = false
+needs_key Strange = false
+needs_key Ignored = false
+needs_key Denied = false
+needs_key Withheld = false
+
+-- and a key of the hall: all of these but entering and Ticks
+abbrev pub needs_halls : Request → Bool
+needs_halls Stopped = true
+needs_halls (Heard m) = true
+needs_halls (Lagging m) = true
+needs_halls (Learned run) = true
+needs_halls (Entered e) = false
+needs_halls Ticked = false
+needs_halls (Asked id) = false
+needs_halls (Printed event round position style) = false
+needs_halls (Inspected differs) = false
+needs_halls (Copied position) = false
+needs_halls Strange = false
+needs_halls Ignored = false
+needs_halls Denied = false
+needs_halls Withheld = false
+
+-- What came is a client's preface, records whose tags fit under this key of the desk, numbered from
+-- 0, and a rest; and in the bodies of these records stands this frame, after those before it.
+pub record IsUnderKey (locks : Locks) (who : Holder) (server came : List ℕ) (earlier : List Begun)
+    (one : Begun) : Type 0 where
+  pub key : List ℕ
+  pub held : key_for locks who ≡ Some key
+  pub client : List ℕ
+  pub bodies : List (List ℕ)
+  pub rest : List ℕ
+  pub more : List ℕ
+  pub sixteen : length client ≡ 16
+  pub whole : came
+      ≡ preface_of client ++ (records (comes_under client server key) 0 bodies ++ rest)
+  pub each : AreBodies 0 bodies
+  pub inside : joined bodies
+      ≡ flat_map spelling (frames_of earlier) ++ (spelling one.frame ++ more)
+
+-- whose key it is; and where a key of the hall is needed, it is one
+pub record CameUnderKey (locks : Locks) (server came : List ℕ) (earlier : List Begun) (one : Begun)
+    (r : Request) : Type 0 where
+  pub who : Holder
+  pub under : IsUnderKey locks who server came earlier one
+  pub halls : IsTrue (needs_halls r) → IsHallKey locks under.key
+
+-- At a desk with a key, for each frame of a client that asks for such, and is done.
+abbrev pub EachAsksUnderAKey : Type 0
+EachAsksUnderAKey =
+    (home : Home) (locks : Locks) (server came sent : List ℕ) (earlier later : List Served)
+    (one : Served)
+    → IsServedBehind home (Locked locks) server came sent (earlier ++ one ∷ later)
+    → IsTrue (needs_key (asked home one.one))
+    → CameUnderKey locks server came (begun_of earlier) one.one (asked home one.one)

@@ -1,0 +1,15 @@
+//! What desks that serve by the program's own loop do in a hall, and what keys leave of that. Each
+//! law is the contract of a function that does nothing.
+#![tactic(auto)]
+
+mod example;
+mod full_links;
+mod loop_runs;
+mod under_keys;
+mod ways;
+
+pub use example::a_message_comes;
+pub use full_links::links_write_and_lose;
+pub use loop_runs::loops_are_runs;
+pub use under_keys::asks_under_a_key;
+pub use ways::messages_come_as_pushed;

@@ -1,0 +1,304 @@
+//! The arguments of the program, and how it ends.
+
+use clap::builder::ValueParser;
+use clap::{Arg, ArgAction, ArgMatches, Command, Error};
+use command_line::borrowed;
+use explaining::{explain_listening, is_wanted};
+use hall_file::hall_options::{
+    FoundHall, Mistake, address_at, hall_of, option, tell, tell_mistake, tell_parse_error,
+    tell_system, with_desks,
+};
+use hall_standings::Hall;
+use http_server::Config;
+use outbox::JournalFault;
+use page_sockets::browsers_at;
+use pages::Terms;
+use std::alloc::{AllocError, Global};
+use std::io;
+use std::io::Write;
+use std::net::SocketAddr;
+use table_service::{
+    End, FileFault, Opened, PROGRAM, SystemFile, hall_name, is_table_name, open_journal, serve,
+};
+
+const ABOUT: &str = "Takes scorecards in a browser, and enters them at the desks of a hall.";
+
+const VERSION: &str = "1.0.0";
+
+/// The title of the sheets on paper where the arguments do not say it.
+const TITLE: &str = "Results";
+
+/// The name of the table where the arguments do not say it.
+const NAME: &str = "A";
+
+/// What is said of another one that is none.
+const NO_NAME: &str = "--name has to be 1 to 60 bytes of text, with single spaces, without double \
+                       quotes or hidden characters";
+
+/// The journal where the arguments name none.
+const JOURNAL: &str = "scoretable.journal";
+
+/// What is said where the hall is broken.
+const BROKEN: &str = "two desks of the hall told different entries: stop and look at their logs";
+
+/// What help says of `--explain`.
+const EXPLAIN: &str = "Where it cannot listen a second line says why, and what to do";
+
+const AFTER: &str = "\
+Shows the rounds of the hall at http://ADDR/, and takes the scorecards of a round at
+http://ADDR/card/333-1. What is entered is put into the journal, submitted at a desk, and shown as
+saved once it is decided. ADDR is that of --listen. It prints `scoretable at ADDR` once it listens,
+and runs until it is stopped. What was not decided then is submitted after the next start. The log
+keeps with each card who entered it and when: the name of --name and the machine's time, as in
+`A 14:05:33 UTC`.
+
+The desks are those of --hall and --to, or without these all desks of the hall that FILE describes.
+Where they have a key, it is in the file of --key, or in the one that FILE names. Standard error
+gets a line where a desk has another key, has no key, has a key and the score table has none, or is
+of another hall, and where no majority of the desks answers.
+Whoever reaches ADDR can enter results, so it has to be an address of this machine alone, as
+127.0.0.1:8081, unless --open-network is given.
+
+Exit status: 2 invalid arguments, or help or the version; 3 FILE describes no hall, the key's file
+gives no key, or the journal is damaged, of another hall, or of an earlier scoretable; 4 an invalid
+address, the journal cannot be used, cannot listen, cannot go on, or two desks told different
+entries; 5 no memory. Standard error gets a line that says why.";
+
+/// The most browsers whose connections are open at once. With the longest bodies they take half a
+/// GiB.
+const MOST_BROWSERS: usize = 64;
+
+/// How long a browser is waited for, in milliseconds.
+const PATIENCE: u64 = 10_000;
+
+/// The most bytes of a request's head.
+const LONGEST_HEAD: usize = 16_384;
+
+/// The most bytes of a request's body, 8 MiB: a competition's file with a thousand persons.
+const LONGEST_BODY: usize = 8_388_608;
+
+/// What the score table is to do.
+#[derive(Drop)]
+struct Order {
+    /// The hall, with one to five desks.
+    hall: FoundHall,
+    title: String,
+    name: String,
+    listen: SocketAddr,
+    journal: Opened<SystemFile>,
+}
+
+/// The program, as the parser knows it.
+fn command<'a>(alloc: Global) -> Result<Command<'a>, AllocError> {
+    let plain = Command::new(alloc, PROGRAM)
+        .about(ABOUT)
+        .version(VERSION)
+        .after_help(AFTER);
+    let listen = "Where browsers find the score table, as 127.0.0.1:8081";
+    let title = "The title of the sheets on paper; without this option Results";
+    let name = "The name of this table in the log, 1 to 60 bytes; without this option A";
+    let journal = "The file that keeps what was entered; without this option scoretable.journal";
+    let open = Arg::new(alloc, "open-network")
+        .long("open-network")
+        .help("Lets ADDR be one that other machines reach")
+        .action(ArgAction::SetTrue);
+    let explain = Arg::new(alloc, "explain")
+        .long("explain")
+        .help(EXPLAIN)
+        .action(ArgAction::SetTrue);
+    with_desks(alloc, plain)?
+        .arg(option(alloc, "listen", "ADDR", listen, ValueParser::string()).required(true))?
+        .arg(option(alloc, "title", "TEXT", title, ValueParser::string()))?
+        .arg(option(alloc, "name", "TEXT", name, ValueParser::string()))?
+        .arg(option(alloc, "journal", "FILE", journal, ValueParser::string()))?
+        .arg(open)?
+        .arg(explain)
+}
+
+/// Why the arguments give no order.
+#[derive(Drop)]
+enum Refusal<'a> {
+    /// The options are wrong.
+    Wrong(Mistake<'a>),
+    /// No table can have the name of `--name`.
+    Name,
+    /// Other machines reach the address of `--listen`, and `--open-network` is not given.
+    Open,
+    /// Browsers can't name the address of `--listen`.
+    Nameless,
+    /// The journal at this path can't be used.
+    Journal(&'a str, FileFault),
+}
+
+impl<'a> From<Mistake<'a>> for Refusal<'a> {
+    ghost use Rattle.std.specs.Prelude.{◌≡◌};
+    ghost use Rattle.scoretable.specs.declared.options.Refusal.TheVariants.{Wrong};
+
+    ghost from_gives = { λ mistake refusal. refusal ≡ Wrong mistake };
+
+    fn from(mistake: Mistake<'a>) -> Refusal<'a> {
+        Refusal::Wrong(mistake)
+    }
+}
+
+/// The name of the table.
+fn name_of<'a>(rt: &HostRuntime, found: &ArgMatches<'a>) -> Result<String, Refusal<'a>> {
+    let name = found.get_str("name").unwrap_or(NAME);
+    if !is_table_name(name.as_bytes()) {
+        return Err(Refusal::Name);
+    }
+    match String::from_str(rt.alloc(), name) {
+        Ok(name) => Ok(name),
+        Err(_) => Err(Refusal::Wrong(Mistake::NoMemory)),
+    }
+}
+
+/// What the arguments ask for. The journal is opened last.
+fn order_of<'a>(rt: &HostRuntime, found: &ArgMatches<'a>) -> Result<Order, Refusal<'a>> {
+    let name = name_of(rt, found)?;
+    let hall = hall_of(rt, found)?;
+    let listen = address_at(rt, found, "listen")?;
+    if listen.ip().is_unspecified() {
+        return Err(Refusal::Nameless);
+    }
+    if !listen.ip().is_loopback() && !found.get_flag("open-network") {
+        return Err(Refusal::Open);
+    }
+    let Ok(title) = String::from_str(rt.alloc(), found.get_str("title").unwrap_or(TITLE)) else {
+        return Err(Refusal::Wrong(Mistake::NoMemory));
+    };
+    let path = found.get_str("journal").unwrap_or(JOURNAL);
+    let Ok(named) = hall_name(rt.alloc(), hall.hall, &hall.desks) else {
+        return Err(Refusal::Wrong(Mistake::NoMemory));
+    };
+    match open_journal(rt, path, &named, 0) {
+        Ok(journal) => Ok(Order {
+            hall,
+            title,
+            name,
+            listen,
+            journal,
+        }),
+        Err(fault) => Err(Refusal::Journal(path, fault)),
+    }
+}
+
+/// Says why the arguments give no order, and returns the status.
+fn tell_refusal<F: Write>(faults: &mut F, refusal: Refusal<'_>) -> u8 {
+    match refusal {
+        Refusal::Wrong(mistake) => tell_mistake(faults, PROGRAM, mistake),
+        Refusal::Name => tell(faults, PROGRAM, NO_NAME, 2),
+        Refusal::Open => {
+            let why = "other machines reach the address of --listen: see --open-network";
+            tell(faults, PROGRAM, why, 4)
+        }
+        Refusal::Nameless => {
+            let why = "--listen has to name the one address that browsers are to use";
+            tell(faults, PROGRAM, why, 4)
+        }
+        Refusal::Journal(_, FileFault::Unread(JournalFault::NoMemory)) => {
+            tell(faults, PROGRAM, "no memory", 5)
+        }
+        Refusal::Journal(path, fault) => {
+            let _ = writeln!(faults, "{PROGRAM}: {path}: {fault}");
+            match fault {
+                FileFault::Unread(_) => 3,
+                FileFault::System | FileFault::InUse | FileFault::TooLong => 4,
+            }
+        }
+    }
+}
+
+/// Says that the program can't listen, and returns the status. A second line says why, where that
+/// is asked for and on a terminal.
+fn tell_listening<F: Write>(
+    rt: &HostRuntime,
+    faults: &mut F,
+    error: &io::Error,
+    found: &ArgMatches<'_>,
+) -> u8 {
+    let status = tell_system(faults, PROGRAM, error, "cannot listen");
+    if is_wanted(rt, found.get_flag("explain")) {
+        let _ = explain_listening(rt, faults, found.get_str("listen").unwrap_or(""));
+    }
+    status
+}
+
+/// Listens and serves until the system fails, and returns the status.
+fn run_order<W: Write, F: Write>(
+    rt: &HostRuntime,
+    found: &ArgMatches<'_>,
+    order: Order,
+    writer: &mut W,
+    faults: &mut F,
+) -> u8 {
+    let alloc = rt.alloc();
+    let Order {
+        hall,
+        title,
+        name,
+        listen,
+        journal,
+    } = order;
+    if journal.journal.cut {
+        let why = "the journal's last line was cut off: left out";
+        let _ = writeln!(faults, "{PROGRAM}: {why}");
+    }
+    let mut config = Config::default();
+    config.limits.max_head_len = LONGEST_HEAD;
+    config.max_body_len = LONGEST_BODY;
+    let terms = Terms {
+        most: MOST_BROWSERS,
+        patience: PATIENCE,
+        config,
+    };
+    let browsers = match browsers_at(rt, alloc, listen, terms) {
+        Ok(browsers) => browsers,
+        Err(error) => return tell_listening(rt, faults, &error, found),
+    };
+    let asked = Hall {
+        number: hall.hall,
+        addresses: &hall.desks,
+        key: hall.key,
+    };
+    match serve(
+        rt, alloc, asked, title, name, journal, browsers, writer, faults,
+    ) {
+        Ok(End::Failed) => tell(faults, PROGRAM, "cannot go on", 4),
+        Ok(End::Broken) => tell(faults, PROGRAM, BROKEN, 4),
+        Err(error) => tell_system(faults, PROGRAM, &error, "cannot go on"),
+    }
+}
+
+/// Does what the arguments ask for, the program's own name first, and returns the exit status.
+fn run_arguments<W: Write, F: Write>(
+    rt: &HostRuntime,
+    given: &[&str],
+    writer: &mut W,
+    faults: &mut F,
+) -> u8 {
+    let parsed = match command(rt.alloc()) {
+        Ok(command) => command.try_get_matches_from(given),
+        Err(_) => Err(Error::from(AllocError)),
+    };
+    match parsed {
+        Ok(found) => match order_of(rt, &found) {
+            Ok(order) => run_order(rt, &found, order, writer, faults),
+            Err(refusal) => tell_refusal(faults, refusal),
+        },
+        Err(error) => tell_parse_error(rt.alloc(), PROGRAM, &error, writer, faults),
+    }
+}
+
+/// Runs the program on the arguments that it was given, and returns the exit status.
+pub fn run_given<W: Write, F: Write>(
+    rt: &HostRuntime,
+    given: &[String],
+    writer: &mut W,
+    faults: &mut F,
+) -> u8 {
+    match borrowed(rt.alloc(), given) {
+        Ok(texts) => run_arguments(rt, &texts, writer, faults),
+        Err(_) => tell(faults, PROGRAM, "no memory", 5),
+    }
+}

@@ -1,0 +1,194 @@
+-- What the calls of a mirror that is kept up lead to, and those of a survey.
+use Rattle.std.proofs.Common.{◌≡◌, inl, inr, refl, sym, ◌∙◌, ℕ, false, List, [], ◌∷◌, ◌++◌, length}
+use Rattle.std.proofs.Common.{None, Some, arith}
+use Rattle.std.proofs.lemmas.List.{append-nil}
+use Rattle.acceptor.specs.declared.entry.Entry.{Entry}
+use Rattle.client.specs.Standings.{log_request, status_request_in_five}
+use Rattle.desk_talks.specs.Dialogues.{CallsLead}
+use Rattle.desk_talks.specs.Lines.{LineOf, line}
+use Rattle.desk_talks.specs.Talks.{HearsFrames, TalkOf, asking, heard_of, sending, talk}
+use Rattle.desk_talks.specs.declared.line.Stage.TheVariants as line_stage
+use Rattle.desk_talks.specs.declared.talk.Heard.{Heard}
+use Rattle.desk_talks.specs.declared.talk.Heard.TheVariants as heard
+use Rattle.following.specs.Following.{Following}
+use Rattle.following.specs.declared.stages.Stage.{Stage}
+use Rattle.following.specs.declared.stages.Stage.TheVariants as stage
+use Rattle.mirror.specs.declared.mirror.Taken.TheVariants.{Grew}
+use Rattle.mirroring.specs.Histories.{CallLeads}
+use Rattle.mirroring.specs.Mirrorings.{MirroringOf, mirroring, new_mirroring}
+use Rattle.surveying.specs.Surveys.{DialogueLeads, SurveyOf, new_survey, survey}
+use Rattle.surveying.specs.declared.survey.Contact.TheVariants as contact
+use Rattle.wire.specs.Ranges.{IsFrame}
+use Rattle.wire.specs.Spelling.{spelling}
+use Rattle.wire.specs.Stream.{Fed, front, holding}
+use Rattle.wire.specs.declared.frame.Frame.{Frame}
+use Rattle.wire.specs.declared.frame.What.TheVariants as what
+use Rattle.witnesses.specs.Dialogues.{WorksDialogues, first, log_answer, mirror_after}
+use Rattle.witnesses.specs.Dialogues.{mirror_calls, quiet, stands, status_answer, survey_after}
+use Rattle.witnesses.specs.Dialogues.{survey_calls}
+
+-- the bytes of one frame come at once
+one_comes : (f : Frame) → IsFrame f → Fed (spelling f) (holding []) (holding []) (f ∷ [])
+unfolding front
+one_comes f good = record {
+  whole = refl;
+  feeds =
+      record {
+        rest = [];
+        whole = sym (append-nil (spelling f ++ []) ∙ append-nil (spelling f));
+        each = (good, tt);
+        ends = λ none. none;
+        keeps = refl;
+      };
+  at_once = λ none. refl;
+}
+
+-- and it is heard where this question waits
+hears : (told : Heard) (asked f : Frame) (unsent : List ℕ) → IsFrame f
+    → told ≡ heard_of (Some asked) (f ∷ [])
+    → HearsFrames told (spelling f) (talk (holding []) (Some asked) unsent)
+    (talk (holding []) None unsent)
+hears told asked f unsent good is = record {
+  frames = f ∷ [];
+  fed = one_comes f good;
+  heard_is = is;
+  question_is = refl;
+  unsent_is = refl;
+}
+
+log_frame : IsFrame log_answer
+log_frame = record {
+  hall = omega arith;
+  goes = ((omega arith, omega arith), refl);
+  body = (
+    omega arith,
+    record {
+      from = omega arith;
+      log = omega arith;
+      most = omega arith;
+      within = inr (omega arith);
+      each = (((omega arith, omega arith), omega arith), tt);
+    },
+  );
+}
+
+status_frame : IsFrame status_answer
+status_frame = record {
+  hall = omega arith;
+  goes = ((omega arith, omega arith), refl);
+  body = (
+    omega arith,
+    record {
+      log = omega arith;
+      queue = omega arith;
+      promised = tt;
+      told = (refl, (omega arith, (omega arith, (omega arith, tt))));
+      differs = tt;
+    },
+  );
+}
+
+-- ---- the mirror
+
+abbrev at : Stage → Following
+at stage = record { desks = 3; desk = 1; stage = stage; held = 0; most = 0; behind = None }
+
+abbrev mirror_at : Stage → TalkOf → MirroringOf
+mirror_at stage t = mirroring 7 (at stage) [] (Some t) None
+
+abbrev opening : MirroringOf
+opening = mirroring 7 (at (stage.Opening 0)) [] None None
+
+abbrev asked : TalkOf
+asked = asking quiet (log_request 7 1 0)
+
+abbrev written : TalkOf
+written = sending asked (length (spelling (log_request 7 1 0)))
+
+mirrors : CallsLead CallLeads (new_mirroring 7 3) mirror_calls mirror_after
+mirrors = (
+  opening,
+  (refl, refl),
+  (
+    mirror_at (stage.Opened 0) quiet,
+    refl,
+    (
+      mirror_at (stage.Asked 5) asked,
+      (quiet, refl, refl),
+      (
+        mirror_at (stage.Asked 5) written,
+        refl,
+        (
+          mirror_after,
+          record {
+            heard = heard.Answer (what.Entries 0 1 (first ∷ []));
+            after = quiet;
+            hears = inl (hears _ (log_request 7 1 0) log_answer [] log_frame refl);
+            follows =
+                record {
+                  taken = Some Grew;
+                  takes = (
+                    (omega arith, λ place mine its below. absurd (omega (arith, below))),
+                    omega arith,
+                    refl,
+                  );
+                  after = refl;
+                  is = refl;
+                };
+          },
+          refl,
+        ),
+      ),
+    ),
+  ),
+)
+
+-- ---- the survey
+
+abbrev survey_at : LineOf → SurveyOf
+survey_at l = survey 7 1 l None contact.NotAsked false
+
+abbrev question : TalkOf
+question = asking quiet (status_request_in_five 7 1)
+
+abbrev asked_so : TalkOf
+asked_so = sending question (length (spelling (status_request_in_five 7 1)))
+
+surveys : CallsLead DialogueLeads (new_survey 7 1) survey_calls survey_after
+surveys = (
+  survey_at (line 1000 (line_stage.Opening 0) None 0),
+  (refl, refl),
+  (
+    survey_at (line 1000 (line_stage.Opened 0) (Some quiet) 0),
+    (line 1000 (line_stage.Opened 0) (Some quiet) 0, refl, refl),
+    (
+      survey_at (line 1000 (line_stage.Asked 5) (Some question) 1),
+      (
+        line 1000 (line_stage.Asked 5) (Some question) 1,
+        (quiet, refl, refl),
+        refl,
+      ),
+      (
+        survey_at (line 1000 (line_stage.Asked 5) (Some asked_so) 1),
+        refl,
+        (
+          survey_after,
+          record {
+            heard = heard.Answer (what.Standing stands);
+            after = line 1000 (line_stage.Answered (Some 5)) (Some quiet) 1;
+            hears = (
+              quiet,
+              inl (hears _ (status_request_in_five 7 1) status_answer [] status_frame refl),
+              refl,
+            );
+            follows = (refl, refl);
+          },
+          refl,
+        ),
+      ),
+    ),
+  ),
+)
+
+pub works : WorksDialogues
+works = record { mirrors = mirrors; surveys = surveys }

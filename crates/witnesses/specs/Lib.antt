@@ -1,0 +1,9 @@
+pub mod LinkCalls
+pub mod Followed
+pub mod Told
+pub mod Forms
+pub mod Reopened
+pub mod Dialogues
+pub mod Streams
+pub mod HallFiles
+pub mod Exported

@@ -1,0 +1,10 @@
+//! Questions to a desk, and its answers.
+
+ghost use Rattle.witnesses.specs.Dialogues.{WorksDialogues};
+
+/// A desk is asked for its log by a mirror that is kept up, and how it stands by a survey; both
+/// times a connection is opened, the question is written, and the answer comes. So
+/// `mirroring::laws` and `surveying::laws` say something.
+pub fn desks_are_asked()
+    ensures { WorksDialogues }
+{}

@@ -1,0 +1,10 @@
+//! Calls of a follower.
+
+ghost use Rattle.witnesses.specs.Followed.{WorksFollower};
+
+/// A hall of three desks is followed: the first desk is asked and answers, is asked again and is
+/// silent, or tells another entry; the second one's log is behind. So `following::laws` say
+/// something.
+pub fn a_hall_is_followed()
+    ensures { WorksFollower }
+{}
