@@ -51,7 +51,7 @@ KEYS = {
     "other": "the desks have another key. Copy it again, and start again.",
     "needless": "it has a key, and the desks have none. Start them with the key.",
 }
-MEANINGS = {"1": "no command of the edition that holds",
+MEANINGS = {"1": "not a command of this edition",
             "4": "another number has this name", "15": "it is there already"}
 
 

@@ -1,6 +1,6 @@
 -- Words of which the first is an id.
-use Rattle.std.proofs.Common.{◌≡◌, ◌∙◌, ◌≤◌, ◌-◌, ◌∷◌, [], Bor, List, ℕ, ap, arith, decimal, drop, get_or, length}
-use Rattle.std.proofs.Common.{map, sym, take}
+use Rattle.std.proofs.Common.{◌≡◌, ◌∙◌, ◌≤◌, ◌-◌, ◌∷◌, [], Bor, List, ℕ, ap, arith, decimal, drop}
+use Rattle.std.proofs.Common.{get_or, length, map, sym, take}
 use Rattle.std.proofs.lemmas.List.{take_all}
 use Rattle.clap.specs.Words.{Text}
 

@@ -220,8 +220,8 @@ pub unknown_told : (told : What) → IsUnknown told → undecided_in (Ok told) �
 unknown_told told h = ap (λ (t : What). undecided_in (Ok t)) h.1
 
 -- a question for an id, whichever it is
-asks_by : {T : Type 0} (awaits : Bool) (first second : Frame) (f : What → T) (t : T) → f first.what ≡ t
-    → f second.what ≡ t → f (if awaits then first else second).what ≡ t
+asks_by : {T : Type 0} (awaits : Bool) (first second : Frame) (f : What → T) (t : T)
+    → f first.what ≡ t → f second.what ≡ t → f (if awaits then first else second).what ≡ t
 asks_by true first second f t a b = a
 asks_by false first second f t a b = b
 

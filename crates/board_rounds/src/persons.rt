@@ -1,8 +1,8 @@
 //! Competitors, and the rounds that one of them is in, in HTML.
 
 ghost use Rattle.std.specs.Prelude.{◌≡◌, ◌<◌, ◌≤◌, ◌++◌, OnOk, IfOk, flat_map};
-ghost use Rattle.board_rounds.specs.Persons.{attempts_words, competitor, competitors, entry, people};
-ghost use Rattle.board_rounds.specs.Persons.{next_competitor, person_headings};
+ghost use Rattle.board_rounds.specs.Persons.{attempts_words, competitor, competitors, entry};
+ghost use Rattle.board_rounds.specs.Persons.{people, next_competitor, person_headings};
 ghost use Rattle.board_rounds.specs.Persons.{person_of, person_start, round_cell, state_end};
 ghost use Rattle.round_words.specs.Words.{round_name, round_words};
 ghost use Rattle.board_rounds.specs.model.Shown.{entry_shown};

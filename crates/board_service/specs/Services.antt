@@ -14,8 +14,8 @@ use Rattle.board_views.specs.Views.{IsPageAt}
 use Rattle.mirroring.specs.Mirrorings.{MirroringOf}
 use Rattle.hall_standings.specs.Halls.{HallDesksOf, IsStatus, ages_text, desks_wait}
 
--- the title of the competition, the mirror with what keeps it up, the desks that are asked, and what
--- the clock said when the mirror was kept up last
+-- the title of the competition, the mirror with what keeps it up, the desks that are asked, and
+-- what the clock said when the mirror was kept up last
 pub record ServiceOf : Type 0 where
   pub title : List ℕ
   pub mirroring : MirroringOf

@@ -69,7 +69,7 @@ impl Meet {
     }
 
     /// Takes one more entry, and says what its command is answered: `Repeat` where the id was seen
-    /// before, `Unread` where the text is no command of the edition that holds, else the first
+    /// before, `Unread` where the text is not a command of this edition, else the first
     /// check of the command that fails, or `Done`.
     ///
     /// A refused entry adds its id to those seen and changes nothing else. At `NoMemory` nothing

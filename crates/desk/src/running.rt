@@ -189,15 +189,15 @@ fn run_task<D: Dial, R: Read, W: Write, F: Write>(
 /// returns the exit status.
 ///
 /// The status is 0 where it was done; 1 where a part of a hall's desks lags or does not answer,
-/// something is told of a file that is exported, or a command that was waited for was refused; 2 where the parser refused the arguments, with its
-/// text on `faults`, or where they ask for help or the version, with its text on `writer`; 3 for a
-/// named refusal, and where no majority of a hall's desks answers; 4 for a device that failed, 5
-/// for `no memory`. The texts of the last three are one line on `faults`, but for those of a
-/// competition's file, of which there is one for each; on a terminal and with `--explain` a second
-/// line says why: [`DeskFault`], [`tell_import`] and [`tell_export`](exports::tell_export) have
-/// them. What each subcommand reads, writes and refuses is said at [`run_replay`], [`print_file`],
-/// [`run_export`], [`run_results`], [`hall`](hall::hall), and in the crate `tasks`. Desks are asked
-/// by `dial`.
+/// something is told of a file that is exported, or a command that was waited for was refused; 2
+/// where the parser refused the arguments, with its text on `faults`, or where they ask for help or
+/// the version, with its text on `writer`; 3 for a named refusal, and where no majority of a hall's
+/// desks answers; 4 for a device that failed, 5 for `no memory`. The texts of the last three are
+/// one line on `faults`, but for those of a competition's file, of which there is one for each; on
+/// a terminal and with `--explain` a second line says why: [`DeskFault`], [`tell_import`] and
+/// [`tell_export`](exports::tell_export) have them. What each subcommand reads, writes and refuses
+/// is said at [`run_replay`], [`print_file`], [`run_export`], [`run_results`],
+/// [`hall`](hall::hall), and in the crate `tasks`. Desks are asked by `dial`.
 pub fn run_arguments<'a, D: Dial, R: Read, W: Write, F: Write>(
     rt: &HostRuntime,
     dial: &mut D,

@@ -103,8 +103,8 @@ fn may_serve<D: Dial, F: Write>(
 
 /// Runs a desk of the hall that a file describes, and returns the exit status. Its key's file is
 /// the one that is wanted, or else the one that the hall's file names; its entry key's file is the
-/// one that is wanted, or else, beside a key, `entry.key` beside the hall's file, if it is there. The status is 3 where its
-/// store is to be made, and may not be: `may_serve`.
+/// one that is wanted, or else, beside a key, `entry.key` beside the hall's file, if it is there.
+/// The status is 3 where its store is to be made, and may not be: `may_serve`.
 pub fn run_hall_service<D: Dial, W: Write, F: Write>(
     rt: &HostRuntime,
     dial: &mut D,

@@ -4,7 +4,8 @@ use Rattle.desk_talks.specs.Dialogues.{Act, Call, Reaches}
 use Rattle.desk_talks.specs.declared.dialogue.Wish.{Wish}
 
 -- among the calls that lead from one state to the other is one that asks what is to be done now
-pub record AsksNow {S : Type 0} (Leads : Call → S → S → Type 0) (now : ℕ) (old new : S) : Type 0 where
+pub record AsksNow {S : Type 0} (Leads : Call → S → S → Type 0) (now : ℕ) (old new : S)
+    : Type 0 where
   pub wish : Wish
   pub before : S
   pub after : S

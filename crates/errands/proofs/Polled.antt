@@ -114,7 +114,8 @@ polls_more (Err e) q desk other (first ∷ rest) before mid after one a b c some
 
 compares_next : (q : Inquiry) (position end : ℕ) (known told next : Option (List Entry))
     (other : Option ℕ) (one : Polled) (rest before mid after : List Polled)
-    (a b c : Option (List Dialed)) → AsksLog q position one.address.now (standing_desk one.reply) a b told
+    (a b c : Option (List Dialed))
+    → AsksLog q position one.address.now (standing_desk one.reply) a b told
     → other ≡ other_in position end known told → mid ≡ before ++ with_other one other ∷ []
     → next ≡ first_told known told → ComparesMore q position end next rest mid after b c
     → ComparesMore q position end known (one ∷ rest) before after a c

@@ -167,9 +167,9 @@ fn is_unanswered(first: &Option<Reply>) -> bool
     matches!(first, Some(Reply::NoAnswer))
 }
 
-/// Asks at a place how the desk of a number stands, and, where it is another one, for the others, in
-/// version 3 of the wire. Where there is no answer, each desk is asked once more, as one of a program
-/// before that. None: memory ran out.
+/// Asks at a place how the desk of a number stands, and, where it is another one, for the others,
+/// in version 3 of the wire. Where there is no answer, each desk is asked once more, as one of a
+/// program before that. None: memory ran out.
 fn ask_earlier<D: Dial>(
     alloc: Global,
     dial: &mut D,

@@ -152,8 +152,8 @@ pub record Sound (hall n : ℕ) (h : Hall Memory) : Type 0 where
   pub sent : MessagesHold IsInFrame (IsMade n) h.sent
 
 pub moved : (hall n d : ℕ) (acts : List Act) (h g : Hall Memory) → Sound hall n h
-    → OnlyAt d acts h g → SoundAt (home_of hall n d) (g.desks d).node → Fit n (all_handed_out (calls_of acts))
-    → Sound hall n g
+    → OnlyAt d acts h g → SoundAt (home_of hall n d) (g.desks d).node
+    → Fit n (all_handed_out (calls_of acts)) → Sound hall n g
 moved hall n d acts h g s only own fit = record {
   desks = λ j ours. go j ours (eqb j d) refl;
   sent =

@@ -22,7 +22,8 @@ use Rattle.hall_laws.specs.Differing.{TellsShorter}
 other_stands : (told : Entry) (o : Option Entry) → is_other told o ≡ true
     → (there : Entry) × (o ≡ Some there) × (there ≢ told)
 other_stands told None h = absurd cc
-other_stands told (Some there) h = (there, refl, other_entry there told (turned (is_same_entry there told) h))
+other_stands told (Some there) h =
+    (there, refl, other_entry there told (turned (is_same_entry there told) h))
   where
     turned : (b : Bool) → not b ≡ true → b ≡ false
     turned false h = refl

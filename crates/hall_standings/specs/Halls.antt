@@ -1,8 +1,8 @@
 -- The desks of a hall, and what is told of them.
 use Rattle.std.specs.Prelude.{◌≡◌, ◌≢◌, ℕ, ◌-◌, List, [], ◌∷◌, ◌++◌, length, if◌then◌else◌, nat_le}
 use Rattle.std.specs.Prelude.{codes, decimal}
-use Rattle.std.specs.Prelude.{Bool, true, false, flat_map, map, min, slice_get, String, Option, None}
-use Rattle.std.specs.Prelude.{Some, ◌==◌}
+use Rattle.std.specs.Prelude.{Bool, true, false, flat_map, map, min, slice_get, String, Option}
+use Rattle.std.specs.Prelude.{None, Some, ◌==◌}
 use Rattle.std.specs.Global.{Global}
 use Rattle.desk_talks.specs.Lines.{wait_of}
 use Rattle.surveying.specs.Surveys.{new_survey, speaks_five}

@@ -301,8 +301,9 @@ fn page_of(
 /// The page of a competitor; none where nobody has the number.
 ///
 /// It has the name, the number and the rounds in which the competitor is, each with a link to the
-/// card. In edition 4 it has a form that gives another name, and one that withdraws from each open round in which the
-/// competitor is and has no attempt; before it, the form that moves to edition 4.
+/// card. In edition 4 it has a form that gives another name, and one that withdraws from each open
+/// round in which the competitor is and has no attempt; before it, the form that moves to edition
+/// 4.
 pub fn person_page(
     alloc: Global,
     around: &Around<'_>,

@@ -29,8 +29,8 @@ const BETWEEN_LINES: u64 = 60_000;
 /// Such a line.
 const NO_SOCKET: &[u8] = b"too many open files, or no memory: who was silent longest is let go\n";
 
-/// Says that the system has no more sockets, unless that was said a short while ago, and when it was
-/// said last.
+/// Says that the system has no more sockets, unless that was said a short while ago, and when it
+/// was said last.
 fn tell_scarce(lines: &mut PromptLines, told: Option<u64>, now: u64) -> Option<u64> {
     if let Some(then) = told {
         if now.saturating_sub(then) < BETWEEN_LINES {

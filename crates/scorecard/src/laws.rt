@@ -15,8 +15,8 @@ pub fn sheet_reads_back()
     ensures { SheetReadsBack }
 {}
 
-/// A law: what was entered for an attempt, as a page fills a field in with it, is read as just that,
-/// so that it is worth the same: each time with its penalties, each solution, each result of
+/// A law: what was entered for an attempt, as a page fills a field in with it, is read as just
+/// that, so that it is worth the same: each time with its penalties, each solution, each result of
 /// multi-blind, DNF and DNS.
 pub fn entered_reads_back()
     ensures { EnteredReadsBack }

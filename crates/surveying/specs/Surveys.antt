@@ -62,8 +62,8 @@ is_asked (stage.Asked since) = true
 is_asked _ = false
 
 -- A desk of an earlier program ends a connection over which it is asked in version 5: so, where one
--- is lost over which it was asked so and no answer came, it is asked in version 3 over the next one.
--- One that answers is asked on in the same version, and any other in version 5 again.
+-- is lost over which it was asked so and no answer came, it is asked in version 3 over the next
+-- one. One that answers is asked on in the same version, and any other in version 5 again.
 abbrev pub is_earlier : SurveyOf → Bool
 is_earlier s =
     if is_answering s.contact then s.earlier else (not s.earlier && is_asked s.line.stage)

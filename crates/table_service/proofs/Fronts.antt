@@ -1,6 +1,6 @@
 -- The front of a file's bytes that has its whole lines.
-use Rattle.std.proofs.Common.{◌≡◌, ◌∙◌, ◌++◌, ◌+◌, ◌<◌, ◌∷◌, ◌==◌, [], ℕ, Bool, true, false, List, ap, arith}
-use Rattle.std.proofs.Common.{cond, length, length-append, refl, subst, sym, take}
+use Rattle.std.proofs.Common.{◌≡◌, ◌∙◌, ◌++◌, ◌+◌, ◌<◌, ◌∷◌, ◌==◌, [], ℕ, Bool, true, false, List}
+use Rattle.std.proofs.Common.{ap, arith, cond, length, length-append, refl, subst, sym, take}
 use Rattle.std.specs.List.{join_with_byte, onto_first}
 use Rattle.std.proofs.Math.Seq.{take-length}
 use Rattle.std.proofs.lemmas.List.{take-append-le}

@@ -1,6 +1,6 @@
 -- What is opened over a journal's file.
-use Rattle.std.proofs.Common.{◌≡◌, ◌∙◌, ◌+◌, ◌++◌, ℕ, Bool, true, false, List, Option, None, Some, Ok}
-use Rattle.std.proofs.Common.{ap, arith, length, nat_lt, subst, sym, take}
+use Rattle.std.proofs.Common.{◌≡◌, ◌∙◌, ◌+◌, ◌++◌, ℕ, Bool, true, false, List, Option, None, Some}
+use Rattle.std.proofs.Common.{Ok, ap, arith, length, nat_lt, subst, sym, take}
 use Rattle.std.proofs.lemmas.Bool.Decides.{nat_tests}
 use Rattle.outbox.specs.Journals.{read_back}
 use Rattle.outbox.specs.Lines.{HallOf, cut_line}

@@ -1,5 +1,6 @@
 -- What all turns come to, one after the other.
-use Rattle.std.proofs.Common.{◌≡◌, ◌∙◌, ◌++◌, ◌∷◌, [], ◌≤◌, ℕ, zero, suc, List, Option, None, Some, ap}
+use Rattle.std.proofs.Common.{◌≡◌, ◌∙◌, ◌++◌, ◌∷◌, [], ◌≤◌, ℕ, zero, suc, List, Option, None, Some}
+use Rattle.std.proofs.Common.{ap}
 use Rattle.std.proofs.Common.{append_assoc, arith, drop, option_map, refl, subst, sym, take, true}
 use Rattle.std.specs.List.{AllByRecursion}
 use Rattle.std.specs.Map.{lookup}
@@ -10,8 +11,8 @@ use Rattle.card_forms.specs.Remarks.{is_same_but_remark}
 use Rattle.desk_sockets.proofs.Reaching.{both, one}
 use Rattle.desk_talks.specs.Dialogues.{Act, Call as DialogueCall, CallsLead, Reaches}
 use Rattle.outbox.specs.declared.item.Item.{Item}
-use Rattle.outbox.specs.Histories.{Aim, Call, CallLeads, History, InDialogue, IsStarted, Leads, Look}
-use Rattle.outbox.specs.Histories.{Restart, Start, Then, World, world}
+use Rattle.outbox.specs.Histories.{Aim, Call, CallLeads, History, InDialogue, IsStarted, Leads}
+use Rattle.outbox.specs.Histories.{Look, Restart, Start, Then, World, world}
 use Rattle.outbox.specs.Items.{ItemsOf, item_in, taken_back}
 use Rattle.outbox.specs.Laws.{Fixed, StaysInTheJournal}
 use Rattle.outbox.specs.Lines.{HallOf}

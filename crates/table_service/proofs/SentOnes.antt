@@ -20,7 +20,8 @@ same_text : (text : List ℕ) → is_same_but_remark text text ≡ true
 same_text text = (bytes_eq-Decides (before_remark text) (before_remark text)).1 refl
 
 -- one more item changes nothing of what is in the list
-queued_stays : (q : ItemsOf) (one e : Entry) (now : ℕ) → IsSentIn q e → IsSentIn (queued q one now) e
+queued_stays : (q : ItemsOf) (one e : Entry) (now : ℕ) → IsSentIn q e
+    → IsSentIn (queued q one now) e
 queued_stays q one e now is = by (item_in q e.id) refl is
   where
     by : (o : Option Item) → item_in q e.id ≡ o → sent_as o e ≡ true

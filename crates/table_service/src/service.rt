@@ -354,9 +354,9 @@ impl<D: Disk> TableService<D> {
         }
     }
 
-    /// Takes entries, and puts their lines into the journal, or says that it couldn't be done:
-    /// then none is taken. Whether all of them are, or were taken before. That answer is made first: memory may be refused
-    /// for it, and what was tried with the file can't be undone.
+    /// Takes entries, and puts their lines into the journal, or says that it couldn't be done: then
+    /// none is taken. Whether all of them are, or were taken before. That answer is made first:
+    /// memory may be refused for it, and what was tried with the file can't be undone.
     fn take(&mut self, entries: &[Entry], response: &mut Response) -> Result<bool, AllocError>
         ensures ok { IfOk result (λ kept.
             TakesFor kept entries.now self.old response.old self.new response.new) }

@@ -31,7 +31,8 @@ EndsInquiry status q form true o =
     ((status ≡ 0) × HasWatched form q o)
     ⊎ ((f : DeskFault) × (status ≡ status_of f) × FailsWatch f form q o)
 
--- A report was printed, or that failed; after it more may have been asked of the desks, and printed.
+-- A report was printed, or that failed; after it more may have been asked of the desks, and
+-- printed.
 pub record EndsAll (status : ℕ) (q : Inquiry) (form : Form) (o : Outside) : Type 0 where
   pub report : ℕ
   pub dialed : Option (List Dialed)

@@ -6,7 +6,7 @@ ghost use Rattle.texts.specs.Codes.{code_name, code_number, code_numbered};
 /// Why a command was refused: the first of its checks that failed.
 #[derive(Clone, Copy, Debug, PartialEq, Eq)]
 pub enum Code {
-    /// The text is no command of the edition that holds.
+    /// The text is not a command of this edition.
     Unread,
     /// The id was seen before, whatever its command was answered.
     Repeat,
@@ -42,13 +42,13 @@ pub enum Code {
     NotEntered,
     /// It is not the entrant's next attempt.
     OutOfOrder,
-    /// The entrant has done all attempts that are allotted.
+    /// The entrant has no attempt left.
     NoMoreAttempts,
     /// There is no such attempt.
     NoSuchAttempt,
     /// The cutoff would no longer be met, and attempts after it are done.
     CutoffLost,
-    /// An entrant has not done all attempts that are allotted.
+    /// An entrant still has attempts to do.
     Unfinished,
     /// The attempt, or the entrant, or the round has an attempt already.
     HasAttempts,

@@ -56,7 +56,7 @@ pub struct Settings {
     pub cutoff: Option<(u8, u32)>,
     /// The hundredths of a second (1 to 360,000) at which an attempt is too long.
     pub limit: Option<u32>,
-    /// Who goes on to the next round.
+    /// Who advances to the next round.
     pub advance: Advance,
 }
 

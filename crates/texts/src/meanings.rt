@@ -10,7 +10,7 @@ pub fn meaning_of(code: Code) -> &'static str
     ensures { result.now ≡ meaning_of code }
 {
     match code {
-        Code::Unread => "no command of the edition that holds",
+        Code::Unread => "not a command of this edition",
         Code::Repeat => "this id was entered before",
         Code::UnknownCompetitor => "nobody is registered under this number",
         Code::NameTaken => "another number has this name",
@@ -22,18 +22,18 @@ pub fn meaning_of(code: Code) -> &'static str
         Code::LimitNotAllowed => "a timed event needs a time limit, any other has none",
         Code::NoScramble => "the attempt has no scramble yet",
         Code::ScrambleThere => "the attempt has its scramble already",
-        Code::WrongOutcome => "the event does not take such a result",
+        Code::WrongOutcome => "the event does not accept such a result",
         Code::Closed => "the round is closed",
         Code::Already => "it is there already",
         Code::Full => "the round has 999 entrants",
         Code::NotEntered => "the competitor is not in this round",
         Code::OutOfOrder => "the attempt is not the next one",
-        Code::NoMoreAttempts => "all attempts that are allotted are done",
+        Code::NoMoreAttempts => "this competitor has no attempt left",
         Code::NoSuchAttempt => "there is no such attempt",
         Code::CutoffLost => "the cutoff would be missed, and attempts after it are done",
-        Code::Unfinished => "somebody has not done all attempts that are allotted",
+        Code::Unfinished => "somebody still has attempts to do",
         Code::HasAttempts => "an attempt is entered already",
         Code::NotClosed => "the round is not closed",
-        Code::Changed => "other attempts stand than the writer of the card saw",
+        Code::Changed => "the attempts have changed since the card was written",
     }
 }

@@ -6,7 +6,7 @@ use Rattle.board_views.proofs.frame.page_of.Goals as goal
 
 pub returns : goal.returns
 returns c =
-    five_parts [] (head c.args.shows.now c.args.title.now) (opening c.args.class.now c.args.title.now)
-    (links c.args.between.now) (inside c.args.shown.now) END.now _ _ _ _ _
+    five_parts [] (head c.args.shows.now c.args.title.now)
+    (opening c.args.class.now c.args.title.now) (links c.args.between.now) (inside c.args.shown.now) END.now _ _ _ _ _
     (rw c.new-page.ensures.items at c.in_ok-push_head.ensures) c.in_ok-push_opening.ensures
     c.in_ok-push_links.ensures c.in_ok-push_inside.ensures c.in_ok-extend_from_slice.ensures.items

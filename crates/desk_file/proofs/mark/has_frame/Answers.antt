@@ -1,4 +1,5 @@
-use Rattle.std.proofs.Common.{◌≡◌, IsTrue, inl, inr, length, slice_index, sym, ◌∙◌, subst, arith, rules}
+use Rattle.std.proofs.Common.{◌≡◌, IsTrue, inl, inr, length, slice_index, sym, ◌∙◌, subst, arith}
+use Rattle.std.proofs.Common.{rules}
 use Rattle.std.proofs.lemmas.Bool.{false≢true}
 use Rattle.sqlite_disk.specs.Disk.{Holds}
 use Rattle.sqlite_wal.specs.Format.{IsSigned, be32}
@@ -43,7 +44,8 @@ returns c log is given =
     let pp = c.get_be32-size.ensures in
     let h : c.header_of.result ≡ header log = header_read log front c.header_of.result holds (omega
     arith) c.header_of.ensures in
-    let signs = λ (yes : IsTrue c.is_signed.result). subst IsSigned h (c.is_signed.ensures.0 yes) in (
+    let signs = λ (yes : IsTrue c.is_signed.result).
+    subst IsSigned h (c.is_signed.ensures.0 yes) in (
       λ yes. (
         λ ignored.
             elim ignored [ inl short ↦ absurd (omega arith) | inr isnt ↦ isnt (signs yes) ],

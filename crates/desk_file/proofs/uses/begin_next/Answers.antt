@@ -41,7 +41,8 @@ returns-in_err-begin_use-clause-crash g c mixes has long log db of_log leaves =
     let same = c.uses_of.ensures.same.seen in
     let longer = (rw same at c.end_use.ensures.others).no_shorter in
     let free = c.in_ok-end_use.ensures.free in
-    inr (begun_or_free log db _ _ (λ d. g.D.Disk.may_leave c.end_use.new.db d) (c.in_ok-end_use.ensures.synced db) free
+    inr (begun_or_free log db _ _ (λ d. g.D.Disk.may_leave c.end_use.new.db d)
+    (c.in_ok-end_use.ensures.synced db) free
     (c.begin_use.ensures.crash mixes (omega arith) free log db of_log leaves))
 
 pub returns-clause-crash : goal.returns-clause-crash
@@ -49,7 +50,8 @@ returns-clause-crash g c mixes has long log db of_log leaves =
     let same = c.uses_of.ensures.same.seen in
     let longer = (rw same at c.end_use.ensures.others).no_shorter in
     let free = c.in_ok-end_use.ensures.free in
-    inr (begun_or_free log db _ _ (λ d. g.D.Disk.may_leave c.end_use.new.db d) (c.in_ok-end_use.ensures.synced db) free
+    inr (begun_or_free log db _ _ (λ d. g.D.Disk.may_leave c.end_use.new.db d)
+    (c.in_ok-end_use.ensures.synced db) free
     (c.begin_use.ensures.crash mixes (omega arith) free log db of_log leaves))
 
 pub returns-in_err-uses-clause-grows : goal.returns-in_err-uses-clause-grows
@@ -74,8 +76,8 @@ returns-in_err-begin_use-clause-grows g c mixes clean long counted ch leaves =
     let count = same_count _ _ long torn in
     let is = before.ok honest long in
     let next = c.number_after.ensures.next in
-    let k = c.begin_use.ensures.grows mixes (counted_at _ _ _ long torn refl).0 (same_bytes _ _ long torn (before.bytes honest long))
-    (omega arith) (λ d left. counted_at _ _ d long torn (c.in_ok-end_use.ensures.synced d left))
+    let k = c.begin_use.ensures.grows mixes (counted_at _ _ _ long torn refl).0
+    (same_bytes _ _ long torn (before.bytes honest long)) (omega arith) (λ d left. counted_at _ _ d long torn (c.in_ok-end_use.ensures.synced d left))
     ch leaves in
     (k.0, subst (λ n. n ≤ uses_of ch) count k.1)
 
@@ -87,7 +89,7 @@ returns-clause-grows g c mixes clean long counted ch leaves =
     let count = same_count _ _ long torn in
     let is = before.ok honest long in
     let next = c.number_after.ensures.next in
-    let k = c.begin_use.ensures.grows mixes (counted_at _ _ _ long torn refl).0 (same_bytes _ _ long torn (before.bytes honest long))
-    (omega arith) (λ d left. counted_at _ _ d long torn (c.in_ok-end_use.ensures.synced d left))
+    let k = c.begin_use.ensures.grows mixes (counted_at _ _ _ long torn refl).0
+    (same_bytes _ _ long torn (before.bytes honest long)) (omega arith) (λ d left. counted_at _ _ d long torn (c.in_ok-end_use.ensures.synced d left))
     ch leaves in
     (k.0, subst (λ n. n ≤ uses_of ch) count k.1)

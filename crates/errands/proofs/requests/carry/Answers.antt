@@ -13,5 +13,12 @@ returns-in_default-clause-err g c =
       c.in-Ok.ensures.allowed,
       c.in-Ok.answer,
       c.in-Ok.ensures.ok,
-      ([], answer_text c.args.errand c.in-Ok.answer, record { parts = refl; written = Appends-nil _ }),
+      (
+        [],
+        answer_text c.args.errand c.in-Ok.answer,
+        record {
+          parts = refl;
+          written = Appends-nil _;
+        },
+      ),
     )

@@ -62,7 +62,8 @@ returns-in-Some-host-clause-answers g c =
     c.in-Some-host.field-0 place c.shut.result table
     (visited table place new c.host.new.dear c.host.new.differs) c.shut.new.table old new at.before
     at.after (scene c.args.node.now c.args.peers.now c.args.clients.now) c.host.new.node
-    c.host.new.peers c.host.new.clients c.shut.new.clients at.split at.number at.same refl refl refl refl c.in-Some-host.ensures.hosts c.shut.ensures.shut
+    c.host.new.peers c.host.new.clients c.shut.new.clients at.split at.number at.same refl refl refl
+    refl c.in-Some-host.ensures.hosts c.shut.ensures.shut
 
 pub returns-in-Some-host-clause-kept : goal.returns-in-Some-host-clause-kept
 returns-in-Some-host-clause-kept g c =

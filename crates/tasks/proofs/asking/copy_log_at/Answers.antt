@@ -37,7 +37,8 @@ returns-clause-ends g c =
     c.args.faults.now in
     let form = c.log_form-form.result in
     subst
-    (λ (f : LogForm). EndsCopyLog c.args.place c.args.patience c.args.from f c.tell_asked.result r old new)
+    (λ (f : LogForm).
+    EndsCopyLog c.args.place c.args.patience c.args.from f c.tell_asked.result r old new)
     c.log_form-form.ensures
     (done c.args.place c.args.patience c.tell_asked.result r
     (Keeps old new) (λ one _ t. EndsCopy c.tell_asked.result one form c.args.from t old new)

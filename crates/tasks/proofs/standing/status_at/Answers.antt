@@ -14,7 +14,8 @@ returns-in-Err-key_of_hall g c =
     let o = outside g.D.Dial.dialed g.W.Write.contents dial dial writer writer in
     let told = c.tell-in-Err-key_of_hall in
     subst
-    (λ (d : Desks). EndsStatus d c.args.patience c.args.way.form c.args.way.watches c.args.way.all told.result o)
+    (λ (d : Desks).
+    EndsStatus d c.args.patience c.args.way.form c.args.way.watches c.args.way.all told.result o)
     (sym c.in-File.is)
     (inl (
       c.in-Err-key_of_hall.fault,
@@ -35,7 +36,8 @@ returns-in_default g c =
     let writer = c.args.writer.now in
     let o = outside g.D.Dial.dialed g.W.Write.contents dial dial writer writer in
     subst
-    (λ (d : Desks). EndsStatus d c.args.patience c.args.way.form c.args.way.watches c.args.way.all c.tell-in_default.result o)
+    (λ (d : Desks).
+    EndsStatus d c.args.patience c.args.way.form c.args.way.watches c.args.way.all c.tell-in_default.result o)
     (sym c.in-File.is)
     (inl (fault.Run run.NoMemory, c.tell-in_default.ensures, inl (inr refl), refl, Keeps-refl _))
 
@@ -47,7 +49,8 @@ returns-in-Ok-addresses_of g c =
     asked.new.writer in
     let texts = ap (map (λ (t : Bor (List ℕ)). t.now)) c.deref.ensures.value in
     subst
-    (λ (d : Desks). EndsStatus d c.args.patience c.args.way.form c.args.way.watches c.args.way.all asked.result o)
+    (λ (d : Desks).
+    EndsStatus d c.args.patience c.args.way.form c.args.way.watches c.args.way.all asked.result o)
     (sym c.in-File.is)
     (inr (
       c.in-Ok-hall_of_file.hall,

@@ -23,5 +23,7 @@ returns-clause-keeps g c =
     (step Mirrors c.args.service.now c.keep.new.self (c.keep.ensures.others, c.keep.ensures.went))
     (step (Looks (length c.keep.new.self.mirroring.entries)) c.keep.new.self c.look.new.self
     (c.in_ok-look.ensures.ok
-    ∙ ap (λ (log : List Entry). record c.keep.new.self { outbox = looked c.keep.new.self.outbox log })
+    ∙ ap (λ (log : List Entry). record c.keep.new.self {
+      outbox = looked c.keep.new.self.outbox log;
+    })
     (sym (take-length c.keep.new.self.mirroring.entries))))
