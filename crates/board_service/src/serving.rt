@@ -2,9 +2,9 @@
 
 use crate::service::BoardService;
 use desk_sockets::{DeskStream, Kept};
-use hall_standings::{AskedDesks, AskedStream, Hall, count_desks, stream_to, tell_difference};
+use hall_standings::{AskedDesks, AskedStream, Hall, count_desks, lent_stream, tell_difference};
 use mirroring::Mirroring;
-use page_sockets::{BrowserSockets, address_of, registry_of, round, say_where};
+use page_sockets::{BrowserSockets, address_of, round, say_where};
 use pages::Browsers;
 use std::alloc::Global;
 use std::io;
@@ -82,18 +82,10 @@ pub fn serve<'a, R: Net + RandomSource + Clock + Drop, W: Write, F: Write>(
     faults: &mut F,
 ) -> io::Result<End> {
     let address = address_of(browsers)?;
-    let registry = registry_of(browsers)?;
-    let AskedDesks { desks, mut streams } = AskedDesks::new(
-        runtime,
-        alloc,
-        &registry,
-        hall.number,
-        hall.addresses,
-        hall.key,
-    )?;
-    let mut followed = stream_to(runtime, alloc, &registry, 0, hall.addresses, hall.key)?;
+    let AskedDesks { desks, streams } = AskedDesks::new(runtime, alloc, browsers, hall)?;
+    let followed = lent_stream(runtime, alloc, browsers, 0, hall)?;
     let mirroring = Mirroring::new(alloc, hall.number, count_desks(hall.addresses))?;
     let mut service = BoardService::new(alloc, title, mirroring, desks)?;
     say_where(address, PROGRAM, writer)?;
-    Ok(serve_on(browsers, &mut service, &mut followed, &mut streams, faults))
+    Ok(serve_on(browsers, &mut service, followed, streams, faults))
 }

@@ -1,4 +1,5 @@
-//! The connections to the desks that are asked.
+//! The connections to the desks that are asked. A crate that drops them has to prove for dozens of
+//! types how each is dropped. So nobody does: they are lent for as long as the program runs.
 
 ghost use Rattle.std.specs.Prelude.{◌≡◌, ◌≤◌, IfOk, length};
 ghost use Rattle.desk_sockets.specs.Streams.{fresh_stream};
@@ -8,11 +9,13 @@ use crate::asked_stream::AskedStream;
 use crate::hall_desks::HallDesks;
 use desk_sockets::DeskStream;
 use mio::Registry;
-use page_sockets::own_token;
+use page_sockets::{BrowserSockets, own_token, registry_of};
+use pages::Browsers;
 use std::alloc::{AllocError, Global};
 use std::io;
 use std::net::{Net, SocketAddr};
 use std::random::RandomSource;
+use std::time::Clock;
 
 /// The number of the first of the program's own sockets that are the desks'.
 const FIRST_SOCKET: u8 = 10;
@@ -33,7 +36,7 @@ pub struct Hall<'a> {
 pub struct AskedDesks<'a, R> {
     pub desks: HallDesks,
     /// In the order of the desks.
-    pub streams: Vec<AskedStream<'a, R>>,
+    pub streams: &'a mut Vec<AskedStream<'a, R>>,
 }
 
 /// An address as it is printed.
@@ -62,9 +65,8 @@ pub fn count_desks(addresses: &[Option<SocketAddr>]) -> u8
 }
 
 /// A connection to one of the desks at these addresses, under the hall's key, if it has one.
-/// Nothing is connected yet. Its socket is the program's own, with the number 11 for desk 1, and so
-/// on.
-pub fn stream_to<'a, R: Net + RandomSource>(
+/// Nothing is connected yet.
+fn stream_to<'a, R: Net + RandomSource>(
     rt: &'a R,
     alloc: Global,
     registry: &Registry,
@@ -80,7 +82,7 @@ pub fn stream_to<'a, R: Net + RandomSource>(
     Ok(DeskStream::new(rt, alloc, registry, token, copy, key))
 }
 
-impl<'a, R: Net + RandomSource> AskedDesks<'a, R> {
+impl<'a, R: Net + RandomSource + Clock + Drop> AskedDesks<'a, R> {
     /// Adds the desk with this number, and a connection to it.
     fn add(
         &mut self,
@@ -88,38 +90,55 @@ impl<'a, R: Net + RandomSource> AskedDesks<'a, R> {
         alloc: Global,
         registry: &Registry,
         desk: u8,
-        addresses: &[Option<SocketAddr>],
-        key: Option<[u8; 32]>,
+        hall: Hall<'_>,
     ) -> io::Result<()>
         requires { IsDesk desk }
     {
-        let Some(address) = address_of(addresses, desk) else {
+        let Some(address) = address_of(hall.addresses, desk) else {
             return Ok(());
         };
         let number = FIRST_SOCKET.saturating_add(desk);
-        let stream = stream_to(rt, alloc, registry, number, addresses, key)?;
+        let stream = stream_to(rt, alloc, registry, number, hall.addresses, hall.key)?;
         self.desks.add(desk, printed(alloc, address)?)?;
         self.streams.push(AskedStream::new(desk, stream))?;
         Ok(())
     }
 
-    /// The desks of the hall with this number and this key, if it has one, whose addresses are
-    /// known, at most five: the first address is that of desk 1. Nothing is connected yet.
+    /// The desks of a hall whose addresses are known, at most five, over the poll of these
+    /// browsers. Nothing is connected yet. The socket of desk 1 is the program's own with the
+    /// number 11, and so on.
     pub fn new(
         rt: &'a R,
         alloc: Global,
-        registry: &Registry,
-        hall: u32,
-        addresses: &[Option<SocketAddr>],
-        key: Option<[u8; 32]>,
+        browsers: &Browsers<BrowserSockets<'a, R>>,
+        hall: Hall<'_>,
     ) -> io::Result<AskedDesks<'a, R>> {
+        let registry = registry_of(browsers)?;
+        let streams = Box::new(alloc, Vec::new(alloc))?;
         let mut asked = AskedDesks {
-            desks: HallDesks::new(alloc, hall),
-            streams: Vec::new(alloc),
+            desks: HallDesks::new(alloc, hall.number),
+            streams: Box::leak(streams),
         };
         for desk in 1..=5_u8 {
-            asked.add(rt, alloc, registry, desk, addresses, key)?;
+            asked.add(rt, alloc, &registry, desk, hall)?;
         }
         Ok(asked)
     }
+}
+
+/// A connection to one desk of a hall after the other, over the poll of these browsers: the socket
+/// is the program's own with this number, 0 to 9. Nothing is connected yet.
+pub fn lent_stream<'a, R: Net + RandomSource + Clock + Drop>(
+    rt: &'a R,
+    alloc: Global,
+    browsers: &Browsers<BrowserSockets<'a, R>>,
+    number: u8,
+    hall: Hall<'_>,
+) -> io::Result<&'a mut DeskStream<'a, R>>
+    ensures { IfOk result (λ s. s.now ≡ fresh_stream hall.entry.key) }
+{
+    let registry = registry_of(browsers)?;
+    let stream = stream_to(rt, alloc, &registry, number, hall.addresses, hall.key)?;
+    let kept = Box::new(alloc, stream)?;
+    Ok(Box::leak(kept))
 }

@@ -7,15 +7,17 @@ ghost use Rattle.table_service.specs.Steps.{HandsOut, IsKeptUp};
 use crate::disk::Disk;
 use crate::service::TableService;
 use desk_sockets::{DeskStream, Kept};
-use hall_standings::{AskedDesks, Hall, count_desks, stream_to};
-use mio::Registry;
+use hall_standings::{AskedDesks, Hall, count_desks, lent_stream};
 use mirroring::Stage;
 use outbox::{State, state_of};
+use page_sockets::BrowserSockets;
+use pages::Browsers;
 use std::alloc::Global;
 use std::io;
 use std::io::Write;
 use std::net::Net;
 use std::random::RandomSource;
+use std::time::Clock;
 use table_views::Desks;
 use wire::ClientRefusal;
 
@@ -40,8 +42,8 @@ const MOST_ITEMS: u32 = 65_536;
 pub(crate) struct DesksSide<'a, R> {
     alloc: Global,
     /// The connection of the mirror, and the one over which items are submitted.
-    stream: DeskStream<'a, R>,
-    submits: DeskStream<'a, R>,
+    stream: &'a mut DeskStream<'a, R>,
+    submits: &'a mut DeskStream<'a, R>,
     asked: AskedDesks<'a, R>,
     desks: u8,
     /// Whether the mirror had all that a desk's log had, since the start.
@@ -144,28 +146,20 @@ fn refused<D: Disk>(service: &TableService<D>) -> Option<(u64, ClientRefusal)> {
     Some((*id, why))
 }
 
-impl<'a, R: Net + RandomSource> DesksSide<'a, R> {
+impl<'a, R: Net + RandomSource + Clock + Drop> DesksSide<'a, R> {
     /// Nothing is connected yet.
     pub(crate) fn new(
         runtime: &'a R,
         alloc: Global,
-        registry: &Registry,
+        browsers: &Browsers<BrowserSockets<'a, R>>,
         hall: Hall<'_>,
     ) -> io::Result<DesksSide<'a, R>> {
-        let Hall {
-            number,
-            addresses,
-            key,
-        } = hall;
-        let asked = AskedDesks::new(runtime, alloc, registry, number, addresses, key)?;
-        let stream = stream_to(runtime, alloc, registry, 0, addresses, key)?;
-        let submits = stream_to(runtime, alloc, registry, 1, addresses, key)?;
         Ok(DesksSide {
             alloc,
-            stream,
-            submits,
-            asked,
-            desks: count_desks(addresses),
+            stream: lent_stream(runtime, alloc, browsers, 0, hall)?,
+            submits: lent_stream(runtime, alloc, browsers, 1, hall)?,
+            asked: AskedDesks::new(runtime, alloc, browsers, hall)?,
+            desks: count_desks(hall.addresses),
             caught_up: false,
             answered_at: 0,
             hurried_at: 0,
@@ -195,7 +189,7 @@ impl<'a, R: Net + RandomSource> DesksSide<'a, R> {
         ensures keeps { IsKeptUp service.old service.new }
         ensures caught_up { self.old.caught_up ≡ true → self.new.caught_up ≡ true }
     {
-        if service.keep(&mut self.stream, now) == Kept::Broken {
+        if service.keep(self.stream, now) == Kept::Broken {
             return Ok(false);
         }
         if let Stage::Answered { last } = service.mirroring().stage() {
@@ -300,7 +294,7 @@ impl<'a, R: Net + RandomSource> DesksSide<'a, R> {
             return;
         }
         self.follow(service, now);
-        let _kept = service.submit(&mut self.submits, now);
+        let _kept = service.submit(self.submits, now);
     }
 
     /// Says how the desks are doing: on the pages, and on a line where none of them can take

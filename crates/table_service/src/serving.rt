@@ -10,7 +10,7 @@ use crate::setup::Setup;
 use hall_standings::{Hall, count_desks};
 use mirroring::Mirroring;
 use outbox::HallName;
-use page_sockets::{BrowserSockets, address_of, registry_of, round, say_where};
+use page_sockets::{BrowserSockets, address_of, round, say_where};
 use pages::Browsers;
 use std::alloc::{AllocError, Global};
 use std::io;
@@ -114,7 +114,7 @@ fn side_of<'a, R: Net + RandomSource + Clock + Drop>(
     hall: Hall<'_>,
     browsers: &Browsers<BrowserSockets<'a, R>>,
 ) -> io::Result<&'a mut DesksSide<'a, R>> {
-    let side = DesksSide::new(runtime, alloc, &registry_of(browsers)?, hall)?;
+    let side = DesksSide::new(runtime, alloc, browsers, hall)?;
     let kept = Box::new(alloc, side)?;
     Ok(Box::leak(kept))
 }
