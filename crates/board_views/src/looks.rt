@@ -257,9 +257,9 @@ let heard = 0;
 function tellHall(text) {
   const ageOf = (line) => (line === \"-\" ? Infinity : Number(line));
   const ages = text.trim().split(\"\\n\").map(ageOf).sort((one, other) => one - other);
-  const any = ages[0], age = any > 1750 ? any : ages[Math.floor(ages.length / 2)];
-  if (age <= 1750) return say(\"\");
-  const what = any > 1750 ? \"The hall has not been reached\" : \"The hall has had no majority\";
+  const any = ages[0], age = any >= 1000 ? any : ages[Math.floor(ages.length / 2)];
+  if (age < 1000) return say(\"\");
+  const what = any >= 1000 ? \"The hall has not been reached\" : \"The hall has had no majority\";
   if (age === Infinity) return say(what + \" since the board was started.\");
   const at = Date.now() - age;
   if (Math.abs(at - heard) > 1500) heard = at;
@@ -316,7 +316,7 @@ async function update() {
     tell(\"The board has not answered\");
   }
 }
-setInterval(update, 700);
+setInterval(update, 500);
 setInterval(unmark, 500);
 if (isHall) setTimeout(turn, seconds * 1000);
 addEventListener(\"resize\", show);

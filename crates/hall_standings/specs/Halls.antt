@@ -59,18 +59,23 @@ waits_of asked now = map (λ a. wait_of a.survey.line now) asked
 abbrev pub desks_wait : HallDesksOf → ℕ → ℕ
 desks_wait h now = least_of 1000 (waits_of h.asked now)
 
-abbrev pub is_away_by : Contact → Bool
-is_away_by contact.NotAsked = false
-is_away_by contact.Answers = false
-is_away_by contact.Silent = true
-is_away_by (contact.Refuses why) = true
+-- a second has gone since a desk said how it stands
+abbrev pub is_late : ℕ → Option Told → Bool
+is_late now None = false
+is_late now (Some told) = nat_le 1000 (now - told.at)
 
--- a desk does not say how it stands: it is not reached, does not answer for two seconds, or refuses
-abbrev pub is_away : Asked → Bool
-is_away asked = is_away_by asked.survey.contact
+abbrev pub is_away_by : Contact → Bool → Bool
+is_away_by contact.NotAsked late = late
+is_away_by contact.Answers late = late
+is_away_by contact.Silent late = true
+is_away_by (contact.Refuses why) late = true
 
-abbrev pub away_one : Asked → List ℕ
-away_one asked = if is_away asked then asked.desk ∷ [] else []
+-- a desk does not say how it stands: it is not reached, it refuses, or it is late
+abbrev pub is_away : ℕ → Asked → Bool
+is_away now asked = is_away_by asked.survey.contact (is_late now asked.survey.told)
+
+abbrev pub away_one : ℕ → Asked → List ℕ
+away_one now asked = if is_away now asked then asked.desk ∷ [] else []
 
 abbrev pub says_other : ClientRefusal → Bool
 says_other refusal.Foreign = true
@@ -92,8 +97,8 @@ first_other [] = None
 first_other (asked ∷ others) = if is_other asked then Some asked.desk else first_other others
 
 -- the numbers of those that do not say how they stand, in their order
-abbrev pub away_in : HallDesksOf → List ℕ
-away_in h = flat_map away_one h.asked
+abbrev pub away_in : ℕ → HallDesksOf → List ℕ
+away_in now h = flat_map (away_one now) h.asked
 
 -- the desk of this number answers now in version 5 of the wire
 abbrev pub one_speaks_five : ℕ → List Asked → Bool

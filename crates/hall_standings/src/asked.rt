@@ -2,7 +2,7 @@
 
 ghost use Rattle.std.specs.Prelude.{◌≡◌, ◌++◌, IfOk, OnOk, flat_map, length};
 ghost use Rattle.hall_standings.specs.Halls.{age_line, age_of, away_one, first_other, is_away};
-ghost use Rattle.hall_standings.specs.Halls.{is_other, least_of};
+ghost use Rattle.hall_standings.specs.Halls.{is_late, is_other, least_of};
 ghost use Rattle.hall_standings.specs.Halls.{one_speaks_five};
 ghost use Rattle.hall_standings.specs.Halls.{says_other, waits_of};
 ghost use Rattle.hall_standings.specs.Told.{AreTold, IsTold, reply_of, standing_of};
@@ -15,6 +15,9 @@ use wire::ClientRefusal;
 
 /// Milliseconds until there is something to be done, where no desk is asked.
 const LONGEST_WAIT: u64 = 1000;
+
+/// The milliseconds after which a desk is away that has not said how it stands.
+const PATIENCE: u64 = 1000;
 
 /// A desk that is asked.
 #[derive(Drop)]
@@ -62,34 +65,43 @@ fn told_of(asked: &Asked) -> Polled<'_>
     }
 }
 
-/// Whether a desk does not say how it stands: it is not reached, does not answer for two seconds,
-/// or refuses.
-fn is_away(asked: &Asked) -> bool
-    ensures { result ≡ is_away asked.now }
+/// Whether it is a second ago, or longer, that a desk said how it stands.
+fn is_late(told: Option<Told>, now: u64) -> bool
+    ensures { result ≡ is_late now told }
+{
+    match told {
+        Some(told) => now.saturating_sub(told.at) >= PATIENCE,
+        None => false,
+    }
+}
+
+/// Whether a desk does not say how it stands: it is not reached, it refuses, or it is late.
+fn is_away(asked: &Asked, now: u64) -> bool
+    ensures { result ≡ is_away now asked.now }
 {
     match asked.survey.contact() {
         Contact::Silent | Contact::Refuses(_) => true,
-        Contact::NotAsked | Contact::Answers => false,
+        Contact::NotAsked | Contact::Answers => is_late(asked.survey.told(), now),
     }
 }
 
 /// Adds the number of a desk that does not say how it stands.
-fn push_away(away: &mut Vec<u8>, asked: &Asked) -> Result<(), AllocError>
-    ensures { OnOk result (away.new.items ≡ away.old.items ++ away_one asked.now) }
+fn push_away(away: &mut Vec<u8>, asked: &Asked, now: u64) -> Result<(), AllocError>
+    ensures { OnOk result (away.new.items ≡ away.old.items ++ away_one now asked.now) }
 {
-    if is_away(asked) {
+    if is_away(asked, now) {
         away.push(asked.desk)?;
     }
     Ok(())
 }
 
 /// The numbers of the desks that do not say how they stand, in their order.
-pub(crate) fn away_of(alloc: Global, asked: &[Asked]) -> Result<Vec<u8>, AllocError>
-    ensures { IfOk result (λ away. away.items ≡ flat_map away_one asked.now) }
+pub(crate) fn away_of(alloc: Global, asked: &[Asked], now: u64) -> Result<Vec<u8>, AllocError>
+    ensures { IfOk result (λ away. away.items ≡ flat_map (away_one now) asked.now) }
 {
     let mut away = Vec::new(alloc);
     for one in asked {
-        push_away(&mut away, one)?;
+        push_away(&mut away, one, now)?;
     }
     Ok(away)
 }

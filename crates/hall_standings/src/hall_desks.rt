@@ -20,7 +20,7 @@ use wire::Difference;
 /// The most desks that a hall has.
 const MOST_DESKS: usize = 5;
 
-/// The desks of a hall, at most five, each asked how it stands once a second.
+/// The desks of a hall, at most five, each asked how it stands four times a second.
 ///
 /// A contract sees the number of the hall, and of each desk its number, its address and its survey.
 #[derive(Drop)]
@@ -107,11 +107,12 @@ impl HallDesks {
     }
 
     /// The numbers of the desks that do not say how they stand, in the order in which they were
-    /// added: those that are not reached, do not answer for two seconds, or refuse.
-    pub fn away(&self, alloc: Global) -> Result<Vec<u8>, AllocError>
-        ensures { IfOk result (λ away. away.items ≡ away_in self.now) }
+    /// added, at so many milliseconds of the clock of [`HallDesks::keep`]: those that are not
+    /// reached, that refuse, or that said so last a second ago or longer.
+    pub fn away(&self, alloc: Global, now: u64) -> Result<Vec<u8>, AllocError>
+        ensures { IfOk result (λ away. away.items ≡ away_in now self.now) }
     {
-        away_of(alloc, &self.asked)
+        away_of(alloc, &self.asked, now)
     }
 
     /// How many milliseconds ago, at so many milliseconds of the clock of [`HallDesks::keep`], each

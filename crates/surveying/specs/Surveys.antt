@@ -42,9 +42,9 @@ survey hall desk line told contact earlier = record {
   earlier = earlier;
 }
 
--- the desk is asked once a second, and was not asked yet
+-- the desk is asked four times a second, and was not asked yet
 abbrev pub new_survey : ℕ → ℕ → SurveyOf
-new_survey hall desk = survey hall desk (new_line 1000) None contact.NotAsked false
+new_survey hall desk = survey hall desk (new_line 250) None contact.NotAsked false
 
 -- what the desk said last
 abbrev pub held : SurveyOf → Option Told

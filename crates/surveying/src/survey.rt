@@ -13,7 +13,7 @@ use std::marker::Model;
 use wire::{ClientRefusal, Frame, Standing, What};
 
 /// How often the desk is asked, in milliseconds.
-const PACE: u64 = 1000;
+const PACE: u64 = 250;
 
 /// Whether a desk answers.
 #[derive(Clone, Copy, PartialEq, Eq, Debug)]
@@ -37,9 +37,10 @@ pub struct Told {
     pub at: u64,
 }
 
-/// Asks one desk of a hall how it stands, once a second, over a connection that is kept. Where a
-/// connection isn't open or a question isn't answered in two seconds, it is closed and opened
-/// again. Its caller does what the survey wants over one connection (`desk_talks::Dialogue`).
+/// Asks one desk of a hall how it stands, four times a second, over a connection that is kept.
+/// Where a connection isn't open or a question isn't answered in two seconds, it is closed and
+/// opened again. Its caller does what the survey wants over one connection
+/// (`desk_talks::Dialogue`).
 ///
 /// A contract sees the number of the hall and of the desk, the connection, what the desk said last,
 /// whether it answers, and whether it is asked as one of an earlier program.

@@ -308,7 +308,7 @@ impl<'a, R: Net + RandomSource + Clock + Drop> DesksSide<'a, R> {
         ensures { IsKeptUp service.old service.new }
     {
         let lengths = self.asked.desks.lengths(self.alloc)?;
-        let away = self.asked.desks.away(self.alloc)?;
+        let away = self.asked.desks.away(self.alloc, now)?;
         let undecided = match self.still_since(service) {
             Some(since) => Some(now.saturating_sub(since)),
             None => None,

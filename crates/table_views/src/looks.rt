@@ -28,9 +28,10 @@ h2 { font-size: 1.05rem; margin: .8rem 0 .3rem; }
 .rules { margin: .1rem 0 .6rem; }
 form label { display: inline-block; }
 label output { margin-left: .5rem; }
-input, select, button { font: inherit; padding: .3rem .5rem; color: inherit;
+input, select, textarea, button { font: inherit; padding: .3rem .5rem; color: inherit;
   background: var(--paper); border: 1px solid var(--line); border-radius: .3rem; }
 button { background: var(--soft); cursor: pointer; }
+body.hall textarea, #read { display: block; }
 :focus-visible { outline: 3px solid var(--link); outline-offset: 1px; }
 body.entry main { display: grid; grid-template-columns: 30rem minmax(0, 1fr); gap: 0 2rem;
   grid-template-areas: \"card round\" \"recent round\"; grid-template-rows: auto 1fr; }
@@ -48,7 +49,8 @@ body.entry main { display: grid; grid-template-columns: 30rem minmax(0, 1fr); ga
 .field .stands.changed { background: var(--mark); }
 .field output { font-size: 1.2rem; overflow-wrap: anywhere; }
 .field strong, .told, .wrong, #unsent { color: var(--bad); font-weight: bold; }
-.field strong { grid-column: 2 / 5; }
+.field .said { grid-column: 2 / 5; }
+.field strong { display: block; }
 .field input:disabled { background: var(--soft); border-style: dashed; }
 .keys { font-size: .85rem; margin: .3rem 0; }
 kbd { padding: 0 .25rem; border: 1px solid var(--line); border-radius: .2rem; }
@@ -83,7 +85,7 @@ th, td { padding: .15rem .4rem; border-bottom: 1px solid var(--line); text-align
 #round td:last-child, #round th:last-child { display: none; }
 tr.absent { background: var(--soft); }
 tr.begun td:first-child { border-left: .3rem solid var(--wait); }
-tr.absent td:first-child { border-left: .3rem solid var(--line); }
+tr.absent td:first-child { border-left: .3rem solid var(--line); color: transparent; }
 tr.done td:first-child { border-left: .3rem solid var(--good); }
 td.changed { background: var(--mark); }
 #round tr.hidden { display: none; }
@@ -95,6 +97,9 @@ body.hall ul, body.hall main section > ol { columns: 16rem; margin: .2rem 0; pad
 body.hall li { break-inside: avoid; }
 @media (max-width: 70rem) {
   body.entry main { display: block; }
+}
+@media (max-width: 30rem) {
+  .field output.wrong { grid-column: 1 / 5; }
 }
 @media print {
   nav, #bar, #recent { display: none; }
@@ -365,14 +370,18 @@ function waitingOf(row) {
 }
 const typedIn = (line) =>
   all('.typed span', line).map((it) => it.className === 'kept' ? null : it.textContent);
+// The card of a row as the table has it now; empty where it does not answer.
+async function cardOf(row) {
+  const answer = await fetch(location.pathname + '?number=' + cell(row, 1)).catch(() => null);
+  return pageOf((answer ? await answer.text() : '').split('<section id=\"recent\"', 1)[0]);
+}
 // Says by which entry of the log a card stands so, at once; and where one without attempts is
 // withdrawn, where nothing is typed on it for a moment.
 async function tell(row) {
-  const number = cell(row, 1), path = location.pathname + '?number=' + number;
+  const number = cell(row, 1);
   if (!hasAny(row)) await new Promise((done) => setTimeout(done, 400));
   if (whose !== number || isBlind() || (!hasAny(row) && isTyped())) return;
-  const answer = await fetch(path).catch(() => null), text = answer ? await answer.text() : '';
-  const page = pageOf(text.split('<section id=\"recent\"', 1)[0]);
+  const page = await cardOf(row);
   if (whose !== number || isBlind()) return;
   for (const it of all('.origin', form)) it.remove();
   form.prepend(...all('.origin', page));
@@ -530,19 +539,43 @@ function submit() {
   form.elements.id.value = spare.shift() || other;
   return send(), empty();
 }
-// ---- second reading: kept by what stood, and counted
+// ---- second reading: kept by what stood and by which entry of the log, and counted
 const readAs = (row) => 'read ' + location.pathname + ' ' + cell(row, 1);
-const isRead = (row) => localStorage.getItem(readAs(row)) === row.dataset.was;
+const readOf = (row) => localStorage.getItem(readAs(row)) || '';
+const isRead = (row) => readOf(row).split(' ', 1)[0] === row.dataset.was;
 const hasAny = (row) => row.dataset.was !== '-';
-function tick(row) {
-  localStorage.setItem(readAs(row), row.dataset.was);
-  mark();
+// What stands of a row, and by which entry; nothing where the table does not answer.
+async function standsOf(row) {
+  const card = await cardOf(row), { value } = card.querySelector('[name=was]') || {};
+  const [by] = /[0-9]+/.exec(all('.origin', card).map((it) => it.textContent).join()) || [];
+  return value && by && value + ' ' + by;
+}
+async function tick(row) {
+  const { was } = row.dataset;
+  localStorage.setItem(readAs(row), was), mark();
+  const stands = await standsOf(row);
+  if (stands && readOf(row) === was) localStorage.setItem(readAs(row), stands), mark();
+}
+// Cards that stand by another entry than the one that was read are no longer ticked.
+async function recheck() {
+  const at = 'read ' + location.pathname, { position } = shown, ticked = rows().filter(isRead);
+  if (localStorage.getItem(at) === position) return;
+  for (const row of ticked) {
+    const read = readOf(row), stands = await standsOf(row);
+    if (!stands) return;
+    if (stands !== read && readOf(row) === read) localStorage.removeItem(readAs(row));
+  }
+  localStorage.setItem(at, position), mark();
 }
 // Opens the card that comes next and is not read yet.
-function next() {
-  const row = rows().find((it) => hasAny(it) && !isRead(it));
-  if (row) return open(row);
+async function next() {
+  const unread = () => rows().find((it) => hasAny(it) && !isRead(it));
+  if (unread()) return open(unread());
   empty();
+  say($('who'), 'each is looked up in the log');
+  await recheck();
+  if (whose) return;
+  if (unread()) return open(unread());
   say($('who'), 'all cards of the round are read');
 }
 // A card on which nothing was typed: read by eye, or left as it is.
@@ -603,13 +636,15 @@ async function send() {
 const shown = {}, states = new Map(), asks = {};
 let asked = 0, since = 0, waits = true;
 function mark() {
-  const filter = folded($('filter').value), cards = rows().filter(hasAny);
-  const read = new Set(cards.filter(isRead));
+  const filter = folded($('filter').value), read = new Set(rows().filter(isRead));
   for (const row of rows()) {
+    const is = read.has(row);
+    // one that stands otherwise is to be read again, also once it stands as before
+    if (!is && readOf(row)) localStorage.removeItem(readAs(row));
     row.classList.toggle('hidden', filter !== '' && !folded(nameOf(row)).includes(filter));
-    row.classList.toggle('read', read.has(row));
+    row.classList.toggle('read', is);
   }
-  say($('read'), read.size + ' of ' + cards.length + ' read again');
+  say($('read'), read.size + ' of ' + rows().filter(hasAny).length + ' read again');
   point();
 }
 // Marks the row whose number is typed.
@@ -729,8 +764,11 @@ function proposeNumber() {
   const free = Math.min(9999, 1 + Number(localStorage.getItem('greatest')));
   if (field && Number(field.value) < free) field.value = free;
 }
-// What is to be done for what a page without a card's form shows first.
+// What is to be done for what a page without a card's form shows first. Its title says whose or
+// which it is.
 function lookOver() {
+  const [{ textContent }] = [...all('h1'), document.body];
+  if (!document.title.includes(textContent)) document.title = textContent + ': ' + document.title;
   proposeNumber(), remember();
   all('input[data-unit=time]').forEach(readRule);
 }
@@ -905,7 +943,7 @@ function begin() {
   sure = form.elements.sure ? form.elements.sure.value : '';
   whose = $('number').value;
   if (rules.unit === 'moves') learn();
-  update(), mark();
+  update(), mark(), recheck();
 }
 // The scrambles of the round.
 async function learn() {
@@ -939,7 +977,7 @@ shown.position = shown.latest = positionOf(document);
 if (form) begin();
 else lookOver();
 announce(), look();
-setInterval(look, 1000);
+setInterval(look, 500);
 ";
 
 /// The style of all pages.

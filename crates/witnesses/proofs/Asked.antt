@@ -156,26 +156,26 @@ asked_so = sending question (length (spelling (status_request_in_five 7 1)))
 
 surveys : CallsLead DialogueLeads (new_survey 7 1) survey_calls survey_after
 surveys = (
-  survey_at (line 1000 (line_stage.Opening 0) None 0),
+  survey_at (line 250 (line_stage.Opening 0) None 0),
   (refl, refl),
   (
-    survey_at (line 1000 (line_stage.Opened 0) (Some quiet) 0),
-    (line 1000 (line_stage.Opened 0) (Some quiet) 0, refl, refl),
+    survey_at (line 250 (line_stage.Opened 0) (Some quiet) 0),
+    (line 250 (line_stage.Opened 0) (Some quiet) 0, refl, refl),
     (
-      survey_at (line 1000 (line_stage.Asked 5) (Some question) 1),
+      survey_at (line 250 (line_stage.Asked 5) (Some question) 1),
       (
-        line 1000 (line_stage.Asked 5) (Some question) 1,
+        line 250 (line_stage.Asked 5) (Some question) 1,
         (quiet, refl, refl),
         refl,
       ),
       (
-        survey_at (line 1000 (line_stage.Asked 5) (Some asked_so) 1),
+        survey_at (line 250 (line_stage.Asked 5) (Some asked_so) 1),
         refl,
         (
           survey_after,
           record {
             heard = heard.Answer (what.Standing stands);
-            after = line 1000 (line_stage.Answered (Some 5)) (Some quiet) 1;
+            after = line 250 (line_stage.Answered (Some 5)) (Some quiet) 1;
             hears = (
               quiet,
               inl (hears _ (status_request_in_five 7 1) status_answer [] status_frame refl),

@@ -78,7 +78,7 @@ survey_calls =
 
 abbrev pub survey_after : SurveyOf
 survey_after =
-    survey 7 1 (line 1000 (line_stage.Answered (Some 5)) (Some quiet) 1)
+    survey 7 1 (line 250 (line_stage.Answered (Some 5)) (Some quiet) 1)
     (Some (record { standing = stands; at = 10 })) contact.Answers false
 
 pub record WorksDialogues : Type 0 where
