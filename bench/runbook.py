@@ -183,18 +183,14 @@ class Runbook:
 
     def a_new_hall(self, block):
         """Three machines, each with the box in a folder of its own, and in it what the first one
-        makes for it in a folder inside."""
+        makes for it."""
         self.stop_all()
         self.folders = {desk: self.machine.new_folder() for desk in (3, 2, 1)}
-        made_in = self.folders[1] / "hall"
-        made_in.mkdir()
-        if os.geteuid() == 0:
-            os.chown(made_in, NOBODY, NOBODY)
-        self.told(["cd hall", *block], ".*")
+        self.told(block, ".*")
         (self.folders[1] / "competition.json").write_text(json.dumps(COMPETITION))
         (self.folders[1] / "results.txt").write_text(RESULTS)
         for desk, folder in self.folders.items():
-            for made in (made_in / f"desk-{desk}").iterdir():
+            for made in (self.folders[1] / f"for-desk-{desk}").iterdir():
                 shutil.copy2(made, folder / made.name)
                 if os.geteuid() == 0:
                     os.chown(folder / made.name, NOBODY, NOBODY)
@@ -313,7 +309,7 @@ class Runbook:
         "./desk enter-lines --first-id 1 --wait <<'END'": entered,
         "./desk enter --wait 'CARD 333 1 1 1000,1200,1100,1300,DNF =/=/=/=/T:1150:0'": corrected,
         "333 round 1 ao5 closed position 10": same,
-        "../desk hall-file --keys --hall 7 10.0.0.1:7001 10.0.0.2:7001 10.0.0.3:7001": a_new_hall,
+        "./desk hall-file --keys --hall 7 10.0.0.1:7001 10.0.0.2:7001 10.0.0.3:7001": a_new_hall,
         "./desk serve --config hall.toml --desk 1 --store desk-1.db --new": make_stores,
         "./desk import --wcif competition.json > setup.txt": imported,
         "./desk serve --config hall.toml --desk 1 --store desk-1.db --open-sheets": start_desks,

@@ -12,7 +12,7 @@ use clap::{ArgMatches, Command};
 use replay_arguments::flag_at;
 use std::alloc::{AllocError, Global};
 
-const ABOUT: &str = "Prints a file that describes a hall, as --config takes it.";
+const ABOUT: &str = "Prints a file that describes a hall, for --config.";
 
 const AFTER: &str = "\
 The ADDRs are where the desks of the hall listen, in the order of their numbers, as 127.0.0.1:7001.
@@ -21,8 +21,8 @@ need no --hall, --desk and --to in the folder of that file.
 
 With --keys nothing is printed but the names of what is made in this folder, where nothing of these
 may be there before: the hall's file, a new key of the hall and one for entries, as hall.toml,
-hall.key and entry.key; and a folder with what each machine needs of them, and nothing else: desk-1
-and so on, scoretable and board. Only the owner may read the keys.
+hall.key and entry.key; and a folder with what each machine needs of them, and nothing else:
+for-desk-1 and so on, for-table and for-board. Only the owner may read the keys.
 
 Exit status: 0 the file was printed, or all was made; 2 invalid arguments, or help; 3 bad hall file
 (another number of ADDRs, an ADDR that is no address, or one that is there twice), or there already;

@@ -2,7 +2,7 @@
 
 ghost use Rattle.std.specs.Prelude.{◌≡◌, OnOk};
 ghost use Rattle.std.specs.Io.KnownBytes.{Keeps};
-ghost use Rattle.tasks.specs.Folders.{EndsFolders};
+ghost use Rattle.tasks.specs.Folders.{EndsFolders, mode_of, name_of, names_in, text_of};
 
 use crate::telling::tell_missing;
 use addressing::print_hall_file;
@@ -18,17 +18,64 @@ use std::os::unix::fs::{DirBuilderExt, OpenOptionsExt};
 /// What is printed once all is made.
 const MADE: &[u8] = b"\
 hall.toml, hall.key and entry.key are made, and a folder for each machine:
-desk-1 and so on, scoretable, board; the board's needs --open-sheets at each desk
+for-desk-1 and so on, for-table, for-board; the board needs --open-sheets at each desk
 ";
 
-/// The name of the hall's file.
-const HALL: &str = "hall.toml";
+/// Where files are made: where the program runs, or in a folder for a machine.
+#[derive(Clone, Copy)]
+enum Folder {
+    Here,
+    /// That of the desk with this number.
+    Desk(usize),
+    Table,
+    Board,
+}
 
-/// That of the file with the hall's key.
-const KEY: &str = "hall.key";
+/// A file that is made.
+#[derive(Clone, Copy)]
+enum File {
+    Hall,
+    /// That with the hall's key.
+    Key,
+    /// That with the key for entries alone.
+    EntryKey,
+}
 
-/// That of the file with the key for entries alone.
-const ENTRY_KEY: &str = "entry.key";
+impl File {
+    /// Its name.
+    fn name(self) -> &'static str
+        ensures { result.now ≡ name_of self }
+    {
+        match self {
+            File::Hall => "hall.toml",
+            File::Key => "hall.key",
+            File::EntryKey => "entry.key",
+        }
+    }
+
+    /// Who may read and write it: only its owner reads a key.
+    fn mode(self) -> u32
+        ensures { result ≡ mode_of self }
+    {
+        match self {
+            File::Hall => 0o644,
+            File::Key | File::EntryKey => 0o600,
+        }
+    }
+}
+
+impl Folder {
+    /// The files that are made in it: what its machine needs, and nothing else.
+    fn files(self) -> &'static [File]
+        ensures { result.now ≡ names_in self }
+    {
+        match self {
+            Folder::Here | Folder::Desk(_) => &[File::Hall, File::Key, File::EntryKey],
+            Folder::Table => &[File::Hall, File::EntryKey],
+            Folder::Board => &[File::Hall],
+        }
+    }
+}
 
 /// The files of a hall.
 #[derive(Drop)]
@@ -41,6 +88,21 @@ struct Texts {
     board: Vec<u8>,
     key: Vec<u8>,
     entry_key: Vec<u8>,
+}
+
+impl Texts {
+    /// The text of a file in a folder: the hall's file names the key that stands beside it.
+    fn of(&self, folder: Folder, file: File) -> &[u8]
+        ensures { result.now ≡ text_of self.now folder file }
+    {
+        match (file, folder) {
+            (File::Hall, Folder::Here | Folder::Desk(_)) => &self.desk,
+            (File::Hall, Folder::Table) => &self.table,
+            (File::Hall, Folder::Board) => &self.board,
+            (File::Key, _) => &self.key,
+            (File::EntryKey, _) => &self.entry_key,
+        }
+    }
 }
 
 /// Why not all was made.
@@ -100,61 +162,66 @@ fn texts_of(rt: &HostRuntime, hall: &[u8]) -> Result<Texts, Unmade> {
     let key = key_text(rt)?;
     let entry_key = key_text(rt)?;
     Ok(Texts {
-        desk: naming(alloc, hall, KEY)?,
-        table: naming(alloc, hall, ENTRY_KEY)?,
+        desk: naming(alloc, hall, File::Key.name())?,
+        table: naming(alloc, hall, File::EntryKey.name())?,
         board: Vec::from_slice(alloc, hall)?,
         key,
         entry_key,
     })
 }
 
-/// Makes a file with this text in a folder, in which there is none of its name. Only its owner may
-/// read it, where it is a key's.
-fn put(rt: &HostRuntime, folder: &str, name: &str, text: &[u8]) -> Result<(), Unmade> {
-    let path = format!(in rt.alloc(); "{folder}{name}")?;
-    let mode = if name == HALL { 0o644 } else { 0o600 };
+/// Makes a file with this text in a folder, in which there is none of its name.
+fn put(rt: &HostRuntime, path: &str, file: File, text: &[u8]) -> Result<(), Unmade> {
+    let name = file.name();
+    let path = format!(in rt.alloc(); "{path}{name}")?;
     let mut options = OpenOptions::new();
-    options.write(true).create_new(true).mode(mode);
-    let mut file = match options.open(rt, path.as_str()) {
-        Ok(file) => file,
+    options.write(true).create_new(true).mode(file.mode());
+    let mut made = match options.open(rt, path.as_str()) {
+        Ok(made) => made,
         Err(error) => return Err(why_not(&error, path)),
     };
-    match file.write_all(text) {
+    match made.write_all(text) {
         Ok(()) => Ok(()),
         Err(error) => Err(why_not(&error, path)),
     }
 }
 
 /// Makes a folder that only its owner may enter, and that is not there.
-fn put_folder(rt: &HostRuntime, name: &str) -> Result<String, Unmade> {
-    let path = String::from_str(rt.alloc(), name)?;
-    match DirBuilder::new().mode(0o700).create(rt, name) {
-        Ok(()) => Ok(format!(in rt.alloc(); "{name}/")?),
+fn put_folder(rt: &HostRuntime, path: String) -> Result<String, Unmade> {
+    match DirBuilder::new().mode(0o700).create(rt, path.as_str()) {
+        Ok(()) => Ok(format!(in rt.alloc(); "{path}/")?),
         Err(error) => Err(why_not(&error, path)),
     }
 }
 
-/// Makes what a desk's machine needs, in a folder, or where the program runs.
-fn put_desk(rt: &HostRuntime, folder: &str, texts: &Texts) -> Result<(), Unmade> {
-    put(rt, folder, HALL, &texts.desk)?;
-    put(rt, folder, KEY, &texts.key)?;
-    put(rt, folder, ENTRY_KEY, &texts.entry_key)
+/// Makes a folder, and returns its path with a slash at the end; nothing is made where the program
+/// runs.
+fn path_of(rt: &HostRuntime, folder: Folder) -> Result<String, Unmade> {
+    match folder {
+        Folder::Here => Ok(String::new(rt.alloc())),
+        Folder::Desk(number) => put_folder(rt, format!(in rt.alloc(); "for-desk-{number}")?),
+        Folder::Table => put_folder(rt, String::from_str(rt.alloc(), "for-table")?),
+        Folder::Board => put_folder(rt, String::from_str(rt.alloc(), "for-board")?),
+    }
 }
 
-/// Makes all that a hall of so many desks needs.
-fn put_all(rt: &HostRuntime, texts: &Texts, desks: usize) -> Result<(), Unmade> {
-    put_desk(rt, "", texts)?;
-    for place in 0..desks {
-        let number = place.saturating_add(1);
-        let name = format!(in rt.alloc(); "desk-{number}")?;
-        let folder = put_folder(rt, name.as_str())?;
-        put_desk(rt, folder.as_str(), texts)?;
+/// Makes a folder and its files.
+fn put_files(rt: &HostRuntime, texts: &Texts, folder: Folder) -> Result<(), Unmade> {
+    let path = path_of(rt, folder)?;
+    for file in folder.files() {
+        put(rt, path.as_str(), *file, texts.of(folder, *file))?;
     }
-    let folder = put_folder(rt, "scoretable")?;
-    put(rt, folder.as_str(), HALL, &texts.table)?;
-    put(rt, folder.as_str(), ENTRY_KEY, &texts.entry_key)?;
-    let folder = put_folder(rt, "board")?;
-    put(rt, folder.as_str(), HALL, &texts.board)
+    Ok(())
+}
+
+/// Makes all that a hall with this number of desks needs.
+fn put_all(rt: &HostRuntime, texts: &Texts, desks: usize) -> Result<(), Unmade> {
+    put_files(rt, texts, Folder::Here)?;
+    for place in 0..desks {
+        put_files(rt, texts, Folder::Desk(place.saturating_add(1)))?;
+    }
+    put_files(rt, texts, Folder::Table)?;
+    put_files(rt, texts, Folder::Board)
 }
 
 /// The fault of a hall of which not all was made. What was not is said before.
