@@ -21,10 +21,12 @@ id. A command is entered again while the desk's queue is full. Prints `taken ID`
 sent a tick from time to time.
 
 After a fault, each line for which something was printed is entered. The next line may be entered,
-and no later line was sent. Go on with that next line and its id: no command is entered twice.
+and no later line was sent. Continue with that next line and its id: no command is entered twice.
 
-Empty lines and lines that begin with # are left out. A line that is no command is named on standard
-error, and then nothing is sent. Without --first-id the ids that were taken are said there.
+Empty lines and comments, which begin with #, are left out. A comment like `# OPEN 333 2 ao5 - 60000
+top:8`, as `desk import` writes it, proposes how a later round is held: the score table shows that
+where the round is opened. A line that is no command is named on standard error, and then nothing is
+sent. Without --first-id the ids that were taken are said there.
 
 Exit status: 0 all lines were entered; 2 invalid arguments, or help; 3 bad desk number, bad hall
 file, a key that is refused, input too long, text too long, no more ids, still pending, command lost

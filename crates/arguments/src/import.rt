@@ -18,7 +18,7 @@ const ABOUT: &str = "Prints the commands that set up a competition, from its WCI
 
 const AFTER: &str = "\
 FILE is a competition in the WCA Competition Interchange Format, as the WCA's site gives it. The
-commands are printed one a line, as `desk enter-lines` takes them: `EDITION 4`, a `REG` for each
+commands are printed one a line, for `desk enter-lines`: `EDITION 4`, a `REG` for each
 accepted person, an `OPEN` for the first round of each event, and an `ENT` for each event of each
 registration. With `--edition 3` the first one is `EDITION 3`, for desks of an earlier program.
 After them stands in comments how FILE has later rounds, as `# OPEN 333 2 ao5 - 60000 top:8`.

@@ -29,7 +29,7 @@ const PATIENCE: u64 = 10;
 const TITLE: &str = "Results";
 
 /// What is said where the hall is broken.
-const BROKEN: &str = "two desks of the hall told different entries: stop and look at their logs";
+const BROKEN: &str = "two desks of the hall have different commands: stop and look at their logs";
 
 /// What help says of `--explain`.
 const EXPLAIN: &str = "Where it cannot listen a second line says why, and what to do";
@@ -49,8 +49,8 @@ Where they have a key, it is in the file of --key, or in the one that FILE names
 gets a line where a desk has another key, has no key, or has a key and the board has none.
 
 Exit status: 2 invalid arguments, or help or the version; 3 FILE describes no hall, or the key's
-file gives no key; 4 an invalid address, cannot listen, cannot go on, or two desks told different
-entries; 5 no memory. Standard error gets a line that says why.";
+file gives no key; 4 an invalid address, cannot listen, cannot continue, or two desks have different
+commands; 5 no memory. Standard error gets a line that says why.";
 
 /// The most browsers whose connections are open at once. With those that are ending, and with the
 /// desk's, a program has no more than 1,024 files open, which is the usual limit.
@@ -157,9 +157,9 @@ fn run_order<W: Write, F: Write>(
         key: hall.key,
     };
     match serve(rt, rt.alloc(), asked, title, browsers, writer, faults) {
-        Ok(End::Failed) => tell(faults, PROGRAM, "cannot go on", 4),
+        Ok(End::Failed) => tell(faults, PROGRAM, "cannot continue", 4),
         Ok(End::Broken) => tell(faults, PROGRAM, BROKEN, 4),
-        Err(error) => tell_system(faults, PROGRAM, &error, "cannot go on"),
+        Err(error) => tell_system(faults, PROGRAM, &error, "cannot continue"),
     }
 }
 

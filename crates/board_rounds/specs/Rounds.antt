@@ -26,10 +26,20 @@ attempt_heading k = heading (decimal (k + 1))
 abbrev pub attempt_headings : ℕ → List ℕ
 attempt_headings count = flat_map attempt_heading (range_with_len 0 count)
 
+-- title, settings, and how far it is, in one line
+unfoldable pub said : RoundId → Settings → Bool → List ℕ
+said id settings closed =
+    round_words id settings.advance ++ codes ": " ++ settings_words id.event settings ++ codes ", "
+    ++ state_words closed settings.advance
+
+-- the name of the first column; above it this line stands on each page of paper
+unfoldable pub place_heading : List ℕ → List ℕ
+place_heading text = codes "<th scope=\"col\" data-title=\"" ++ text ++ codes "\">place</th>"
+
 -- the names of the columns, of which one is for each attempt
-abbrev pub headings : ℕ → List ℕ
-headings count =
-    heading (codes "place") ++ heading (codes "number") ++ heading (codes "name")
+abbrev pub headings : List ℕ → ℕ → List ℕ
+headings text count =
+    place_heading text ++ heading (codes "number") ++ heading (codes "name")
     ++ heading (codes "average") ++ heading (codes "best")
     ++ attempt_headings count ++ heading (codes "advances")
 
@@ -44,9 +54,9 @@ conditions settings state =
     codes "<p class=\"told\">" ++ settings ++ codes ", <strong>" ++ state
     ++ codes "</strong></p></caption>\n"
 
-unfoldable pub table_start : ℕ → List ℕ
-table_start count =
-    codes "<thead><tr>" ++ headings count ++ codes "</tr></thead><tbody>\n"
+unfoldable pub table_start : List ℕ → ℕ → List ℕ
+table_start text count =
+    codes "<thead><tr>" ++ headings text count ++ codes "</tr></thead><tbody>\n"
 
 -- the position that it stands at, as people read it
 unfoldable pub below : ℕ → List ℕ
@@ -60,7 +70,7 @@ abbrev pub above : RoundId → Settings × Table → List ℕ
 above id r =
     title (round_name id) (round_words id r.0.advance)
     ++ conditions (settings_words id.event r.0) (state_words r.1.is_closed r.0.advance)
-    ++ table_start (attempts_of r.0.format)
+    ++ table_start (said id r.0 r.1.is_closed) (attempts_of r.0.format)
 
 -- all its entrants, or its podium alone
 unfoldable pub section_of : Bool → List Command → RoundId → ℕ → Settings × Table → List ℕ

@@ -1,8 +1,10 @@
 //! Rounds in HTML.
 
 ghost use Rattle.std.specs.Prelude.{◌≡◌, ◌++◌, OnOk, decimal};
+ghost use Rattle.formats.specs.Events.{attempts_of};
 ghost use Rattle.board_rounds.specs.Rounds.{above, attempt_headings, below, conditions, heading};
-ghost use Rattle.board_rounds.specs.Rounds.{headings, link, podium, section, table_start, title};
+ghost use Rattle.board_rounds.specs.Rounds.{headings, link, place_heading, podium, said, section};
+ghost use Rattle.board_rounds.specs.Rounds.{table_start, title};
 ghost use Rattle.round_words.specs.Words.{round_name, round_words, settings_words, state_words};
 ghost use Rattle.board_rounds.specs.model.Shown.{IsOpened, link_shown, section_shown};
 
@@ -44,23 +46,68 @@ fn push_attempt_headings(out: &mut Vec<u8>, count: u8) -> Result<(), NoMemory>
     Ok(())
 }
 
-fn push_headings(out: &mut Vec<u8>, count: u8) -> Result<(), NoMemory>
-    ensures { OnOk result (out.new.items ≡ out.old.items ++ headings count) }
+/// Adds title, settings, and how far it is, in one line.
+fn push_said(
+    out: &mut Vec<u8>,
+    id: RoundId,
+    settings: Settings,
+    closed: bool,
+) -> Result<(), NoMemory>
+    ensures { OnOk result (out.new.items ≡ out.old.items ++ said id settings closed) }
 {
-    push_heading(out, b"place")?;
+    push_round_words(out, id, settings.advance)?;
+    out.extend_from_slice(b": ")?;
+    push_settings(out, id.event, settings)?;
+    out.extend_from_slice(b", ")?;
+    push_state_words(out, closed, settings.advance)?;
+    Ok(())
+}
+
+/// Adds the name of the first column, with the line that stands above it on each page of paper.
+fn push_place_heading(
+    out: &mut Vec<u8>,
+    id: RoundId,
+    settings: Settings,
+    closed: bool,
+) -> Result<(), NoMemory>
+    ensures { OnOk result (out.new.items
+        ≡ out.old.items ++ place_heading (said id settings closed)) }
+{
+    out.extend_from_slice(b"<th scope=\"col\" data-title=\"")?;
+    push_said(out, id, settings, closed)?;
+    out.extend_from_slice(b"\">place</th>")?;
+    Ok(())
+}
+
+fn push_headings(
+    out: &mut Vec<u8>,
+    id: RoundId,
+    settings: Settings,
+    closed: bool,
+) -> Result<(), NoMemory>
+    ensures { OnOk result (out.new.items ≡ out.old.items
+        ++ headings (said id settings closed) (attempts_of settings.format)) }
+{
+    push_place_heading(out, id, settings, closed)?;
     push_heading(out, b"number")?;
     push_heading(out, b"name")?;
     push_heading(out, b"average")?;
     push_heading(out, b"best")?;
-    push_attempt_headings(out, count)?;
+    push_attempt_headings(out, attempts_of(settings.format))?;
     push_heading(out, b"advances")
 }
 
-fn push_table_start(out: &mut Vec<u8>, count: u8) -> Result<(), NoMemory>
-    ensures { OnOk result (out.new.items ≡ out.old.items ++ table_start count) }
+fn push_table_start(
+    out: &mut Vec<u8>,
+    id: RoundId,
+    settings: Settings,
+    closed: bool,
+) -> Result<(), NoMemory>
+    ensures { OnOk result (out.new.items ≡ out.old.items
+        ++ table_start (said id settings closed) (attempts_of settings.format)) }
 {
     out.extend_from_slice(b"<thead><tr>")?;
-    push_headings(out, count)?;
+    push_headings(out, id, settings, closed)?;
     out.extend_from_slice(b"</tr></thead><tbody>\n")?;
     Ok(())
 }
@@ -100,9 +147,10 @@ fn push_above(out: &mut Vec<u8>, shown: Shown<'_>) -> Result<(), NoMemory>
         ++ above shown.entry.id (shown.entry.settings, shown.entry.table.now)) }
 {
     let settings = shown.settings;
+    let closed = shown.table.is_closed();
     push_title(out, shown.id, settings.advance)?;
-    push_conditions(out, shown.id.event, settings, shown.table.is_closed())?;
-    push_table_start(out, attempts_of(settings.format))
+    push_conditions(out, shown.id.event, settings, closed)?;
+    push_table_start(out, shown.id, settings, closed)
 }
 
 /// Adds what stands below the lines of a round, or of a competitor.

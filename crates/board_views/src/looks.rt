@@ -121,8 +121,8 @@ tr.changed > th::after { content: \" \\2731\"; }
 /// On a projector the rounds that run, and those that it saw close in the last half hour, are shown
 /// each once a minute, and after them one of the other finals: each for 15 seconds or, where there
 /// are many, shorter. Of a long round as many lines are shown at once as there is room for, in the
-/// largest type with which they are on the screen. On paper each page of a round has the round's
-/// title. Names are searched without regard to accents and case.
+/// largest type with which they are on the screen. Names are searched without regard to
+/// accents and case.
 const SCRIPT: &str = "\
 \"use strict\";
 const rows = (page) => [...page.querySelectorAll(\"section[id] tbody tr\")];
@@ -232,12 +232,6 @@ if (document.querySelector(\".people\")) {
   find.addEventListener(\"input\", filter);
   find.querySelector(\"input\").focus();
 }
-function title(page) {
-  for (const section of page.querySelectorAll(\"section\")) {
-    const said = [...section.querySelectorAll(\"h2, .told\")].map((part) => part.textContent);
-    section.querySelector(\"th\").dataset.title = said.join(\": \");
-  }
-}
 let last = null, since = null, good = new Date();
 const bar = document.createElement(\"p\");
 bar.setAttribute(\"role\", \"status\");
@@ -281,7 +275,6 @@ function replace(page) {
   const focused = document.activeElement && document.activeElement.getAttribute(\"href\");
   const held = scrollY > 0 ? anchor(page) : null;
   mark(main(), page);
-  title(page);
   main().replaceWith(page);
   if (focused) {
     const isIt = (link) => link.getAttribute(\"href\") === focused;
@@ -321,7 +314,6 @@ setInterval(unmark, 500);
 if (isHall) setTimeout(turn, seconds * 1000);
 addEventListener(\"resize\", show);
 addEventListener(\"visibilitychange\", update);
-title(document);
 show();
 ";
 

@@ -1,11 +1,20 @@
--- A link to the page that withdraws a competitor.
-use Rattle.std.specs.Prelude.{ℕ, if◌then◌else◌, List, [], ◌∷◌, codes, decimal}
+-- Links to the history of a result, and to the page that withdraws a competitor.
+use Rattle.std.specs.Prelude.{ℕ, if◌then◌else◌, List, [], ◌∷◌, ◌++◌, codes, decimal}
 use Rattle.std.specs.Prelude.{Option, None, Some}
+use Rattle.formats.specs.Events.{event_name}
 use Rattle.rounds.specs.Tables.{Table}
 use Rattle.markup.specs.Pieces.{joined}
 use Rattle.table_views.specs.Leaving.{may_leave}
+use Rattle.texts.specs.declared.command.RoundId.{RoundId}
 use Rattle.entry_views.specs.declared.draft.Draft.{Draft}
 use Rattle.entry_views.specs.Fields.{competitor_of}
+
+abbrev pub history_words : RoundId → ℕ → List ℕ
+history_words id number = joined (
+    codes "<p class=\"origin\"><a href=\"/history/" ∷ event_name id.event ∷ codes "-"
+    ∷ decimal id.round ∷ codes "?number=" ∷ decimal number
+    ∷ codes "\">History of this result</a></p>\n" ∷ []
+    )
 
 abbrev pub leaving_words : ℕ → List ℕ
 leaving_words number = joined (
@@ -13,10 +22,14 @@ leaving_words number = joined (
     ∷ codes "\">Withdraw competitor " ∷ decimal number ∷ codes "</a></p>\n" ∷ []
     )
 
-abbrev pub leaving_of : Table → Option ℕ → List ℕ
-leaving_of t None = []
-leaving_of t (Some number) = if may_leave t number then leaving_words number else []
+abbrev pub leaving_if : Table → ℕ → List ℕ
+leaving_if t number = if may_leave t number then leaving_words number else []
 
--- whoever's card it is can withdraw from a round that is open, while no attempt stands
-abbrev pub leaving_line : Table → Draft → List ℕ
-leaving_line t draft = leaving_of t (competitor_of draft)
+abbrev pub leaving_of : RoundId → Table → Option ℕ → List ℕ
+leaving_of id t None = []
+leaving_of id t (Some number) = history_words id number ++ leaving_if t number
+
+-- of the competitor whose card it is: the history of the result; and who can withdraw from a round
+-- that is open, while no attempt stands, has a link for it
+abbrev pub leaving_line : RoundId → Table → Draft → List ℕ
+leaving_line id t draft = leaving_of id t (competitor_of draft)

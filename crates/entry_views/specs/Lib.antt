@@ -1,6 +1,7 @@
 pub mod Bounds
 pub mod Notes
 pub mod Fields
+pub mod History
 pub mod Leaving
 pub mod Card
 pub mod Beside

@@ -13,8 +13,7 @@ place_words false = codes "from no card of this table"
 -- which entry it is, and where it was entered
 abbrev pub entry_words : ℕ → Bool → List ℕ
 entry_words position here = joined (
-    codes "<p class=\"origin\">Entry " ∷ decimal position ∷ codes " of the log, "
-    ∷ place_words here ∷ []
+    codes "<p class=\"origin\">Result " ∷ decimal position ∷ codes ", " ∷ place_words here ∷ []
     )
 
 -- the remark of an entry, if it has one

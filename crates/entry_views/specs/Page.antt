@@ -21,14 +21,14 @@ use Rattle.entry_views.specs.Leaving.{leaving_line}
 use Rattle.entry_views.specs.Origin.{origin_line}
 
 -- the form of the card carries the token, the first id and the others as spare ones, and what the
--- page shows that stands; it says where that comes from, and links to where somebody without an
--- attempt is withdrawn
+-- page shows that stands; it says where that comes from, and links to the history of the result and
+-- to where somebody without an attempt is withdrawn
 unfoldable pub card_form : Around → RoundId → Settings × Table → Draft → Past → List ℕ
 card_form around id round draft past =
     form_start around.token.now (get_or around.ids.now 0 0)
     (flat_map spare (drop 1 around.ids.now)) id round.0 (best_in round.1)
     (standing_of round.1 draft)
-    ++ origin_line past.origin ++ leaving_line round.1 draft
+    ++ origin_line past.origin ++ leaving_line id round.1 draft
     ++ card_fields (accepted_in around.mirror.now) id round.0.format (standing_of round.1 draft)
     past.filled.now draft ++ form_end
 

@@ -1,7 +1,8 @@
-//! A link to the page that withdraws a competitor.
+//! Links to the history of a result, and to the page that withdraws a competitor.
 
 ghost use Rattle.std.specs.Prelude.{◌≡◌, ◌++◌, OnOk};
-ghost use Rattle.entry_views.specs.Leaving.{leaving_line, leaving_of, leaving_words};
+ghost use Rattle.entry_views.specs.Leaving.{history_words, leaving_if, leaving_line};
+ghost use Rattle.entry_views.specs.Leaving.{leaving_words};
 
 use crate::draft::Draft;
 use crate::fields::competitor_of;
@@ -9,6 +10,24 @@ use acceptor::NoMemory;
 use markup::{Piece, push_pieces};
 use rounds::RoundTable;
 use table_views::may_leave;
+use texts::RoundId;
+
+fn push_history(out: &mut Vec<u8>, id: RoundId, number: u16) -> Result<(), NoMemory>
+    ensures { OnOk result (out.new.items ≡ out.old.items ++ history_words id number) }
+{
+    push_pieces(
+        out,
+        &[
+            Piece::Html(b"<p class=\"origin\"><a href=\"/history/"),
+            Piece::Html(id.event.name().as_bytes()),
+            Piece::Html(b"-"),
+            Piece::Number(id.round as u64),
+            Piece::Html(b"?number="),
+            Piece::Number(number as u64),
+            Piece::Html(b"\">History of this result</a></p>\n"),
+        ],
+    )
+}
 
 fn push_words(out: &mut Vec<u8>, number: u16) -> Result<(), NoMemory>
     ensures { OnOk result (out.new.items ≡ out.old.items ++ leaving_words number) }
@@ -26,26 +45,43 @@ fn push_words(out: &mut Vec<u8>, number: u16) -> Result<(), NoMemory>
 }
 
 /// Adds the link for a competitor who can withdraw.
-fn push_leaving_of(
-    out: &mut Vec<u8>,
-    table: &RoundTable,
-    number: Option<u16>,
-) -> Result<(), NoMemory>
-    ensures { OnOk result (out.new.items ≡ out.old.items ++ leaving_of table.now number) }
+fn push_leaving_if(out: &mut Vec<u8>, table: &RoundTable, number: u16) -> Result<(), NoMemory>
+    ensures { OnOk result (out.new.items ≡ out.old.items ++ leaving_if table.now number) }
 {
-    match number {
-        Some(number) if may_leave(table, number) => push_words(out, number),
-        _ => Ok(()),
+    if may_leave(table, number) {
+        push_words(out, number)
+    } else {
+        Ok(())
     }
 }
 
-/// Adds the link, where the card is of a competitor who can withdraw from the round.
+fn push_links(
+    out: &mut Vec<u8>,
+    id: RoundId,
+    table: &RoundTable,
+    number: u16,
+) -> Result<(), NoMemory>
+    ensures { OnOk result (out.new.items
+        ≡ out.old.items ++ history_words id number ++ leaving_if table.now number) }
+{
+    push_history(out, id, number)?;
+    push_leaving_if(out, table, number)?;
+    Ok(())
+}
+
+/// Adds the links of a card that is of a competitor: to the history of the result, and for who can
+/// withdraw from the round.
 pub(crate) fn push_leaving(
     out: &mut Vec<u8>,
+    id: RoundId,
     table: &RoundTable,
     draft: Draft<'_>,
 ) -> Result<(), NoMemory>
-    ensures { OnOk result (out.new.items ≡ out.old.items ++ leaving_line table.now draft.entry) }
+    ensures { OnOk result (out.new.items
+        ≡ out.old.items ++ leaving_line id table.now draft.entry) }
 {
-    push_leaving_of(out, table, competitor_of(draft))
+    match competitor_of(draft) {
+        Some(number) => push_links(out, id, table, number),
+        None => Ok(()),
+    }
 }

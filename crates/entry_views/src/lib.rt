@@ -6,6 +6,7 @@ mod bounds;
 mod card;
 mod draft;
 mod fields;
+mod history;
 mod leaving;
 mod notes;
 mod origin;
@@ -15,6 +16,7 @@ mod past;
 
 pub use bounds::{best_in, floor_of, single_of};
 pub use draft::Draft;
+pub use history::history_page;
 pub use notes::{Note, note_word};
 pub use origin::Origin;
 pub use page::card_page;

@@ -37,9 +37,9 @@ fn push_entry(out: &mut Vec<u8>, position: u32, here: bool) -> Result<(), NoMemo
     push_pieces(
         out,
         &[
-            Piece::Html(b"<p class=\"origin\">Entry "),
+            Piece::Html(b"<p class=\"origin\">Result "),
             Piece::Number(position as u64),
-            Piece::Html(b" of the log, "),
+            Piece::Html(b", "),
             Piece::Html(place_words(here)),
         ],
     )

@@ -72,7 +72,7 @@ fn push_form(
         values,
     )?;
     push_origin(out, past.origin)?;
-    push_leaving(out, round.table, draft)?;
+    push_leaving(out, id, round.table, draft)?;
     push_card_fields(
         out,
         around.mirror.meet(),

@@ -53,7 +53,7 @@ sharing t (first ∷ others) = those_placed t (place_of t first) (first ∷ othe
 abbrev pub tied_head : ℕ → List ℕ
 tied_head most = joined (
     codes "<p class=\"told\">" ∷ decimal most
-    ∷ codes " could go on, but these are tied at the border, so none of them goes on:</p>\n<ul>\n"
+    ∷ codes " could advance, but these are tied at the border, so none of them does:</p>\n<ul>\n"
     ∷ []
     )
 
@@ -65,7 +65,7 @@ tied_list accepted id most numbers =
 abbrev pub untied : ℕ → List ℕ
 untied most = joined (
     codes "<p class=\"told\">" ∷ decimal most
-    ∷ codes " could go on: the others have no result.</p>\n" ∷ []
+    ∷ codes " could advance: the others have no result.</p>\n" ∷ []
     )
 
 -- who is tied, or that nobody is
@@ -82,7 +82,7 @@ tie accepted id t advance most through =
 
 abbrev pub these_go_on : ℕ → List ℕ
 these_go_on count = joined (
-    codes "<h2>Who goes on, as it stands: " ∷ decimal count ∷ codes "</h2>\n<ol>\n" ∷ []
+    codes "<h2>Who advances, as it stands: " ∷ decimal count ∷ codes "</h2>\n<ol>\n" ∷ []
     )
 
 -- these go on, of so many who could
@@ -92,7 +92,7 @@ list_through accepted id t advance most numbers =
     ++ codes "</ol>\n" ++ tie accepted id t advance most (length numbers)
 
 abbrev pub through_by : Advance → List Command → RoundId → Table → List ℕ
-through_by Final accepted id t = codes "<p>It is the final: nobody goes on.</p>\n"
+through_by Final accepted id t = codes "<p>It is the final: nobody advances.</p>\n"
 through_by (Top number) accepted id t =
     list_through accepted id t (Top number) (quota (Top number) (started t))
     (advancing t (Top number))
@@ -106,14 +106,14 @@ through accepted id round = through_by round.0.advance accepted id round.1
 
 abbrev pub change_head : List ℕ
 change_head =
-    codes "<h2>Change who goes on</h2>\n<p>The button sets who goes on to what is chosen here, and "
-    ++ codes "changes nothing else.</p>\n"
+    codes "<h2>Change who advances</h2>\n<p>The button sets who advances to what is chosen here, "
+    ++ codes "and changes nothing else.</p>\n"
 
 -- who goes on now is chosen beforehand
 unfoldable pub change : List ℕ → ℕ → RoundId → Advance → List ℕ → List ℕ
 change token form id advance back =
     change_head ++ form_start token form (codes "ADV") back
-    ++ round_value id ++ advance_fields advance ++ button (codes "Change who goes on")
+    ++ round_value id ++ advance_fields advance ++ button (codes "Change who advances")
 
 -- from edition 4 on a closed round can be opened again
 abbrev pub closing_words : Bool → List ℕ

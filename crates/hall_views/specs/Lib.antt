@@ -4,6 +4,7 @@ pub mod Refused
 pub mod Entrants
 pub mod Lines
 pub mod Absent
+pub mod Comments
 pub mod Proposal
 pub mod Opening
 pub mod Changing

@@ -112,13 +112,13 @@ limit_field Time proposed =
 limit_field Moves proposed = []
 limit_field Multi proposed = []
 
--- who can go on, each option with how it goes on
+-- who can advance, each option with the rest of its tag
 abbrev pub advance_options : List ℕ → List ℕ → List ℕ → List ℕ
 advance_options final top percent = joined (
     codes "<option value=\"final" ∷ final
     ∷ codes "nobody: it is the final</option>\n<option value=\"top" ∷ top
-    ∷ codes "so many</option>\n<option value=\"pct" ∷ percent
-    ∷ codes "so many percent</option>\n" ∷ []
+    ∷ codes "a number</option>\n<option value=\"pct" ∷ percent
+    ∷ codes "a percentage</option>\n" ∷ []
     )
 
 -- one of them is chosen beforehand
@@ -132,10 +132,10 @@ amount_of Final = []
 amount_of (Top number) = decimal number
 amount_of (Percent percent) = decimal percent
 
--- who goes on, with this chosen beforehand
+-- who advances, with this chosen beforehand
 unfoldable pub advance_fields : Advance → List ℕ
 advance_fields advance =
-    codes "<label>Who goes on <select name=\"advance\">\n" ++ advance_choices advance
+    codes "<label>Who advances <select name=\"advance\">\n" ++ advance_choices advance
     ++ codes "</select></label>\n"
     ++ text_field (codes "amount") (codes "how many") (amount_of advance)
 
@@ -146,10 +146,11 @@ rule_fields event format cutoff limit =
     ++ flat_map (format_choice event format) formats ++ codes "</select></label>\n"
     ++ cutoff_fields event cutoff ++ limit_field (unit_of event) limit
 
--- what is proposed is chosen beforehand; no cutoff is
+-- what is proposed is chosen beforehand
 unfoldable pub opening_fields : Event → Proposal → List ℕ
 opening_fields event proposal =
-    rule_fields event proposal.format None proposal.limit ++ advance_fields proposal.advance
+    rule_fields event proposal.format proposal.cutoff proposal.limit
+    ++ advance_fields proposal.advance
 
 abbrev pub come_word : ℕ → List ℕ
 come_word count = if count == 1 then codes " comes" else codes " come"
@@ -157,8 +158,8 @@ come_word count = if count == 1 then codes " comes" else codes " come"
 abbrev pub come_head : ℕ → List ℕ
 come_head come = joined (
     codes "<h2>Open the round</h2>\n<p>" ∷ decimal come ∷ come_word come
-    ∷ codes " into this round. What is chosen here is proposed, after the round before: change "
-    ∷ codes "what you like. The button opens the round as the fields say.</p>\n" ∷ []
+    ∷ codes " into this round. What is chosen here is proposed: change what you like. The "
+    ∷ codes "button opens the round as the fields say.</p>\n" ∷ []
     )
 
 -- that it is proposed, how many come, and what the button does

@@ -95,7 +95,7 @@ withdrawing_head =
     codes "<h2>Withdraw</h2>\n<p>From a round that is open, before the first attempt in it. From a "
     ++ codes "first round it is taken back by entering the competitor once more, under "
     ++ codes "<a href=\"/people\">competitors</a>. From a later round it can't be taken back: the "
-    ++ codes "best of the round before who has a result, did not go on and has not taken a place "
+    ++ codes "best of the round before who has a result, did not advance and has not taken a place "
     ++ codes "yet takes the place.</p>\n"
 
 -- a form with these buttons, what becomes of it, and the rule of who takes the place

@@ -143,7 +143,7 @@ abbrev pub unopened_forms : Around → RoundId → List ℕ
 unopened_forms around id =
     if is_next (accepted_in around.mirror.now) id
     then opening around.token.now (get_or around.ids.now 0 0) id
-    (proposed (accepted_in around.mirror.now) id)
+    (proposed (accepted_in around.mirror.now) around.proposals.now id)
     else codes "<p>The round before it is not closed, or is the final.</p>\n"
 
 abbrev pub forms_if : Around → RoundId → Option (Settings × Table) → List ℕ

@@ -10,7 +10,8 @@ use Rattle.texts.specs.declared.command.RoundId.{RoundId}
 abbrev pub waiting_head : List ℕ
 waiting_head =
     codes "<section><meta http-equiv=\"refresh\" content=\"1\"><h1>Waiting</h1>\n"
-    ++ codes "<p>What was sent is taken, and not decided yet. This page goes on by itself.</p>\n"
+    ++ codes "<p>What was sent is taken, and not decided yet. "
+    ++ codes "The next page follows by itself.</p>\n"
     ++ codes "<p><a href=\"/card/"
 
 -- with a link to the next card of the round

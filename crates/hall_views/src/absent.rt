@@ -47,7 +47,7 @@ the page of that competitor. The button enters nothing yet: it shows each comman
 name.</p>\n"
     } else {
         b"<p>Who never came is withdrawn, and has no result in this round then. It can't be taken \
-back: the best of the round before who has a result, did not go on and has not taken a place yet \
+back: the best of the round before who has a result, did not advance and has not taken a place yet \
 takes the place, and stands here until the first attempt. If one of these still comes, withdraw \
 each of the others on the page of that competitor. The button enters nothing yet: it shows each \
 command, with the name.</p>\n"

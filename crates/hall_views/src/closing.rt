@@ -82,7 +82,7 @@ fn push_tied_list(
             Piece::Html(b"<p class=\"told\">"),
             Piece::Number(most as u64),
             Piece::Html(
-                b" could go on, but these are tied at the border, so none of them goes on:</p>\n\
+                b" could advance, but these are tied at the border, so none of them does:</p>\n\
 <ul>\n",
             ),
         ],
@@ -100,7 +100,7 @@ fn push_untied(out: &mut Vec<u8>, most: u16) -> Result<(), NoMemory>
         &[
             Piece::Html(b"<p class=\"told\">"),
             Piece::Number(most as u64),
-            Piece::Html(b" could go on: the others have no result.</p>\n"),
+            Piece::Html(b" could advance: the others have no result.</p>\n"),
         ],
     )
 }
@@ -175,7 +175,7 @@ fn push_list_through(
     push_pieces(
         out,
         &[
-            Piece::Html(b"<h2>Who goes on, as it stands: "),
+            Piece::Html(b"<h2>Who advances, as it stands: "),
             Piece::Number(numbers.len() as u64),
             Piece::Html(b"</h2>\n<ol>\n"),
         ],
@@ -213,7 +213,7 @@ pub(crate) fn push_through(
 {
     let advance = round.settings.advance;
     match advance {
-        Advance::Final => out.extend_from_slice(b"<p>It is the final: nobody goes on.</p>\n"),
+        Advance::Final => out.extend_from_slice(b"<p>It is the final: nobody advances.</p>\n"),
         Advance::Top(_) | Advance::Percent(_) => {
             push_through_by(out, meet, id, round.table, advance)
         }
@@ -233,13 +233,13 @@ fn push_change(
         ≡ out.old.items ++ change token.now form id advance back.now) }
 {
     out.extend_from_slice(
-        b"<h2>Change who goes on</h2>\n<p>The button sets who goes on to what is chosen here, and \
-changes nothing else.</p>\n",
+        b"<h2>Change who advances</h2>\n<p>The button sets who advances to what is chosen here, \
+and changes nothing else.</p>\n",
     )?;
     push_form(out, token, form, b"ADV", back)?;
     push_round_value(out, id)?;
     push_advance(out, advance)?;
-    push_button(out, b"Change who goes on")
+    push_button(out, b"Change who advances")
 }
 
 /// What becomes of a round that is closed: from edition 4 on it can be opened again.

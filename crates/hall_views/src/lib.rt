@@ -5,6 +5,7 @@ mod absent;
 mod all_rounds;
 mod changing;
 mod closing;
+mod comments;
 mod forms;
 mod importing;
 mod line_forms;

@@ -212,7 +212,7 @@ fn push_limit(out: &mut Vec<u8>, event: Event, proposed: Option<u32>) -> Result<
     }
 }
 
-/// Adds who can go on, each option with how it goes on.
+/// Adds who can advance, each option with the rest of its tag.
 fn push_advance_options(
     out: &mut Vec<u8>,
     last: &'static [u8],
@@ -229,14 +229,14 @@ fn push_advance_options(
             Piece::Html(last),
             Piece::Html(b"nobody: it is the final</option>\n<option value=\"top"),
             Piece::Html(top),
-            Piece::Html(b"so many</option>\n<option value=\"pct"),
+            Piece::Html(b"a number</option>\n<option value=\"pct"),
             Piece::Html(percent),
-            Piece::Html(b"so many percent</option>\n"),
+            Piece::Html(b"a percentage</option>\n"),
         ],
     )
 }
 
-/// Adds who can go on, with this chosen beforehand.
+/// Adds who can advance, with this chosen beforehand.
 fn push_advance_choices(out: &mut Vec<u8>, advance: Advance) -> Result<(), NoMemory>
     ensures { OnOk result (out.new.items ≡ out.old.items ++ advance_choices advance) }
 {
@@ -247,7 +247,7 @@ fn push_advance_choices(out: &mut Vec<u8>, advance: Advance) -> Result<(), NoMem
     }
 }
 
-/// The number of those who go on, or the percentage.
+/// The number of those who advance, or the percentage.
 fn amount_of(alloc: Global, advance: Advance) -> Result<Vec<u8>, NoMemory>
     ensures { IfOk result (λ amount. amount.items ≡ amount_of advance) }
 {
@@ -258,12 +258,12 @@ fn amount_of(alloc: Global, advance: Advance) -> Result<Vec<u8>, NoMemory>
     }
 }
 
-/// Adds the fields of who goes on, with this chosen beforehand.
+/// Adds the fields of who advances, with this chosen beforehand.
 pub(crate) fn push_advance(out: &mut Vec<u8>, advance: Advance) -> Result<(), NoMemory>
     ensures { OnOk result (out.new.items ≡ out.old.items ++ advance_fields advance) }
 {
     let amount = amount_of(*out.allocator(), advance)?;
-    out.extend_from_slice(b"<label>Who goes on <select name=\"advance\">\n")?;
+    out.extend_from_slice(b"<label>Who advances <select name=\"advance\">\n")?;
     push_advance_choices(out, advance)?;
     out.extend_from_slice(b"</select></label>\n")?;
     push_text_field(out, b"amount", b"how many", &amount)
@@ -306,10 +306,9 @@ fn push_come(out: &mut Vec<u8>, come: u16) -> Result<(), NoMemory>
             Piece::Number(come as u64),
             Piece::Html(come_word(come)),
             Piece::Html(
-                b" into this round. What is chosen here is proposed, after the round before: \
-change ",
+                b" into this round. What is chosen here is proposed: change what you like. The ",
             ),
-            Piece::Html(b"what you like. The button opens the round as the fields say.</p>\n"),
+            Piece::Html(b"button opens the round as the fields say.</p>\n"),
         ],
     )
 }
@@ -341,7 +340,13 @@ pub(crate) fn push_opening(
     push_head(out, proposal.come)?;
     push_form(out, token, form, b"OPEN", &back)?;
     push_round_value(out, id)?;
-    push_rule_fields(out, id.event, proposal.format, None, proposal.limit)?;
+    push_rule_fields(
+        out,
+        id.event,
+        proposal.format,
+        proposal.cutoff,
+        proposal.limit,
+    )?;
     push_advance(out, proposal.advance)?;
     push_button(out, b"Open the round")
 }

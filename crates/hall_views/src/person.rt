@@ -190,8 +190,9 @@ fn push_withdrawing(
     out.extend_from_slice(
         b"<h2>Withdraw</h2>\n<p>From a round that is open, before the first attempt in it. From a \
 first round it is taken back by entering the competitor once more, under \
-<a href=\"/people\">competitors</a>. From a later round it can't be taken back: the best of the \
-round before who has a result, did not go on and has not taken a place yet takes the place.</p>\n",
+<a href=\"/people\">competitors</a>. From a later round it can't be taken back: the best of \
+the round before who has a result, did not advance and has not taken a place yet takes the \
+place.</p>\n",
     )?;
     push_person_form(out, token, form, b"WDR", number)?;
     out.extend_from_slice(buttons)?;

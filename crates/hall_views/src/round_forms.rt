@@ -285,9 +285,9 @@ fn push_opened(
 fn push_proposed(out: &mut Vec<u8>, around: &Around<'_>, id: RoundId) -> Result<(), NoMemory>
     ensures { OnOk result (out.new.items ≡ out.old.items ++ opening around.entry.now.token.now
         (get_or around.entry.now.ids.now 0 0) id
-        (proposed (accepted_in around.entry.now.mirror.now) id)) }
+        (proposed (accepted_in around.entry.now.mirror.now) around.entry.now.proposals.now id)) }
 {
-    let proposal = proposed(*out.allocator(), around.mirror.meet(), id)?;
+    let proposal = proposed(*out.allocator(), around.mirror.meet(), around.proposals, id)?;
     push_opening(out, around.token, id_at(around.ids, 0), id, proposal)
 }
 

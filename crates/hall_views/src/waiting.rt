@@ -12,7 +12,7 @@ use texts::RoundId;
 
 const START: &[u8] = b"\
 <section><meta http-equiv=\"refresh\" content=\"1\"><h1>Waiting</h1>
-<p>What was sent is taken, and not decided yet. This page goes on by itself.</p>
+<p>What was sent is taken, and not decided yet. The next page follows by itself.</p>
 <p><a href=\"/card/";
 
 /// Adds what is said while the page waits.

@@ -14,9 +14,9 @@ use outbox::JournalFault;
 use page_sockets::browsers_at;
 use pages::Terms;
 use std::alloc::{AllocError, Global};
-use std::io;
-use std::io::Write;
+use std::io::{ErrorKind, Read, Write};
 use std::net::SocketAddr;
+use std::{fs, io};
 use table_service::{
     End, FileFault, Opened, PROGRAM, SystemFile, hall_name, is_table_name, open_journal, serve,
 };
@@ -38,8 +38,14 @@ const NO_NAME: &str = "--name has to be 1 to 60 bytes of text, with single space
 /// The journal where the arguments name none.
 const JOURNAL: &str = "scoretable.journal";
 
+/// The commands with which the competition was set up, where the arguments name no file.
+const SETUP: &str = "setup.txt";
+
+/// The most bytes of that file, 4 MiB.
+const LONGEST_SETUP: u64 = 4_194_304;
+
 /// What is said where the hall is broken.
-const BROKEN: &str = "two desks of the hall told different entries: stop and look at their logs";
+const BROKEN: &str = "two desks of the hall have different commands: stop and look at their logs";
 
 /// What help says of `--explain`.
 const EXPLAIN: &str = "Where it cannot listen a second line says why, and what to do";
@@ -52,6 +58,10 @@ and runs until it is stopped. What was not decided then is submitted after the n
 keeps with each card who entered it and when: the name of --name and the machine's time, as in
 `A 14:05:33 UTC`.
 
+Where a later round is opened, the page proposes what the file of --setup says of it in a comment,
+as `desk import` writes it: `# OPEN 333 2 ao5 - 60000 top:8`. The file is read once, at the start,
+and without that option it is setup.txt, if there is one. Only who opens the round decides.
+
 The desks are those of --hall and --to, or without these all desks of the hall that FILE describes.
 Where they have a key, it is in the file of --key, or in the one that FILE names. Standard error
 gets a line where a desk has another key, has no key, has a key and the score table has none, or is
@@ -61,8 +71,8 @@ Whoever reaches ADDR can enter results, so it has to be an address of this machi
 
 Exit status: 2 invalid arguments, or help or the version; 3 FILE describes no hall, the key's file
 gives no key, or the journal is damaged, of another hall, or of an earlier scoretable; 4 an invalid
-address, the journal cannot be used, cannot listen, cannot go on, or two desks told different
-entries; 5 no memory. Standard error gets a line that says why.";
+address, the journal or the file of --setup cannot be used, cannot listen, cannot continue, or two
+desks have different commands; 5 no memory. Standard error gets a line that says why.";
 
 /// The most browsers whose connections are open at once. With the longest bodies they take half a
 /// GiB.
@@ -84,6 +94,7 @@ struct Order {
     hall: FoundHall,
     title: String,
     name: String,
+    proposals: Vec<u8>,
     listen: SocketAddr,
     journal: Opened<SystemFile>,
 }
@@ -98,6 +109,7 @@ fn command<'a>(alloc: Global) -> Result<Command<'a>, AllocError> {
     let title = "The title of the sheets on paper; without this option Results";
     let name = "The name of this table in the log, 1 to 60 bytes; without this option A";
     let journal = "The file that keeps what was entered; without this option scoretable.journal";
+    let setup = "The file that `desk import` printed; without this option setup.txt if it is there";
     let open = Arg::new(alloc, "open-network")
         .long("open-network")
         .help("Lets ADDR be one that other machines reach")
@@ -111,6 +123,7 @@ fn command<'a>(alloc: Global) -> Result<Command<'a>, AllocError> {
         .arg(option(alloc, "title", "TEXT", title, ValueParser::string()))?
         .arg(option(alloc, "name", "TEXT", name, ValueParser::string()))?
         .arg(option(alloc, "journal", "FILE", journal, ValueParser::string()))?
+        .arg(option(alloc, "setup", "FILE", setup, ValueParser::string()))?
         .arg(open)?
         .arg(explain)
 }
@@ -126,6 +139,8 @@ enum Refusal<'a> {
     Open,
     /// Browsers can't name the address of `--listen`.
     Nameless,
+    /// The file at this path, which has the commands of the competition, can't be read.
+    Setup(&'a str),
     /// The journal at this path can't be used.
     Journal(&'a str, FileFault),
 }
@@ -153,6 +168,31 @@ fn name_of<'a>(rt: &HostRuntime, found: &ArgMatches<'a>) -> Result<String, Refus
     }
 }
 
+/// The bytes of a file, at most one more than a file of commands may have.
+fn read_setup(rt: &HostRuntime, path: &str) -> io::Result<Vec<u8>> {
+    let mut bytes = Vec::new(rt.alloc());
+    let file = fs::open(rt, path)?;
+    file.take(LONGEST_SETUP + 1).read_to_end(&mut bytes)?;
+    Ok(bytes)
+}
+
+/// The commands with which the competition was set up; nothing where the arguments name no file and
+/// there is none.
+fn proposals_of<'a>(rt: &HostRuntime, found: &ArgMatches<'a>) -> Result<Vec<u8>, Refusal<'a>> {
+    let named = found.get_str("setup");
+    let path = named.unwrap_or(SETUP);
+    match read_setup(rt, path) {
+        Ok(bytes) if bytes.len() as u64 <= LONGEST_SETUP => Ok(bytes),
+        Err(error) if error.kind() == ErrorKind::OutOfMemory => {
+            Err(Refusal::Wrong(Mistake::NoMemory))
+        }
+        Err(error) if error.kind() == ErrorKind::NotFound && named.is_none() => {
+            Ok(Vec::new(rt.alloc()))
+        }
+        _ => Err(Refusal::Setup(path)),
+    }
+}
+
 /// What the arguments ask for. The journal is opened last.
 fn order_of<'a>(rt: &HostRuntime, found: &ArgMatches<'a>) -> Result<Order, Refusal<'a>> {
     let name = name_of(rt, found)?;
@@ -167,6 +207,7 @@ fn order_of<'a>(rt: &HostRuntime, found: &ArgMatches<'a>) -> Result<Order, Refus
     let Ok(title) = String::from_str(rt.alloc(), found.get_str("title").unwrap_or(TITLE)) else {
         return Err(Refusal::Wrong(Mistake::NoMemory));
     };
+    let proposals = proposals_of(rt, found)?;
     let path = found.get_str("journal").unwrap_or(JOURNAL);
     let Ok(named) = hall_name(rt.alloc(), hall.hall, &hall.desks) else {
         return Err(Refusal::Wrong(Mistake::NoMemory));
@@ -176,6 +217,7 @@ fn order_of<'a>(rt: &HostRuntime, found: &ArgMatches<'a>) -> Result<Order, Refus
             hall,
             title,
             name,
+            proposals,
             listen,
             journal,
         }),
@@ -195,6 +237,10 @@ fn tell_refusal<F: Write>(faults: &mut F, refusal: Refusal<'_>) -> u8 {
         Refusal::Nameless => {
             let why = "--listen has to name the one address that browsers are to use";
             tell(faults, PROGRAM, why, 4)
+        }
+        Refusal::Setup(path) => {
+            let _ = writeln!(faults, "{PROGRAM}: {path}: cannot be read");
+            4
         }
         Refusal::Journal(_, FileFault::Unread(JournalFault::NoMemory)) => {
             tell(faults, PROGRAM, "no memory", 5)
@@ -237,6 +283,7 @@ fn run_order<W: Write, F: Write>(
         hall,
         title,
         name,
+        proposals,
         listen,
         journal,
     } = order;
@@ -262,11 +309,11 @@ fn run_order<W: Write, F: Write>(
         key: hall.key,
     };
     match serve(
-        rt, alloc, asked, title, name, journal, browsers, writer, faults,
+        rt, alloc, asked, title, name, proposals, journal, browsers, writer, faults,
     ) {
-        Ok(End::Failed) => tell(faults, PROGRAM, "cannot go on", 4),
+        Ok(End::Failed) => tell(faults, PROGRAM, "cannot continue", 4),
         Ok(End::Broken) => tell(faults, PROGRAM, BROKEN, 4),
-        Err(error) => tell_system(faults, PROGRAM, &error, "cannot go on"),
+        Err(error) => tell_system(faults, PROGRAM, &error, "cannot continue"),
     }
 }
 

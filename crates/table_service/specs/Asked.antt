@@ -11,7 +11,7 @@ use Rattle.table_service.specs.declared.reading.Asked.{Asked}
 use Rattle.table_service.specs.declared.reading.Asked.TheVariants.{Page, Style, Script}
 use Rattle.table_service.specs.declared.reading.View.TheVariants.{Overview, Card, Wall}
 use Rattle.table_service.specs.declared.reading.View.TheVariants.{Scorecards, People, Import}
-use Rattle.table_service.specs.declared.reading.View.TheVariants.{Person, Rounds}
+use Rattle.table_service.specs.declared.reading.View.TheVariants.{History, Person, Rounds}
 
 -- the round of a path below a folder
 abbrev pub round_below : List ℕ → List ℕ → Option RoundId
@@ -46,20 +46,30 @@ abbrev pub card_asked : List ℕ → RoundId → Asked
 card_asked query round =
     Page (Card round (number_if (number_of (value_of (codes "number") (pairs_of query)))))
 
--- by the round of the path of a card, of a sheet for the wall, and of blank cards, and by the
--- number of the path of a competitor
-abbrev pub by_folder : List ℕ → Option RoundId → Option RoundId → Option RoundId → Option ℕ
-    → Option Asked
-by_folder query (Some round) wall scorecards person = Some (card_asked query round)
-by_folder query None (Some round) scorecards person = Some (Page (Wall round))
-by_folder query None None (Some round) person = Some (Page (Scorecards round))
-by_folder query None None None (Some number) = Some (Page (Person number))
-by_folder query None None None None = None
+abbrev pub history_of : RoundId → Option ℕ → Option Asked
+history_of round None = None
+history_of round (Some number) = Some (Page (History round number))
+
+abbrev pub history_asked : List ℕ → RoundId → Option Asked
+history_asked query round =
+    history_of round (number_if (number_of (value_of (codes "number") (pairs_of query))))
+
+-- by the round of the path of a card, of a sheet for the wall, of blank cards, and of what was
+-- entered for a competitor, and by the number of the path of a competitor
+abbrev pub by_folder : List ℕ → Option RoundId → Option RoundId → Option RoundId → Option RoundId
+    → Option ℕ → Option Asked
+by_folder query (Some round) wall scorecards history person = Some (card_asked query round)
+by_folder query None (Some round) scorecards history person = Some (Page (Wall round))
+by_folder query None None (Some round) history person = Some (Page (Scorecards round))
+by_folder query None None None (Some round) person = history_asked query round
+by_folder query None None None None (Some number) = Some (Page (Person number))
+by_folder query None None None None None = None
 
 abbrev pub in_folder : List ℕ → List ℕ → Option Asked
 in_folder path query =
     by_folder query (round_below (codes "/card/") path) (round_below (codes "/wall/") path)
-    (round_below (codes "/scorecards/") path) (number_below (codes "/person/") path)
+    (round_below (codes "/scorecards/") path) (round_below (codes "/history/") path)
+    (number_below (codes "/person/") path)
 
 abbrev pub asked_by : Option Asked → Bool → List ℕ → List ℕ → Option Asked
 asked_by (Some asked) rounds path query = Some asked

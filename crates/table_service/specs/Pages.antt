@@ -14,6 +14,7 @@ use Rattle.entry_views.specs.declared.draft.Draft.{Draft}
 use Rattle.entry_views.specs.declared.draft.Draft.TheVariants as draft
 use Rattle.entry_views.specs.declared.origin.Origin.{Origin}
 use Rattle.entry_views.specs.declared.past.Past.{Past}
+use Rattle.entry_views.specs.History.{history_page}
 use Rattle.entry_views.specs.Page.{IsCardPage}
 use Rattle.hall_views.specs.Importing.{import_page}
 use Rattle.hall_views.specs.Overview.{overview}
@@ -158,6 +159,8 @@ IsPage q around title view.Import page = page ≡ Some (import_page around)
 IsPage q around title (view.Rounds round) page = page ≡ Some (rounds_page around round)
 IsPage q around title (view.Card round number) page =
     IsCardAfter around.waits q around round (draft_of number) page
+IsPage q around title (view.History round number) page =
+    page ≡ Some (history_page around round number)
 IsPage q around title (view.Wall round) page =
     IsWallSheet title around.mirror.now round (round_by (accepted_in around.mirror.now) round) page
 IsPage q around title (view.Scorecards round) page =

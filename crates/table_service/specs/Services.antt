@@ -28,14 +28,16 @@ use Rattle.table_service.specs.Requests.{sent_before}
 use Rattle.table_service.specs.Sent.{PlansOwn}
 use Rattle.table_service.specs.Taking.{is_sent}
 
--- the title of the hall, the name of the table, the hosts and the token of the program, the mirror
--- with what keeps it up, what is known of the desks, what was entered, the ids for the forms of
--- pages, a set for each page, the time, the machine's clock, and the journal
+-- the title of the hall, the name of the table, the hosts and the token of the program, the
+-- commands whose comments propose how later rounds are held, the mirror with what keeps it up, what
+-- is known of the desks, what was entered, the ids for the forms of pages, a set for each page, the
+-- time, the machine's clock, and the journal
 pub record ServiceOf : Type 0 where
   pub title : List ℕ
   pub name : List ℕ
   pub hosts : List (List ℕ)
   pub token : List ℕ
+  pub proposals : List ℕ
   pub mirroring : MirroringOf
   pub desks : Desks
   pub outbox : OutboxOf
@@ -44,13 +46,14 @@ pub record ServiceOf : Type 0 where
   pub clock : Option ℕ
   pub file : JournalOf
 
-abbrev pub service : List ℕ → List ℕ → List (List ℕ) → List ℕ → MirroringOf → Desks → OutboxOf
-    → List (List ℕ) → ℕ → Option ℕ → JournalOf → ServiceOf
-service title name hosts token mirroring desks outbox ids time clock file = record {
+abbrev pub service : List ℕ → List ℕ → List (List ℕ) → List ℕ → List ℕ → MirroringOf → Desks
+    → OutboxOf → List (List ℕ) → ℕ → Option ℕ → JournalOf → ServiceOf
+service title name hosts token proposals mirroring desks outbox ids time clock file = record {
   title = title;
   name = name;
   hosts = hosts;
   token = token;
+  proposals = proposals;
   mirroring = mirroring;
   desks = desks;
   outbox = outbox;
@@ -78,6 +81,7 @@ pub record IsAround (s : ServiceOf) (set : List ℕ) (request : Request (List �
   pub mirror : around.mirror.now ≡ s.mirroring.entries
   pub desks : around.desks.now ≡ s.desks
   pub token : around.token.now ≡ s.token
+  pub proposals : around.proposals.now ≡ s.proposals
   pub ids : around.ids.now ≡ set
   pub remark : around.remark.now ≡ remark_of s.name s.clock
   pub recent : AreRecent s.mirroring.entries s.outbox.list around.recent.now
@@ -238,10 +242,10 @@ pub record Answers (old : ServiceOf) (request : Request (List ℕ)) (response : 
 -- ---- what the other calls change
 
 -- no ids are given, and no time is said; what stands in no journal is no item
-pub record IsNew (title name : List ℕ) (hosts : List (List ℕ)) (token : List ℕ)
+pub record IsNew (title name : List ℕ) (hosts : List (List ℕ)) (token proposals : List ℕ)
     (mirroring : MirroringOf) (outbox : OutboxOf) (file : JournalOf) (s : ServiceOf) : Type 0 where
   pub desks : Desks
-  pub is : s ≡ service title name hosts token mirroring desks
+  pub is : s ≡ service title name hosts token proposals mirroring desks
       (with_list outbox (taken_back outbox.list)) [] 0 None file
 
 -- nothing but the mirror

@@ -1,8 +1,8 @@
 //! The pages that stand at paths.
 
 ghost use Rattle.std.specs.Prelude.{◌≡◌, IfOk};
-ghost use Rattle.table_service.specs.Asked.{asked_at, card_asked, fixed, in_folder, number_below};
-ghost use Rattle.table_service.specs.Asked.{round_below};
+ghost use Rattle.table_service.specs.Asked.{asked_at, card_asked, fixed, history_asked, in_folder};
+ghost use Rattle.table_service.specs.Asked.{number_below, round_below};
 
 use card_forms::{Pairs, number_of, round_of};
 use std::alloc::{AllocError, Global};
@@ -22,6 +22,8 @@ pub(crate) enum View {
     Wall(RoundId),
     /// `/scorecards/333-1`: blank cards.
     Scorecards(RoundId),
+    /// `/history/333-1?number=17`: what was entered for a competitor in a round.
+    History { round: RoundId, number: u16 },
     /// `/people`.
     People,
     /// `/person/17`: a competitor.
@@ -93,6 +95,17 @@ fn card_asked(alloc: Global, query: &[u8], round: RoundId) -> Result<Asked, Allo
     Ok(Asked::Page(View::Card { round, number }))
 }
 
+/// The page of what was entered for a competitor in a round, for a query that has the number.
+fn history_asked(alloc: Global, query: &[u8], round: RoundId) -> Result<Option<Asked>, AllocError>
+    ensures { IfOk result (λ asked. asked ≡ history_asked query.now round) }
+{
+    let pairs = Pairs::read(alloc, query)?;
+    match number_of(pairs.value("number")) {
+        Ok(number) => Ok(Some(Asked::Page(View::History { round, number }))),
+        Err(_) => Ok(None),
+    }
+}
+
 /// What stands at the path of a round or of a competitor.
 fn in_folder(alloc: Global, path: &[u8], query: &[u8]) -> Result<Option<Asked>, AllocError>
     ensures { IfOk result (λ asked. asked ≡ in_folder path.now query.now) }
@@ -106,6 +119,9 @@ fn in_folder(alloc: Global, path: &[u8], query: &[u8]) -> Result<Option<Asked>, 
     }
     if let Some(round) = round_below(path, b"/scorecards/") {
         return Ok(Some(Asked::Page(View::Scorecards(round))));
+    }
+    if let Some(round) = round_below(path, b"/history/") {
+        return history_asked(alloc, query, round);
     }
     match number_below(path, b"/person/") {
         Some(number) => Ok(Some(Asked::Page(View::Person(number)))),

@@ -62,8 +62,8 @@ impl<D: Disk> Model for TableService<D> {
     ghost Value = { ServiceOf };
 
     ghost view = { λ s. service (string_bytes s.setup.title) (string_bytes s.setup.name)
-        (map string_bytes s.setup.hosts.items) (string_bytes s.setup.token) s.mirroring s.desks
-        s.outbox s.ids.items s.time s.clock s.file };
+        (map string_bytes s.setup.hosts.items) (string_bytes s.setup.token)
+        s.setup.proposals.items s.mirroring s.desks s.outbox s.ids.items s.time s.clock s.file };
 
     ghost invariant = { λ s. IsKept s.outbox };
 }
@@ -168,8 +168,8 @@ impl<D: Disk> TableService<D> {
         file: JournalFile<D>,
     ) -> TableService<D>
         ensures { IsNew (string_bytes setup.title) (string_bytes setup.name)
-            (map string_bytes setup.hosts.items) (string_bytes setup.token) mirroring outbox file
-            result }
+            (map string_bytes setup.hosts.items) (string_bytes setup.token) setup.proposals.items
+            mirroring outbox file result }
     {
         let mut outbox = outbox;
         outbox.not_kept();
@@ -331,6 +331,7 @@ impl<D: Disk> TableService<D> {
             mirror: self.mirroring.mirror(),
             desks: &self.desks,
             token: self.setup.token.as_bytes(),
+            proposals: &self.setup.proposals,
             ids,
             remark: &remark,
             recent: &recent,

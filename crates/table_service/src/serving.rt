@@ -97,9 +97,10 @@ fn service_of<'a, R: RandomSource>(
     address: SocketAddr,
     title: String,
     name: String,
+    proposals: Vec<u8>,
     opened: Opened<SystemFile>,
 ) -> io::Result<&'a mut TableService<SystemFile>> {
-    let setup = Setup::new(runtime, alloc, address, title, name)?;
+    let setup = Setup::new(runtime, alloc, address, title, name, proposals)?;
     let mirroring = Mirroring::new(alloc, hall.number, count_desks(hall.addresses))?;
     let Opened { journal, file } = opened;
     let service = TableService::new(alloc, setup, mirroring, journal.outbox, file);
@@ -120,7 +121,8 @@ fn side_of<'a, R: Net + RandomSource + Clock + Drop>(
 }
 
 /// Says where it listens, and serves the pages of a hall under this title, for the table of this
-/// name, over this journal, to these browsers until it can't go on. What is wrong with the key of a
+/// name, with the proposals of these commands' comments, over this journal, to these browsers until
+/// it can't go on. What is wrong with the key of a
 /// desk is said on a line of `faults`.
 pub fn serve<'a, R: Net + RandomSource + Clock + Drop, W: Write, F: Write>(
     runtime: &'a R,
@@ -128,13 +130,16 @@ pub fn serve<'a, R: Net + RandomSource + Clock + Drop, W: Write, F: Write>(
     hall: Hall<'_>,
     title: String,
     name: String,
+    proposals: Vec<u8>,
     opened: Opened<SystemFile>,
     browsers: &mut Browsers<BrowserSockets<'a, R>>,
     writer: &mut W,
     faults: &mut F,
 ) -> io::Result<End> {
     let address = address_of(browsers)?;
-    let service = service_of(runtime, alloc, hall, address, title, name, opened)?;
+    let service = service_of(
+        runtime, alloc, hall, address, title, name, proposals, opened,
+    )?;
     let side = side_of(runtime, alloc, hall, browsers)?;
     serve_on(runtime, browsers, service, side, writer, faults)
 }

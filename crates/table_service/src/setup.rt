@@ -21,6 +21,9 @@ pub struct Setup {
     /// What each form carries so that it is taken: drawn at random, so that no foreign page knows
     /// it.
     pub token: String,
+    /// The commands with which the competition was set up, whose comments propose how later rounds
+    /// are held; nothing where they are not known.
+    pub proposals: Vec<u8>,
 }
 
 /// The token of these bytes.
@@ -40,9 +43,11 @@ impl Setup {
         address: SocketAddr,
         title: String,
         name: String,
+        proposals: Vec<u8>,
     ) -> io::Result<Setup>
         ensures title { IfOk result (λ s. s.title ≡ title) }
         ensures name { IfOk result (λ s. s.name ≡ name) }
+        ensures proposals { IfOk result (λ s. s.proposals ≡ proposals) }
         ensures token { IfOk result (λ s. IsToken (string_bytes s.token)) }
     {
         let mut hosts = Vec::new(alloc);
@@ -59,6 +64,7 @@ impl Setup {
             name,
             hosts,
             token,
+            proposals,
         })
     }
 }

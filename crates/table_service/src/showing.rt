@@ -11,8 +11,8 @@ use crate::plan::{Plan, Problem, Reply, Shown};
 use crate::reading::{Asked, View, asked_at};
 use crate::waiting::card_after;
 use bytes::Bytes;
-use entry_views::Draft;
 use entry_views::paper::{scorecards, wall_sheet};
+use entry_views::{Draft, history_page};
 use hall_views::{import_page, overview, people_page, person_page, rounds_page};
 use http::Request;
 use outbox::Outbox;
@@ -49,6 +49,7 @@ fn page_of(
         View::Card { round, number } => {
             card_after(alloc, outbox, around, round, draft_of(number))
         }
+        View::History { round, number } => Ok(Some(history_page(alloc, around, round, number)?)),
         View::Wall(round) => wall_sheet(alloc, around.mirror, title, round),
         View::Scorecards(round) => scorecards(alloc, around.mirror, title, round),
     }

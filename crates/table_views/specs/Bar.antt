@@ -122,20 +122,20 @@ look_words (desk ∷ others) = look_at desk others
 abbrev pub few_words : List ℕ → List ℕ
 few_words away =
     away_words away
-    ++ codes " Go on: cards are kept here, and sent once more than half of the machines answer."
+    ++ codes " Continue: cards are kept here, and sent once more than half of the machines answer."
     ++ look_words away
 
 abbrev pub silent_words : ℕ → ℕ → List ℕ
 silent_words desk milliseconds = joined (
     codes "The machine that this table asks has not answered for " ∷ decimal (milliseconds / 1000)
-    ∷ codes " s. Go on: cards are kept here, and sent once one answers."
+    ∷ codes " s. Continue: cards are kept here, and sent once one answers."
     ∷ codes " Look after machine " ∷ decimal desk ∷ codes "." ∷ []
     )
 
 abbrev pub undecided_words : ℕ → List ℕ
 undecided_words milliseconds = joined (
     codes "The machines have decided nothing for " ∷ decimal (milliseconds / 1000)
-    ∷ codes " s. Go on: cards are kept here, and sent again." ∷ []
+    ∷ codes " s. Continue: cards are kept here, and sent again." ∷ []
     )
 
 abbrev pub well_words : ℕ → List ℕ
@@ -176,7 +176,7 @@ bar_start doing = joined (
 
 abbrev pub bar_end : ℕ → List ℕ
 bar_end position =
-    joined (codes "</span> <small>position " ∷ decimal position ∷ codes "</small></p>\n" ∷ [])
+    joined (codes "</span> <small>result " ∷ decimal position ∷ codes "</small></p>\n" ∷ [])
 
 unfoldable pub bar_of : Desks → Doing → ℕ → List ℕ
 bar_of desks doing position = bar_start doing ++ words_of desks doing ++ bar_end position

@@ -26,7 +26,7 @@ edition_rest back = joined (
     codes "<input type=\"hidden\" name=\"command\" value=\"EDITION\">\n"
     ∷ codes "<input type=\"hidden\" name=\"back\" value=\"" ∷ escaped back
     ∷ codes "\">\n<input type=\"hidden\" name=\"text\" value=\"EDITION 4\">\n"
-    ∷ codes "<button>Go on to edition 4</button></form>\n" ∷ []
+    ∷ codes "<button>Change to edition 4</button></form>\n" ∷ []
     )
 
 -- the form that moves to edition 4, which says what it means

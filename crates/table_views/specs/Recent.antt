@@ -107,7 +107,7 @@ stands_words accepted (Some card) =
 -- by which entry of the log
 abbrev pub by_words : Option ℕ → List ℕ
 by_words None = []
-by_words (Some position) = joined (codes ", by entry " ∷ decimal (position + 1) ∷ [])
+by_words (Some position) = joined (codes ", by result " ∷ decimal (position + 1) ∷ [])
 
 -- what became of an item of this card, if it is one
 abbrev pub state_words : Around → Recent → Option CardEntry → State → List ℕ

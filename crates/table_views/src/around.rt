@@ -21,6 +21,9 @@ pub struct Around<'a> {
     /// The log that is followed.
     pub mirror: &'a Mirror,
     pub desks: &'a Desks,
+    /// The commands with which the competition was set up, or nothing. Their comments, as
+    /// `# OPEN 333 2 ao5 - 60000 top:8`, propose how later rounds are held.
+    pub proposals: &'a [u8],
     /// What each form has to carry so that it is taken.
     pub token: &'a [u8],
     /// Ids for the forms of the page. The form of a card has the first one, and the others are

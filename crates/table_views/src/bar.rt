@@ -232,7 +232,7 @@ fn push_few(out: &mut Vec<u8>, away: &[u8]) -> Result<(), NoMemory>
 {
     push_away(out, away)?;
     out.extend_from_slice(
-        b" Go on: cards are kept here, and sent once more than half of the machines answer.",
+        b" Continue: cards are kept here, and sent once more than half of the machines answer.",
     )?;
     push_look(out, away)
 }
@@ -245,7 +245,7 @@ fn push_silent(out: &mut Vec<u8>, desk: u8, milliseconds: u64) -> Result<(), NoM
         &[
             Piece::Html(b"The machine that this table asks has not answered for "),
             Piece::Number(milliseconds / 1_000),
-            Piece::Html(b" s. Go on: cards are kept here, and sent once one answers."),
+            Piece::Html(b" s. Continue: cards are kept here, and sent once one answers."),
             Piece::Html(b" Look after machine "),
             Piece::Number(desk as u64),
             Piece::Html(b"."),
@@ -261,7 +261,7 @@ fn push_undecided(out: &mut Vec<u8>, milliseconds: u64) -> Result<(), NoMemory>
         &[
             Piece::Html(b"The machines have decided nothing for "),
             Piece::Number(milliseconds / 1_000),
-            Piece::Html(b" s. Go on: cards are kept here, and sent again."),
+            Piece::Html(b" s. Continue: cards are kept here, and sent again."),
         ],
     )
 }
@@ -349,7 +349,7 @@ fn push_bar_end(out: &mut Vec<u8>, position: u32) -> Result<(), NoMemory>
     push_pieces(
         out,
         &[
-            Piece::Html(b"</span> <small>position "),
+            Piece::Html(b"</span> <small>result "),
             Piece::Number(position as u64),
             Piece::Html(b"</small></p>\n"),
         ],

@@ -36,7 +36,7 @@ fn push_edition_rest(out: &mut Vec<u8>, back: &[u8]) -> Result<(), NoMemory>
             Piece::Html(b"<input type=\"hidden\" name=\"back\" value=\""),
             Piece::Text(back),
             Piece::Html(b"\">\n<input type=\"hidden\" name=\"text\" value=\"EDITION 4\">\n"),
-            Piece::Html(b"<button>Go on to edition 4</button></form>\n"),
+            Piece::Html(b"<button>Change to edition 4</button></form>\n"),
         ],
     )
 }

@@ -102,17 +102,19 @@ body.hall li { break-inside: avoid; }
   .field output.wrong { grid-column: 1 / 5; }
 }
 @media print {
-  nav, #bar, #recent { display: none; }
+  nav, #bar, #recent, body.wall caption { display: none; }
+  [data-title]::before { content: attr(data-title); display: block; width: 0; white-space: nowrap;
+    text-align: left; font-weight: bold; margin-bottom: .4em; }
 }
+pre { overflow-x: auto; }
 body.wall, body.scorecards { color: #000; background: #fff; }
 body.wall main, body.scorecards main { padding: 0; }
-body.wall .head { text-align: left; font-weight: normal; font-size: .9rem; }
-body.wall .head i { float: right; }
-body.wall td { text-align: right; }
-body.wall th:nth-child(3), body.wall td:nth-child(3) { text-align: left; overflow-wrap: anywhere;
-  min-width: 9rem; unicode-bidi: plaintext; }
-body.wall td:last-child, body.wall thead tr + tr th:last-child { display: none; }
-body.wall tr.yes td:nth-child(3) { font-weight: bold; }
+body.wall h1 { font-size: .9rem; font-weight: normal; }
+body.wall .told { color: inherit; font-weight: normal; }
+body.wall th, body.wall td { padding: .1rem .3rem; vertical-align: bottom; }
+body.wall th:nth-child(3) { text-align: left; overflow-wrap: anywhere; min-width: 11rem; }
+body.wall a { color: inherit; text-decoration: none; }
+body.wall tr.yes > *, body.wall td:nth-child(4) { font-weight: bold; }
 body.wall table { font-size: .85rem; }
 body.wall thead { display: table-header-group; }
 body.wall tr { break-inside: avoid; }

@@ -227,7 +227,7 @@ fn push_by(out: &mut Vec<u8>, by: Option<u32>) -> Result<(), NoMemory>
         Some(position) => push_pieces(
             out,
             &[
-                Piece::Html(b", by entry "),
+                Piece::Html(b", by result "),
                 Piece::Number(position as u64 + 1),
             ],
         ),

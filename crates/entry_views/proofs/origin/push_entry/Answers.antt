@@ -14,6 +14,6 @@ returns c =
     same_after c.push_pieces.result _ _ _
     (ap
     (λ (words : List ℕ). c.args.out.now.items
-    ++ joined (codes "<p class=\"origin\">Entry " ∷ decimal c.args.position
-    ∷ codes " of the log, " ∷ words ∷ []))
+    ++ joined (codes "<p class=\"origin\">Result " ∷ decimal c.args.position
+    ∷ codes ", " ∷ words ∷ []))
     c.place_words.ensures) c.push_pieces.ensures

@@ -27,7 +27,7 @@ returns c =
     let fields_of = card_fields (accepted_in around.mirror.now) id settings.format in
     let origin = origin_line c.args.past.origin in
     let filled = c.args.past.filled.now in
-    let leaving = leaving_line t draft in
+    let leaving = leaving_line id t draft in
     let start = start_of (best_in t) values in
     let left = c.push_leaving.new.out.items in
     two_parts out (start ++ origin ++ leaving ++ fields_of values filled draft) form_end _ _

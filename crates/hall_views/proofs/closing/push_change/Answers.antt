@@ -13,6 +13,6 @@ returns c =
     on_ok_weaker c.push_button.result
     (five_parts out change_head
     (form_start c.args.token.now c.args.form (codes "ADV") c.args.back.now) (round_value c.args.id)
-    (advance_fields c.args.advance) (button (codes "Change who goes on")) _ _ _ _ _
+    (advance_fields c.args.advance) (button (codes "Change who advances")) _ _ _ _ _
     c.in_ok-extend_from_slice.ensures.items c.in_ok-push_form.ensures
     c.in_ok-push_round_value.ensures c.in_ok-push_advance.ensures) c.push_button.ensures

@@ -10,7 +10,7 @@ pub returns : goal.returns
 unfolding advance_fields
 returns c =
     let out = c.args.out.now.items in
-    let head = codes "<label>Who goes on <select name=\"advance\">\n" in
+    let head = codes "<label>Who advances <select name=\"advance\">\n" in
     let choices = advance_choices c.args.advance in
     let end = codes "</select></label>\n" in
     on_ok_weaker c.push_text_field.result

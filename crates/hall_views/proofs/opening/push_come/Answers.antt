@@ -9,6 +9,6 @@ returns c =
     (ap
     (λ (word : List ℕ). c.args.out.now.items
     ++ joined (codes "<h2>Open the round</h2>\n<p>" ∷ decimal c.args.come ∷ word
-    ∷ codes " into this round. What is chosen here is proposed, after the round before: change "
-    ∷ codes "what you like. The button opens the round as the fields say.</p>\n" ∷ []))
+    ∷ codes " into this round. What is chosen here is proposed: change what you like. The "
+    ∷ codes "button opens the round as the fields say.</p>\n" ∷ []))
     c.come_word.ensures) c.push_pieces.ensures

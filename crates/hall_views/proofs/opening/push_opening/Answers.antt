@@ -20,6 +20,7 @@ returns c =
     (λ (back : List ℕ). c.push_head.new.out.items ++ form_start c.args.token.now
     c.args.form (codes "OPEN") back) (c.deref.ensures.value ∙ c.in_ok-back.ensures))
     c.in_ok-push_round_value.ensures (two_parts c.push_round_value.new.out.items
-    (rule_fields c.args.id.event c.args.proposal.format None c.args.proposal.limit)
+    (rule_fields c.args.id.event c.args.proposal.format c.args.proposal.cutoff
+    c.args.proposal.limit)
     (advance_fields c.args.proposal.advance) _ _ c.in_ok-push_rule_fields.ensures
     c.in_ok-push_advance.ensures)) c.push_button.ensures

@@ -17,4 +17,5 @@ returns c =
     ∙ ap
     (λ (p : Proposal). out ++ opening token (get_or around.ids.now 0 0) c.args.id p)
     (c.in_ok-proposal.ensures
-    ∙ ap (λ (h : History). proposed h.accepted c.args.id) c.meet.ensures)) c.push_opening.ensures
+    ∙ ap (λ (h : History). proposed h.accepted around.proposals.now c.args.id) c.meet.ensures))
+    c.push_opening.ensures

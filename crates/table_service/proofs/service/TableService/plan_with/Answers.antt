@@ -15,14 +15,15 @@ returns g c =
       mirror = c.mirror-2.ensures ∙ ap (λ (s : ServiceOf). s.mirroring.entries) seen;
       desks = ap (λ (s : ServiceOf). s.desks) seen;
       token = c.as_bytes.ensures.value ∙ ap (λ (s : ServiceOf). s.token) seen;
+      proposals = c.deref.ensures.value ∙ ap (λ (s : ServiceOf). s.proposals) seen;
       ids = refl;
-      remark = c.deref.ensures.value ∙ c.in_ok-remark.ensures
+      remark = c.deref-2.ensures.value ∙ c.in_ok-remark.ensures
           ∙ ap (λ (name : List ℕ). remark_of name c.self.inside.clock)
           c.as_bytes-name.ensures.value
           ∙ ap (λ (s : ServiceOf). remark_of s.name s.clock) seen;
       recent = recent_seen _ _ _ _ _ _
           (c.mirror.ensures ∙ ap (λ (s : ServiceOf). s.mirroring.entries) seen)
-          (ap (λ (s : ServiceOf). s.outbox.list) seen) c.deref-2.ensures.value
+          (ap (λ (s : ServiceOf). s.outbox.list) seen) c.deref-3.ensures.value
           c.in_ok-recent.ensures;
       time = ap (λ (s : ServiceOf). s.time) seen;
       waits = c.waits.ensures
