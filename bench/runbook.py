@@ -310,7 +310,7 @@ class Runbook:
         "./desk enter --wait 'CARD 333 1 1 1000,1200,1100,1300,DNF =/=/=/=/T:1150:0'": corrected,
         "333 round 1 ao5 closed position 10": same,
         "./desk hall-file --keys --hall 7 10.0.0.1:7001 10.0.0.2:7001 10.0.0.3:7001": a_new_hall,
-        "./desk serve --config hall.toml --desk 1 --store desk-1.db --new": make_stores,
+        "./desk serve --config hall.toml --desk 1 --store desk-1.db --new-hall": make_stores,
         "./desk import --wcif competition.json > setup.txt": imported,
         "./desk serve --config hall.toml --desk 1 --store desk-1.db --open-sheets": start_desks,
         "./scoretable --listen 127.0.0.1:8081": table,

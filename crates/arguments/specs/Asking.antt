@@ -1,6 +1,6 @@
 -- What the arguments of the program ask for, as its parser reads them: `clap` says which argument
 -- is the value of which name.
-use Rattle.std.specs.Prelude.{◌≡◌, ◌≤◌, ◌&&◌, true, false, Bool, ℕ, List, [], ◌∷◌, codes, decimal}
+use Rattle.std.specs.Prelude.{◌≡◌, ◌≤◌, ◌&&◌, ◌||◌, true, false, Bool, ℕ, List, [], ◌∷◌, codes, decimal}
 use Rattle.std.specs.Prelude.{length, map, nat_le, Option, None, Some, IfSome}
 use Rattle.clap.specs.Words.{App, Row, Text, all_of, first_of, new_app, subcommand_of}
 use Rattle.clap.specs.Words.{with_rule, with_subcommand}
@@ -61,10 +61,12 @@ key_arguments =
 abbrev pub serve_arguments : App
 serve_arguments =
     with_rule (with_rule (with_rule (with_rule (with_rule (with_rule (with_rule (with_rule
-    (with_rule (with_rule (with_rule (with_rule (with_rule (located_arguments (codes "serve"))
+    (with_rule (with_rule (with_rule (with_rule (with_rule (with_rule
+    (located_arguments (codes "serve"))
     (option_rule (codes "desk") (numbers 0 255)))
     (option_rule (codes "store") any_text))
     (bound (flag_rule (codes "new"))))
+    (bound (flag_rule (codes "new-hall"))))
     (optional_rule (codes "patience") 1 86400))
     (optional_rule (codes "connections") 1 1000000))
     (optional_rule (codes "wire") 1 2))
@@ -309,12 +311,18 @@ pub record IsService (s : Service) (rows : List Row) : Type 0 where
   pub open_sheets : IsFlag (codes "open-sheets") rows s.open_sheets
   pub addresses : all_of (codes "addr") rows ≡ Some (map (λ a. a.now) s.addresses.now)
 
--- of a desk of a file's hall the same, whether its store is made, and after how many milliseconds
--- it ticks itself, 1,000 where none are given
+-- a store is made with `--new`, and in a hall that is new as a whole
+abbrev pub Makes : List Row → (makes new_hall : Bool) → Type 0
+Makes rows makes new_hall =
+    (new : Bool) × IsFlag (codes "new") rows new × (makes ≡ new || new_hall)
+
+-- of a desk of a file's hall the same, whether its store is made, whether all its desks are new, and
+-- after how many milliseconds it ticks itself, 1,000 where none are given
 pub record IsHallService (s : HallService) (rows : List Row) : Type 0 where
   pub desk : IsNumberAt (codes "desk") rows s.desk
   pub store : first_of (codes "store") rows ≡ Some s.store.now
-  pub makes : IsFlag (codes "new") rows s.makes
+  pub makes : Makes rows s.makes s.new_hall
+  pub new_hall : IsFlag (codes "new-hall") rows s.new_hall
   pub patience : IsNumberOr (codes "patience") 30 rows s.patience
   pub connections : IsGiven (codes "connections") rows s.connections
   pub wire : IsNumberOr (codes "wire") 1 rows (wire_number s.wire)
@@ -418,7 +426,8 @@ IsTask (task.Status desks patience json watches all) name rows =
     × IsFlag (codes "json") rows json × IsFlag (codes "watch") rows watches
     × IsFlag (codes "all") rows all
 IsTask (task.Serve service) name rows =
-    (name ≡ codes "serve") × IsService service rows × IsFlag (codes "new") rows false
+    (name ≡ codes "serve") × IsService service rows
+    × IsFlag (codes "new") rows false × IsFlag (codes "new-hall") rows false
 IsTask (task.ServeHall file wanted) name rows =
     (name ≡ codes "serve") × IsHallFile file.now (codes "addr") rows × IsHallService wanted rows
 

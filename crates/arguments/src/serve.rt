@@ -3,7 +3,7 @@
 ghost use Rattle.std.specs.Prelude.{◌≡◌, codes, IfOk, IfSome};
 ghost use Rattle.clap.specs.Words.{app_of, found_of, rows_of, with_subcommand};
 ghost use Rattle.arguments.specs.Arguments.{IsNumberOr};
-ghost use Rattle.arguments.specs.Asking.{serve_arguments, wire_number, IsTask};
+ghost use Rattle.arguments.specs.Asking.{serve_arguments, wire_number, IsTask, Makes};
 
 use crate::described::{Argument, FLAG, OPTION, Subcommand, Takes, VALUE, with_described};
 use crate::places::{CONFIG, EXPLAIN, HALL, KEY, hall_at, hall_file_at};
@@ -30,8 +30,10 @@ three or five, and they are the same at each desk.
 
 What the desk has promised and decided is kept in FILE and in FILE-wal beside it. A desk that was
 stopped or killed is started again with the same FILE. With --config FILE has to be there, and --new
-makes it, once, before the day; with --hall it is created if it does not exist. With --config the
-desk gives itself a Tick each second, unless --tick says otherwise; with --hall none.
+makes it, once, before the day, if another desk answers and none has a command. --new-hall says that
+all desks of the hall are new: so none has to answer. With --hall FILE is created if it does not
+exist. With --config the desk gives itself a Tick each second, unless --tick says otherwise; with
+--hall none.
 
 The desk serves all its clients side by side, at most 512 at once.
 
@@ -94,7 +96,13 @@ const SERVE: Subcommand<'static> = Subcommand {
         },
         Argument {
             id: "new",
-            help: "Make the desk's file, which must not be there",
+            help: "Make the desk's file, which must not be there; another desk has to answer",
+            without: &["hall"],
+            ..FLAG
+        },
+        Argument {
+            id: "new-hall",
+            help: "Make the desk's file as --new does, in a hall whose desks are all new",
             without: &["hall"],
             ..FLAG
         },
@@ -188,6 +196,13 @@ fn wire_at(found: &ArgMatches<'_>) -> Option<Version>
     }
 }
 
+/// Whether the desk's file is made, in a hall that is new as a whole or is not.
+fn makes_at(found: &ArgMatches<'_>, new_hall: bool) -> bool
+    ensures { Makes (rows_of (found_of found.now)) result new_hall }
+{
+    flag_at(found, "new") || new_hall
+}
+
 /// What the arguments of `serve` ask for: a desk of a hall at addresses, or of a file's hall.
 pub fn serve_of<'m, 'a: 'm>(found: &'m ArgMatches<'a>) -> Option<Task<'m>>
     ensures { IfSome result
@@ -195,7 +210,8 @@ pub fn serve_of<'m, 'a: 'm>(found: &'m ArgMatches<'a>) -> Option<Task<'m>>
 {
     let desk = byte_at(found, "desk")?;
     let store = text_at(found, "store")?;
-    let makes = flag_at(found, "new");
+    let new_hall = flag_at(found, "new-hall");
+    let makes = makes_at(found, new_hall);
     let patience = number_or(found, "patience", PATIENCE)?;
     let connections = optional_at(found, "connections")?;
     let wire = wire_at(found)?;
@@ -211,6 +227,7 @@ pub fn serve_of<'m, 'a: 'm>(found: &'m ArgMatches<'a>) -> Option<Task<'m>>
             desk,
             store,
             makes,
+            new_hall,
             patience,
             connections,
             wire,

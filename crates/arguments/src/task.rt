@@ -85,6 +85,8 @@ pub struct HallService<'a> {
     pub store: &'a str,
     /// Whether the store is made.
     pub makes: bool,
+    /// Whether all desks of the hall are new, so that none has to answer.
+    pub new_hall: bool,
     /// How many seconds a client may be silent, and take nothing of what is sent to it.
     pub patience: u32,
     /// How many connections are served; without it, as many as come.

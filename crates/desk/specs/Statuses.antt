@@ -150,7 +150,8 @@ EndsUnserved status c old new =
     (f : DeskFault) × (status ≡ status_of f) × IsOfFile f × (c.old ≡ c.new) × Keeps old new
 
 -- Or the desk of its hall served, or ended by a fault. Where its store was to be made, the hall's
--- desks may have been asked first, and one of them had a command where it did not serve.
+-- desks may have been asked first; and where it did not serve one of them had a command, or none
+-- answered in a hall that is not new.
 abbrev pub EndsServeHall : ℕ → Bor (List ℕ) → HallService → Calls → Option (List ℕ)
     → Option (List ℕ) → Type 0
 EndsServeHall status file wanted c old new =
@@ -242,8 +243,7 @@ Ends (task.Status desks patience json watches all) status s c t =
 Ends (task.Serve service) status s c t =
     Keeps s.had s.left × EndsServe status service s.old s.new × IsQuiet status t
 Ends (task.ServeHall file wanted) status s c t =
-    Keeps s.had s.left × EndsServeHall status file wanted c s.old s.new
-    × (wanted.makes ≡ false → IsQuiet status t)
+    Keeps s.had s.left × EndsServeHall status file wanted c s.old s.new × IsQuiet status t
 
 -- what a status says of the arguments, and of what was read, written and told
 abbrev pub Ran : List Text → ℕ → Sides → Calls → Told → Type 0

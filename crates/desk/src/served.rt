@@ -1,6 +1,6 @@
 //! A desk that serves, and how it ends.
 
-ghost use Rattle.std.specs.Prelude.{◌≡◌, ◌≤◌, false, length, map, option_map, string_bytes};
+ghost use Rattle.std.specs.Prelude.{◌≡◌, ◌≤◌, IsTrue, length, map, option_map, string_bytes};
 ghost use Rattle.std.specs.Io.KnownBytes.{Keeps};
 ghost use Rattle.desk.specs.Statuses.{EndsServe, EndsServeHall, calls, fault_of_serve};
 ghost use Rattle.tasks.specs.Begun.{AsksFirst};
@@ -70,7 +70,8 @@ fn path_of(file: &Option<String>) -> Option<&str>
 
 /// Whether the desk that is wanted may serve: where its store is to be made, and no file is there,
 /// the desks of the hall are asked first, and it may not where one has a command, or was told of
-/// one by this desk. Where the hall's key can't be read none is asked: the desk will not serve.
+/// one by this desk, or where none answers in a hall that is not new. Where the hall's key can't be
+/// read none is asked: the desk will not serve.
 fn may_serve<D: Dial, F: Write>(
     rt: &HostRuntime,
     dial: &mut D,
@@ -83,8 +84,7 @@ fn may_serve<D: Dial, F: Write>(
     requires { length addresses.now ≤ 5 }
     ensures asked { AsksFirst file.entry wanted.entry hall.now (map (λ a. a.now) addresses.now)
         result (D.dialed dial.old) (D.dialed dial.new) }
-    ensures quiet { wanted.entry.makes ≡ false
-        → Keeps (F.contents faults.old) (F.contents faults.new) }
+    ensures quiet { IsTrue result → Keeps (F.contents faults.old) (F.contents faults.new) }
 {
     if !wanted.makes || !matches!(has_bytes(rt, wanted.store), Ok(false)) {
         return true;
@@ -98,7 +98,14 @@ fn may_serve<D: Dial, F: Write>(
         patience: 2,
         key,
     };
-    may_make(rt.alloc(), dial, inquiry, wanted.desk, faults)
+    may_make(
+        rt.alloc(),
+        dial,
+        inquiry,
+        wanted.desk,
+        wanted.new_hall,
+        faults,
+    )
 }
 
 /// Runs a desk of the hall that a file describes, and returns the exit status. Its key's file is
@@ -116,8 +123,7 @@ pub fn run_hall_service<D: Dial, W: Write, F: Write>(
 ) -> u8
     ensures ends { EndsServeHall result file.entry wanted.entry
         (calls D.dialed dial.old dial.new) (W.contents writer.old) (W.contents writer.new) }
-    ensures quiet { wanted.entry.makes ≡ false → result ≡ 0
-        → Keeps (F.contents faults.old) (F.contents faults.new) }
+    ensures quiet { result ≡ 0 → Keeps (F.contents faults.old) (F.contents faults.new) }
 {
     let hall = match hall_of_file(rt, file, faults) {
         Ok(hall) => hall,

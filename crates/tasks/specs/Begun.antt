@@ -36,6 +36,10 @@ joined a b =
 abbrev pub IsFree : Known → Type 0
 IsFree k = (k.have ≡ 0) × (k.had ≡ 0)
 
+-- so it is, and one answers, or the whole hall is new
+abbrev pub MayBegin : (new_hall : Bool) → Known → Type 0
+MayBegin new_hall k = IsFree k × IsTrue (k.answers || new_hall)
+
 -- where a desk of an inquiry is asked, for how many seconds it is waited for, and under which key
 abbrev pub place_at : Inquiry → List ℕ → Place
 place_at q address = record { to = address; patience = q.patience; key = q.key }
@@ -54,13 +58,13 @@ AsksEach q lost desk (address ∷ addresses) k old new =
     × (k ≡ joined (known_by lost answer) more)
 
 -- The desks of an inquiry were asked, and a store may be made where none that answers has a command
--- or was told of one. Where it may, and one answers, nothing is said.
-abbrev pub MayMake : Inquiry → ℕ → Bool → (old new : Option (List Dialed))
+-- or was told of one, and one answers, or the whole hall is new. Where it may, nothing is said.
+abbrev pub MayMake : Inquiry → ℕ → (new_hall may : Bool) → (old new : Option (List Dialed))
     → (said saying : Option (List ℕ)) → Type 0
-MayMake q desk may old new said saying =
+MayMake q desk new_hall may old new said saying =
     (k : Known) × AsksEach q desk 1 q.addresses.now k old new
-    × (IsTrue may ↔ IsFree k)
-    × (IsTrue k.answers → IsFree k → Keeps said saying)
+    × (IsTrue may ↔ MayBegin new_hall k)
+    × (IsTrue may → Keeps said saying)
 
 -- The desks of this hall were asked so at these addresses, under its key, for two seconds each, by
 -- the desk that is wanted.
@@ -71,10 +75,11 @@ HasAsked file wanted hall texts may old new =
     × IsKeyOf (key_file_of (naming file wanted.key) hall) key
     × Asks q hall.hall texts key 2
     × (k : Known) × AsksEach q wanted.desk 1 q.addresses.now k old new
-    × (IsTrue may ↔ IsFree k)
+    × (IsTrue may ↔ MayBegin wanted.new_hall k)
 
 -- Whether the desk that is wanted may serve: where its store is to be made the others may have been
--- asked, and it may not only where one of them had a command.
+-- asked, and it may not only where one of them had a command, or none answered in a hall that is not
+-- new.
 abbrev pub AsksFirst : Bor (List ℕ) → HallService → HallFile → List (List ℕ) → Bool
     → (old new : Option (List Dialed)) → Type 0
 AsksFirst file wanted hall texts true old new =

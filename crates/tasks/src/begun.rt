@@ -1,10 +1,9 @@
 //! Whether a hall's day has begun, asked before the store of one of its desks is made.
 
 ghost use Rattle.std.specs.Prelude.{◌≡◌, ◌≤◌, ◌+◌, ◌∷◌, ◌↔◌, [], length, IsTrue};
-ghost use Rattle.std.specs.Io.KnownBytes.{Keeps};
 ghost use Rattle.batch.specs.Dialing.{Adds, asked_so};
 ghost use Rattle.client.specs.Standings.{status_request};
-ghost use Rattle.tasks.specs.Begun.{AsksEach, IsFree, MayMake, joined, known_by, place_at};
+ghost use Rattle.tasks.specs.Begun.{AsksEach, MayBegin, MayMake, joined, known_by, place_at};
 ghost use Rattle.wire.specs.Ranges.{IsDesk};
 
 use batch::{BatchFault, Contact, Dial, ask_over};
@@ -106,55 +105,53 @@ fn ask_all<D: Dial>(
     joined(one, more)
 }
 
-/// Whether none that answers has a command, or was told of one.
-fn is_free(known: Known) -> bool
-    ensures { IsTrue result ↔ IsFree known }
+/// Whether none that answers has a command, or was told of one, and one answers, or the whole hall
+/// is new.
+fn may_begin(known: Known, new_hall: bool) -> bool
+    ensures { IsTrue result ↔ MayBegin new_hall known }
 {
-    known.have == 0 && known.had == 0
+    known.have == 0 && known.had == 0 && (known.answers || new_hall)
 }
 
-/// Says why the store of this desk is not made, or that none answers.
-fn tell_known<F: Write>(faults: &mut F, known: Known, desk: u8)
-    ensures { IsTrue known.answers → IsFree known
-        → Keeps (F.contents faults.old) (F.contents faults.new) }
-{
+/// Says why the store of this desk is not made.
+fn tell_known<F: Write>(faults: &mut F, known: Known, desk: u8) {
     let (have, had) = (known.have, known.had);
     let page = "see HALL, 'A disk died'";
-    if had > 0 {
-        let _ = writeln!(
+    let _ = if had > 0 {
+        writeln!(
             faults,
             "desk {desk} had {had} commands: its file is lost; {page}"
-        );
-        return;
-    }
-    if have > 0 {
-        let _ = writeln!(
+        )
+    } else if have > 0 {
+        writeln!(
             faults,
             "the day has begun with {have} commands: desk {desk} is not made; {page}"
-        );
-        return;
-    }
-    if !known.answers {
-        let what = "if the hall has commands, end desk";
-        let _ = writeln!(faults, "no other desk answers: {what} {desk}; {page}");
-    }
+        )
+    } else {
+        let what = "start another desk first, or if all desks are new take --new-hall";
+        writeln!(faults, "no desk answers, desk {desk} is not made: {what}")
+    };
 }
 
 /// Asks the desks of a hall whether its day has begun, before the store of the desk of this number
 /// is made, and returns whether it may be: none that answers has a command, or was told of one by
-/// this desk. Where it may not, and where none answers, a line says so.
+/// this desk; and one answers, or all desks of the hall are new. Where it may not, a line says so.
 pub fn may_make<D: Dial, F: Write>(
     alloc: Global,
     dial: &mut D,
     inquiry: Inquiry<'_>,
     desk: u8,
+    new_hall: bool,
     faults: &mut F,
 ) -> bool
     requires { length inquiry.addresses.now ≤ 5 }
-    ensures { MayMake inquiry.entry desk result (D.dialed dial.old) (D.dialed dial.new)
+    ensures { MayMake inquiry.entry desk new_hall result (D.dialed dial.old) (D.dialed dial.new)
         (F.contents faults.old) (F.contents faults.new) }
 {
     let known = ask_all(alloc, dial, inquiry, desk, 1, inquiry.addresses);
-    tell_known(faults, known, desk);
-    is_free(known)
+    let may = may_begin(known, new_hall);
+    if !may {
+        tell_known(faults, known, desk);
+    }
+    may
 }

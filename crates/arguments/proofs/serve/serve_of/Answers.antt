@@ -1,13 +1,18 @@
-use Rattle.std.proofs.Common.{◌∙◌, Bool, codes, refl, subst, sym}
+use Rattle.std.proofs.Common.{◌≡◌, ◌∙◌, ◌||◌, Bool, codes, false, refl, subst, sym, true}
 use Rattle.clap.specs.Words.{found_of, rows_of}
 use Rattle.clap.proofs.WalkLemmas.{raw_values-rows}
 use Rattle.arguments.specs.Arguments.{IsFlag}
 use Rattle.arguments.proofs.serve.serve_of.Goals as goal
 
+neither : (x y : Bool) → x || y ≡ false → (x ≡ false) × (y ≡ false)
+neither true y h = absurd cc
+neither false y h = (refl, h)
+
 pub returns : goal.returns
 returns c =
     let f = found_of c.args.found.now in
-    let given : Bool → Type 0 = λ is_set. IsFlag (codes "new") (rows_of f) is_set in (
+    let made = c.makes_at-makes.ensures in
+    let none = neither made.0 c.flag_at-new_hall.result (sym made.2 ∙ c.if-makes.false) in (
       refl,
       record {
         hall = c.in_ok-hall.ensures;
@@ -25,5 +30,6 @@ returns c =
         open_sheets = c.flag_at-open_sheets.ensures;
         addresses = sym (raw_values-rows f (codes "addr")) ∙ sym c.in_ok-addresses.ensures;
       },
-      subst given c.if-makes.false c.flag_at-makes.ensures,
+      subst (λ b. IsFlag (codes "new") (rows_of f) b) none.0 made.1,
+      subst (λ b. IsFlag (codes "new-hall") (rows_of f) b) none.1 c.flag_at-new_hall.ensures,
     )

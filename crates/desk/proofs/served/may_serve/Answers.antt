@@ -29,3 +29,6 @@ returns-clause-asked g c =
       m.1,
       m.2,
     )
+
+pub returns-clause-quiet : goal.returns-clause-quiet
+returns-clause-quiet g c = c.may_make.ensures.3
