@@ -1,9 +1,16 @@
 -- Under which keys the connections to the other desks are.
-use Rattle.std.specs.Prelude.{◌≡◌, ◌⊎◌, ℕ, List, Option, IfSome, IsSome, option_map}
+use Rattle.std.specs.Prelude.{◌≡◌, ◌⊎◌, ℕ, Bool, true, false, not, List, Option, None, Some}
+use Rattle.std.specs.Prelude.{IfSome, IsSome, option_map}
 use Rattle.std.specs.List.{AllByRecursion}
 use Rattle.sealed.specs.ends.Calls.{own_key}
 use Rattle.mio_sockets.specs.declared.desk_wire.DeskWire.{DeskWire}
 use Rattle.mio_sockets.specs.declared.keyed_stream.KeyedStream.{KeyedStream}
+use Rattle.mio_sockets.specs.declared.wires.Heard.{Heard}
+use Rattle.mio_sockets.specs.declared.wires.Heard.TheVariants as heard_is
+use Rattle.mio_sockets.specs.declared.wires.Opening.{Opening}
+use Rattle.mio_sockets.specs.declared.wires.Opening.TheVariants as opening_is
+use Rattle.mio_sockets.specs.declared.wires.Trouble.{Trouble}
+use Rattle.mio_sockets.specs.declared.wires.Trouble.TheVariants as trouble_is
 
 -- the key of a connection, if it has one
 abbrev pub key_of : KeyedStream → Option (List ℕ)
@@ -12,6 +19,31 @@ key_of s = own_key s.call
 -- the key of the connection to a desk, if there is a connection
 abbrev pub wire_key : DeskWire → Option (Option (List ℕ))
 wire_key w = option_map key_of w.stream
+
+-- the key of the next connection to a desk: the hall's, or where it is turned, and there is one, the
+-- one that was the hall's
+abbrev pub next_key : (turned : Bool) → (key former : Option (List ℕ)) → Option (List ℕ)
+next_key turned key None = key
+next_key false key (Some former) = key
+next_key true key (Some former) = Some former
+
+-- whether it is turned after this went wrong: by its keys it turns each time, and else it stays
+abbrev pub turned_by : Trouble → (turned : Bool) → Bool
+turned_by (trouble_is.Key trouble) turned = not turned
+turned_by (trouble_is.System kind) turned = turned
+
+-- after this came of a connection that was begun, and was heard on one that is open, where this went
+-- wrong last
+abbrev pub turned_at : Opening → Trouble → (turned : Bool) → Bool
+turned_at opening_is.Failed trouble turned = turned_by trouble turned
+turned_at opening_is.Later trouble turned = turned
+turned_at opening_is.Open trouble turned = turned
+
+abbrev pub turned_in : Heard → Trouble → (turned : Bool) → Bool
+turned_in heard_is.Broke trouble turned = turned_by trouble turned
+turned_in heard_is.Nothing trouble turned = turned
+turned_in heard_is.Foreign trouble turned = turned
+turned_in heard_is.Ended trouble turned = turned
 
 -- the connections to the other desks: the hall's key, if it has one, and the one that was its own,
 -- while it is changed

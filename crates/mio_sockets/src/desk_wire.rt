@@ -7,10 +7,11 @@
 //! With a key a connection counts as open once the desk's preface came, and, where it isn't known
 //! who answers, the answer to the question. So a desk that has another key is never reached.
 
-ghost use Rattle.std.specs.Prelude.{◌≡◌, ◌≢◌, [], length, None};
+ghost use Rattle.std.specs.Prelude.{◌≡◌, ◌≢◌, ◌⊎◌, [], false, length, IsSome, None};
 ghost use Rattle.std.specs.Result.{result_ok};
 ghost use Rattle.polled.specs.Counts.{CountsTaken};
-ghost use Rattle.mio_sockets.specs.Keying.{key_of, wire_key};
+ghost use Rattle.mio_sockets.specs.Keying.{key_of, next_key, turned_at, turned_by, turned_in, wire_key};
+ghost use Rattle.mio_sockets.specs.declared.wires.Trouble.TheVariants as trouble_is;
 
 use crate::asking::Asking;
 use crate::keyed_stream::{Came, KeyedStream};
@@ -35,13 +36,25 @@ pub(crate) struct DeskWire {
     /// What went wrong last, or would have if the connection were given up now.
     trouble: Trouble,
     /// Whether the next connection is begun under the key that was the hall's, where there is one:
-    /// this changes each time the desk has another key.
+    /// this changes each time that one went wrong by its key.
     turned: bool,
 }
 
 /// What went wrong, as the system says it.
-fn of_system(kind: ErrorKind) -> Trouble {
+fn of_system(kind: ErrorKind) -> Trouble
+    ensures { result ≡ trouble_is.System kind }
+{
     Trouble::System { kind }
+}
+
+/// Whether the next connection is begun under the other key, once this went wrong.
+fn turned_by(trouble: Trouble, turned: bool) -> bool
+    ensures { result ≡ turned_by trouble turned }
+{
+    match trouble {
+        Trouble::Key { .. } => !turned,
+        Trouble::System { .. } => turned,
+    }
 }
 
 /// Sends what is to be sent at the front of a connection.
@@ -92,7 +105,8 @@ fn ask(stream: &mut KeyedStream, asking: Asking) -> Result<(), Trouble>
 impl DeskWire {
     /// No connection yet. `sealed`: there is a key.
     pub(crate) fn new(asking: Asking, sealed: bool) -> DeskWire
-        ensures { result.stream ≡ None }
+        ensures stream { result.stream ≡ None }
+        ensures turned { result.turned ≡ false }
     {
         DeskWire {
             asking,
@@ -105,9 +119,21 @@ impl DeskWire {
         }
     }
 
-    /// Whether the next connection is begun under the key that was the hall's, if there is one.
-    pub(crate) fn is_turned(&self) -> bool {
-        self.turned
+    /// The key under which the next connection is begun, of the hall's and of the one that was the
+    /// hall's, where there is one: at first the hall's, and the other one each time that a
+    /// connection went wrong by its key.
+    pub(crate) fn next_key(
+        &self,
+        key: Option<[u8; 32]>,
+        former: Option<[u8; 32]>,
+    ) -> Option<[u8; 32]>
+        ensures next { result ≡ next_key self.now.turned key former }
+        ensures either { (result ≡ key) ⊎ (IsSome former × (result ≡ former)) }
+    {
+        if former.is_none() {
+            return key;
+        }
+        if self.turned { former } else { key }
     }
 
     /// What went wrong last.
@@ -117,7 +143,8 @@ impl DeskWire {
 
     /// Has a connection that was begun, or could not be. False: it could not be.
     pub(crate) fn begin(&mut self, connected: io::Result<KeyedStream>) -> bool
-        ensures { self.new.stream ≡ result_ok connected }
+        ensures stream { self.new.stream ≡ result_ok connected }
+        ensures turned { self.new.turned ≡ self.old.turned }
     {
         self.foreign = false;
         match connected {
@@ -136,19 +163,23 @@ impl DeskWire {
 
     /// Notes that it isn't known any more who answers, since this went wrong.
     fn fail(&mut self, trouble: Trouble)
-        ensures { self.new.stream ≡ self.old.stream }
+        ensures stream { self.new.stream ≡ self.old.stream }
+        ensures turned { self.new.turned ≡ turned_by trouble self.old.turned }
+        ensures trouble { self.new.trouble ≡ trouble }
     {
         self.known = false;
+        self.turned = turned_by(trouble, self.turned);
         if let Trouble::Key { .. } = trouble {
             self.doubted = true;
-            self.turned = !self.turned;
         }
         self.trouble = trouble;
     }
 
     /// Notes who answered, once somebody has.
     fn note_answer(&mut self)
-        ensures { wire_key self.new ≡ wire_key self.old }
+        ensures key { wire_key self.new ≡ wire_key self.old }
+        ensures turned { self.new.turned ≡ self.old.turned }
+        ensures trouble { self.new.trouble ≡ self.old.trouble }
     {
         let Some(stream) = &mut self.stream else {
             return;
@@ -161,7 +192,8 @@ impl DeskWire {
 
     /// Whether the connection is open, once it is there, or what went wrong.
     fn is_open(&mut self) -> Result<bool, Trouble>
-        ensures { wire_key self.new ≡ wire_key self.old }
+        ensures key { wire_key self.new ≡ wire_key self.old }
+        ensures turned { self.new.turned ≡ self.old.turned }
     {
         let Some(stream) = &mut self.stream else {
             return Err(of_system(ErrorKind::NotFound));
@@ -184,7 +216,8 @@ impl DeskWire {
 
     /// What has become of the connection, which was begun.
     pub(crate) fn opening(&mut self) -> Opening
-        ensures { wire_key self.new ≡ wire_key self.old }
+        ensures key { wire_key self.new ≡ wire_key self.old }
+        ensures turned { self.new.turned ≡ turned_at result self.new.trouble self.old.turned }
     {
         let open = self.is_open();
         self.note_answer();
@@ -206,6 +239,7 @@ impl DeskWire {
         requires { bytes.now ≢ [] }
         ensures count { CountsTaken (length bytes.now) result }
         ensures key { wire_key self.new ≡ wire_key self.old }
+        ensures turned { self.new.turned ≡ self.old.turned }
     {
         let taken = match &mut self.stream {
             Some(stream) => taken_by(stream.write(bytes)),
@@ -221,12 +255,15 @@ impl DeskWire {
 
     /// Reads what comes, and drops it. What the desk said first tells who answers.
     fn listen_on(&mut self) -> Heard
-        ensures { wire_key self.new ≡ wire_key self.old }
+        ensures key { wire_key self.new ≡ wire_key self.old }
+        ensures turned { self.new.turned ≡ turned_in result self.new.trouble self.old.turned }
     {
         let Some(stream) = &mut self.stream else {
+            self.trouble = of_system(ErrorKind::NotFound);
             return Heard::Broke;
         };
         if stream.send().is_err() {
+            self.trouble = of_system(ErrorKind::ConnectionReset);
             return Heard::Broke;
         }
         let came = stream.hear(self.asking);
@@ -237,13 +274,18 @@ impl DeskWire {
         match came {
             Came::Nothing => Heard::Nothing,
             Came::Ended => Heard::Ended,
-            Came::Broke => Heard::Broke,
+            Came::Broke => {
+                self.trouble = of_system(ErrorKind::ConnectionReset);
+                Heard::Broke
+            }
         }
     }
 
     /// Hears what comes on the connection, which is open.
     pub(crate) fn hear(&mut self) -> Heard
-        ensures { wire_key self.new ≡ wire_key self.old }
+        ensures key { wire_key self.new ≡ wire_key self.old }
+        ensures turned { (self.new.turned ≡ self.old.turned)
+            ⊎ (self.new.turned ≡ turned_by self.new.trouble self.old.turned) }
     {
         let heard = if self.foreign {
             Heard::Nothing
@@ -260,7 +302,8 @@ impl DeskWire {
 
     /// Lets the connection go, if there is one, and says with it who was asked there.
     pub(crate) fn let_go(&mut self) -> Option<(KeyedStream, Asking)>
-        ensures { self.new.stream ≡ None }
+        ensures stream { self.new.stream ≡ None }
+        ensures turned { self.new.turned ≡ self.old.turned }
     {
         let stream = self.stream.take()?;
         Some((stream, self.asking))

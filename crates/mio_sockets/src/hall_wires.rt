@@ -59,17 +59,14 @@ impl HallWires {
         }
     }
 
-    /// The key under which a connection to this desk is begun, if the hall has one: the one that
-    /// was the hall's where that is named, and the desk did not know the other one last.
+    /// The key under which a connection to this desk is begun, if the hall has one:
+    /// [`DeskWire::next_key`].
     pub(crate) fn key(&self, desk: u8) -> Option<[u8; 32]>
         ensures { IsKeyOf self.now result }
     {
-        let Some(former) = self.former else {
-            return self.key;
-        };
         match self.desks.get(usize::from(desk)) {
-            Some(wire) if wire.is_turned() => Some(former),
-            _ => self.key,
+            Some(wire) => wire.next_key(self.key, self.former),
+            None => self.key,
         }
     }
 
