@@ -5,9 +5,8 @@ use Rattle.std.proofs.Common.{List, [], ◌∷◌, ◌++◌, append_assoc, appen
 use Rattle.std.proofs.Common.{set}
 use Rattle.std.proofs.Common.{Option, None, Some, Bool, true, false, arith, IsTrue, position, ◌<◌}
 use Rattle.std.proofs.lemmas.Bool.{eqb-false, ltb-false}
-use Rattle.std.proofs.lemmas.List.{reverse-append}
 use Rattle.std.proofs.lemmas.List.{take_all, take_more}
-use Rattle.std.specs.Prelude.{map, not, ◌&&◌, is_some}
+use Rattle.std.specs.Prelude.{not, ◌&&◌, is_some}
 use Rattle.answers.specs.Seen.{Seen}
 use Rattle.store.specs.declared.home.Home.{Home}
 use Rattle.polled.specs.Telling.{Tells}
@@ -16,7 +15,7 @@ use Rattle.multiplex.specs.Musts.{Accepts, Admits, Attends, IsMove, IsWatched, I
 use Rattle.multiplex.specs.Musts.{WaitsToRead}
 use Rattle.multiplex.specs.Noting.{awakes}
 use Rattle.multiplex.specs.Musts.{AsksUntil, Ends, Follows, GoesOn, Musts, NoneIsSilent, Stand}
-use Rattle.multiplex.specs.Musts.{ends_of, joined, left_at, wait_by}
+use Rattle.multiplex.specs.Musts.{AreEndsOf, IsEndOf, OffersLast, joined, left_at, wait_by}
 use Rattle.multiplex.specs.Requests.{Asks, Request, Accepting, Closing, Waited, Watching}
 use Rattle.multiplex.specs.declared.clients.Accepted.TheVariants as accepted_is
 use Rattle.polled.specs.declared.answers.Ready.{Ready}
@@ -26,7 +25,7 @@ use Rattle.multiplex.specs.declared.table.Guest.{Guest}
 use Rattle.multiplex.specs.declared.table.Table.{Table}
 use Rattle.multiplex.specs.declared.table.Terms.{Terms}
 use Rattle.multiplex.specs.model.Asking.{AsksHosted, AsksMove, AsksSome, BeginsWithMove, ClosesAt}
-use Rattle.multiplex.specs.model.Asking.{IsEndsOf, IsWatchedIf, KeepsWoken, MayClose, WakesAll}
+use Rattle.multiplex.specs.model.Asking.{IsWatchedIf, KeepsWoken, MayClose, WakesAll}
 use Rattle.multiplex.specs.Silence.{waited_for}
 use Rattle.multiplex.specs.model.Tables.{has_number, is_silent}
 use Rattle.multiplex.proofs.Looking.{none_of, some_of}
@@ -433,34 +432,71 @@ keeps_woken guests before gone after left found is home x time asked h =
 
 -- ---- all are ended
 
-ends_last : (guests : List Guest) (gone : Guest)
-    → ends_of (guests ++ gone ∷ []) ≡ Closing gone.number ∷ ends_of guests
-ends_last guests gone =
-    ap (map (λ (g : Guest). Closing g.number)) (reverse-append guests (gone ∷ []))
+ends_last : (guests : List Guest) (gone : Guest) (ends last : List Request)
+    → AreEndsOf guests ends → IsEndOf gone last → AreEndsOf (guests ++ gone ∷ []) (last ++ ends)
+ends_last [] gone ends last none is =
+    ([], last, refl, is, ap (λ (z : List Request). last ++ z) none ∙ append-nil last)
+ends_last (g ∷ guests) gone ends last h is = (
+  last ++ h.0,
+  h.1,
+  ends_last guests gone h.0 last h.2 is,
+  h.3,
+  ap (λ (z : List Request). last ++ z) h.4 ∙ sym (append_assoc last h.0 h.1),
+)
+
+-- those so far were ended: whatever ends the others ends all
+abbrev pub EndsSome : List Guest → List Guest → List Request → Type 0
+EndsSome first old asked =
+    (ends : List Request) → AreEndsOf old ends → AreEndsOf first (asked ++ ends)
+
+pub ends_none : {C : Type 0} (requests : C → Option (List Request)) (c : C) (first : List Guest)
+    → Asks requests c c (EndsSome first first)
+ends_none requests c first = ([], Tells-nil (requests c), λ ends h. h)
 
 -- one more was ended, of those that are still there the last one
 pub ends_more : {C : Type 0} (requests : C → Option (List Request)) (c between later : C)
     (first old new : List Guest) (gone : Guest)
     → old ≡ new ++ gone ∷ []
-    → Asks requests c between (λ asked. asked ++ ends_of old ≡ ends_of first)
-    → Tells (requests between) (requests later) (Closing gone.number ∷ [])
-    → Asks requests c later (λ asked. asked ++ ends_of new ≡ ends_of first)
-ends_more requests c between later first old new gone is h told = (
-  h.0 ++ Closing gone.number ∷ [],
-  Tells-trans (requests c) (requests between) (requests later) h.0 (Closing gone.number ∷ [])
-      h.1 told,
-  append_assoc h.0 (Closing gone.number ∷ []) (ends_of new)
-      ∙ ap (λ (z : List Request). h.0 ++ z) (sym (ap ends_of is ∙ ends_last new gone)) ∙ h.2,
+    → Asks requests c between (EndsSome first old)
+    → Asks requests between later (IsEndOf gone)
+    → Asks requests c later (EndsSome first new)
+ends_more requests c between later first old new gone is h k = (
+  h.0 ++ k.0,
+  Tells-trans (requests c) (requests between) (requests later) h.0 k.0 h.1 k.1,
+  λ ends ended.
+      subst (λ (z : List Request). AreEndsOf first z) (sym (append_assoc h.0 k.0 ends))
+      (h.2 (k.0 ++ ends)
+      (subst (λ (z : List Guest). AreEndsOf z (k.0 ++ ends)) (sym is)
+      (ends_last new gone ends k.0 ended k.2))),
 )
 
 pub ends_all : {C : Type 0} (requests : C → Option (List Request)) (c later : C)
-    (first old : List Guest) → old ≡ []
-    → Asks requests c later (λ asked. asked ++ ends_of old ≡ ends_of first)
-    → Asks requests c later (IsEndsOf first)
+    (first old : List Guest) → old ≡ [] → Asks requests c later (EndsSome first old)
+    → Asks requests c later (AreEndsOf first)
 ends_all requests c later first old none h = (
   h.0,
   h.1,
-  sym (append-nil h.0) ∙ ap (λ (z : List Guest). h.0 ++ ends_of z) (sym none) ∙ h.2,
+  subst (λ (z : List Request). AreEndsOf first z) (append-nil h.0)
+      (h.2 [] (subst (λ (z : List Guest). AreEndsOf z []) (sym none) refl)),
+)
+
+-- what is offered, and then ended
+pub offers_none : {C : Type 0} (requests : C → Option (List Request)) (c : C) (k : ℕ)
+    (talk : Guarding) (writes : Bool) → (IsTrue writes ↔ (talk.output ≢ [])) → writes ≡ false
+    → Asks requests c c (OffersLast k talk.output)
+offers_none requests c k talk writes sends none =
+    asks_none requests c (OffersLast k talk.output)
+    (inr (all_sent talk.output (not_true writes sends none), refl))
+
+pub offers_ends : {C : Type 0} (requests : C → Option (List Request)) (c between later : C)
+    (g : Guest) → Asks requests c between (OffersLast g.number g.talk.output)
+    → Tells (requests between) (requests later) (Closing g.number ∷ [])
+    → Asks requests c later (IsEndOf g)
+offers_ends requests c between later g h told = (
+  h.0 ++ Closing g.number ∷ [],
+  Tells-trans (requests c) (requests between) (requests later) h.0 (Closing g.number ∷ []) h.1
+      told,
+  (h.0, h.2, refl),
 )
 
 pub none_left : (guests : List Guest) → (0 < length guests → false ≡ true) → guests ≡ []

@@ -1,11 +1,11 @@
 -- No more clients come than are asked for.
-use Rattle.std.proofs.Common.{sym, subst, ◌≤◌, ℕ, ◌∷◌, List, Option, arith, [], ap}
+use Rattle.std.proofs.Common.{sym, subst, ◌≤◌, ℕ, ◌∷◌, List, Option, None, Some, arith, [], ap}
 use Rattle.store.specs.declared.home.Home.{Home}
 use Rattle.serving.specs.Making.{Way}
 use Rattle.multiplex.specs.Happenings.{Happened}
 use Rattle.multiplex.specs.Passing.{Change, Changed, Changes, Clock, Comes, IsServedEach, Lobby}
 use Rattle.multiplex.specs.Passing.{NoSocket, Pass, Room, Shut, Step, Stops, Stray, Takes, Ticked}
-use Rattle.multiplex.specs.Passing.{TurnedAway, Unwatched, Visit}
+use Rattle.multiplex.specs.Passing.{TakesLast, TurnedAway, Unwatched, Visit}
 use Rattle.multiplex.specs.declared.ends.ServedEach.{ServedEach}
 use Rattle.multiplex.specs.declared.table.Terms.{Terms}
 
@@ -21,6 +21,9 @@ few_changed home t (TurnedAway k random) a b h few =
 few_changed home t NoSocket a b h few = subst (λ l. HasFew t l) (sym h.1) few
 few_changed home t (Unwatched k) a b h few = subst (λ l. HasFew t l) (sym h.1) few
 few_changed home t (Stray k) a b h few = subst (λ l. HasFew t l) (sym h.2) few
+few_changed home t (TakesLast k None) a b h few = subst (λ l. HasFew t l) (sym h.1) few
+few_changed home t (TakesLast k (Some bytes)) a b h few =
+    subst (λ l. HasFew t l) (sym h.4.left) few
 few_changed home t (Shut k w) a b h few = subst (λ l. HasFew t l) (sym h.3.left) few
 few_changed home t (Stops e) a b h few = subst (λ l. HasFew t l) (sym h.2) few
 

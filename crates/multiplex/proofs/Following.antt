@@ -21,16 +21,18 @@ use Rattle.serving.specs.Making.{Outside, Way}
 use Rattle.serving.specs.OwnTicks.{tick_begun}
 use Rattle.serving.specs.Turns.{Talk}
 use Rattle.serving.specs.TurnLaw.{Follow, Place, Turn, Turns, begun_in, handed_out, received}
+use Rattle.serving.specs.TurnLaw.{Took as TookOf}
 use Rattle.serving.proofs.Makings.{Makes-nil, Makes-trans}
 use Rattle.store.specs.declared.home.Home.{Home}
 use Rattle.multiplex.specs.EachClient.{AreDoneInTurn, Deed, EachClientIsServed, Frame, OwnTick}
 use Rattle.multiplex.specs.EachClient.{came_with, frames_in, gave, own_ticks, point_in, sides_at}
 use Rattle.multiplex.specs.EachClient.{ticks_of, took}
-use Rattle.multiplex.specs.Happenings.{Closed, Happened, Round}
+use Rattle.multiplex.specs.Happenings.{Closed, Happened, Round, Took}
 use Rattle.multiplex.specs.Noting.{fresh_notes}
 use Rattle.multiplex.specs.Passing.{Change, Changed, Changes, Clock, Comes, Lobby, NoSocket, Pass}
-use Rattle.multiplex.specs.Passing.{Room, Shut, Step, Stops, Stray, Takes, Ticked, TicksBy}
-use Rattle.multiplex.specs.Passing.{TurnedAway, Unwatched, Visit, Visits, guest, lobby, staying}
+use Rattle.multiplex.specs.Passing.{Room, Shut, Step, Stops, Stray, Takes, TakesLast, Ticked}
+use Rattle.multiplex.specs.Passing.{TicksBy, TurnedAway, Unwatched, Visit, Visits, guest, lobby}
+use Rattle.multiplex.specs.Passing.{staying}
 use Rattle.multiplex.specs.Passing.{told, told_all, told_change, told_end, told_why, with_node}
 use Rattle.multiplex.specs.declared.ends.Over.{Over}
 use Rattle.multiplex.specs.declared.ends.Over.TheVariants as over
@@ -152,6 +154,151 @@ stays_so home t before frames guards a b js seen outside gives stands each = (
 round_gives : (now k : ℕ) → Gives k (Round now ∷ []) [] []
 round_gives now k = record { gave = refl; took = refl; earlier = refl }
 
+-- ---- a client has turns
+
+some_is : (o : Option (List ℕ)) → IsSome o → (x : List ℕ) × (o ≡ Some x)
+some_is None there = absurd cc
+some_is (Some x) there = (x, refl)
+
+-- its own stream goes on with its turns
+kept_own : {V : Type 0} {way : Way V} (doors : Doors) (server : List ℕ) (o : Option (List ℕ))
+    (g : Guarding) (turns inner : List Turn) (p q : GuardTurns.Place way)
+    (came handed answers sent : List ℕ) (begun : List Begun) → o ≡ Some server → g ≡ p.guard
+    → GoesAll doors server turns p q inner → KeptBy o doors g came handed answers sent begun
+    → KeptBy o doors q.guard (came ++ received turns) (handed ++ received inner)
+    (answers ++ handed_out inner) (sent ++ handed_out turns) (begun ++ begun_in turns)
+kept_own doors server o g turns inner p q came handed answers sent begun is at goes kept =
+    let was = subst (λ z. KeptBy z doors g came handed answers sent begun) is kept in
+    subst
+    (λ z. KeptBy z doors q.guard (came ++ received turns) (handed ++ received inner)
+    (answers ++ handed_out inner) (sent ++ handed_out turns) (begun ++ begun_in turns)) (sym is)
+    (goes.keeps came handed answers sent begun
+    (subst (λ z. Keeps doors server z came handed answers sent begun) at was))
+
+-- each other one's is as it was
+kept_other : (doors : Doors) (o : Option (List ℕ)) (g : Guarding)
+    (came handed answers sent : List ℕ) (begun : List Begun)
+    → KeptBy o doors g came handed answers sent begun
+    → KeptBy o doors g (came ++ []) (handed ++ []) (answers ++ []) (sent ++ []) (begun ++ [])
+kept_other doors o g came handed answers sent begun kept =
+    kept_as doors g o o came (came ++ []) handed (handed ++ []) answers (answers ++ []) sent
+    (sent ++ []) begun (begun ++ []) refl (sym (append-nil came)) (sym (append-nil handed))
+    (sym (append-nil answers)) (sym (append-nil sent)) (sym (append-nil begun)) kept
+
+-- so it stands with each client
+visited : {V : Type 0} {way : Way V} (home : Home) (doors : Doors) (server : List ℕ)
+    (before js : List Happened) (frames fs : List Served) (guards : ℕ → Guarding) (k : ℕ)
+    (turns inner : List Turn) (p q : GuardTurns.Place way) (new : ℕ → Talk)
+    (each : EachBehind home doors before frames guards)
+    → came_with k before ≡ Some server → guards k ≡ p.guard → new k ≡ q.guard.talk
+    → ((j : ℕ) → j ≢ k → new j ≡ (guards j).talk)
+    → ((j : ℕ) (own : Bool) → eqb k j ≡ own
+    → Gives j js (cond own (received turns) []) (cond own (handed_out turns) []))
+    → GoesAll doors server turns p q inner
+    → ((j : ℕ) → HoldsSome home ((each j).handed ++ received (turns_of j (numbered k inner)))
+    ((each j).answers ++ handed_out (turns_of j (numbered k inner)))
+    (served_of j frames ++ served_of j fs) (new j))
+    → ((j : ℕ) → begun_of (served_of j fs) ≡ begun_in (turns_of j (numbered k inner)))
+    → EachBehind home doors (before ++ js) (frames ++ fs) (put k q.guard guards)
+visited home doors server before js frames fs guards k turns inner p q new each came at moved rest
+    gives goes holds begins j = pick (eqb k j) refl
+  where
+    pick : (own : Bool) → eqb k j ≡ own
+        → Behind home doors j (before ++ js) (frames ++ fs) (cond own q.guard (guards j))
+    pick true is =
+        let same : k ≡ j = eqb-true k j is in
+        let mine : turns_of j (numbered k inner) ≡ inner = turns_numbered j k true is inner in
+        let h = each j in
+        more_behind home doors j before js frames fs (guards j) q.guard (received turns)
+        (handed_out turns) (received inner) (handed_out inner) (begun_in turns) h (gives j true is)
+        (begins j ∙ ap (λ z. begun_in z) mine ∙ goes.begins)
+        (subst (λ z. HoldsSome home (h.handed ++ received inner) (h.answers ++ handed_out inner)
+        (served_of j frames ++ served_of j fs) z) (ap new (sym same) ∙ moved)
+        (subst (λ z. HoldsSome home (h.handed ++ received z) (h.answers ++ handed_out z)
+        (served_of j frames ++ served_of j fs) (new j)) mine (holds j)))
+        (kept_own doors server (came_with j before) (guards j) turns inner p q (gave j before)
+        h.handed h.answers (took j before) (begun_of (served_of j frames))
+        (ap (λ z. came_with z before) (sym same) ∙ came) (ap guards (sym same) ∙ at) goes h.kept)
+    pick false is =
+        let apart : k ≢ j = eqb-false k j is in
+        let mine : turns_of j (numbered k inner) ≡ [] = turns_numbered j k false is inner in
+        let h = each j in
+        more_behind home doors j before js frames fs (guards j) (guards j) [] [] [] [] [] h
+        (gives j false is) (begins j ∙ ap (λ z. begun_in z) mine)
+        (subst (λ z. HoldsSome home (h.handed ++ []) (h.answers ++ [])
+        (served_of j frames ++ served_of j fs) z) (rest j (λ e. apart (sym e)))
+        (subst (λ z. HoldsSome home (h.handed ++ received z) (h.answers ++ handed_out z)
+        (served_of j frames ++ served_of j fs) (new j)) mine (holds j)))
+        (kept_other doors (came_with j before) (guards j) (gave j before) h.handed h.answers
+        (took j before) (begun_of (served_of j frames)) h.kept)
+
+abbrev as_deeds : List Served → List Deed
+as_deeds [] = []
+as_deeds (f ∷ fs) = Frame f ∷ as_deeds fs
+
+frames_of_deeds : (fs : List Served) → frames_in (as_deeds fs) ≡ fs
+frames_of_deeds [] = refl
+frames_of_deeds (f ∷ fs) = ap (λ z. f ∷ z) (frames_of_deeds fs)
+
+no_own_ticks : (fs : List Served) → own_ticks (as_deeds fs) ≡ []
+no_own_ticks [] = refl
+no_own_ticks (f ∷ fs) = no_own_ticks fs
+
+done_frames : {V : Type 0} {way : Way V} (home : Home) (a b : Point way) (fs : List Served)
+    → AreServedInTurn home a fs b → AreDoneInTurn home a (as_deeds fs) b
+done_frames home a b [] h = h
+done_frames home a b (f ∷ fs) h =
+    (h.0, (h.0, h.1, refl), done_frames home h.0 b fs h.2)
+
+-- One client had these turns, of which this is told. It stays, or leaves.
+after_turns : {V : Type 0} {way : Way V} (home : Home) (t : Terms) (before : List Happened)
+    (frames : List Served) (guards : ℕ → Guarding) (k : ℕ) (turns : List Turn) (js : List Happened)
+    (a b : Room way) (front behind : List Guest) (old new : Guest)
+    → StandsIn home t.wire before guards a.lobby → EachBehind home t.doors before frames guards
+    → a.lobby.guests ≡ front ++ old ∷ behind → old.number ≡ k → new.number ≡ k
+    → GuardTurns.Follow (with_node a old.talk) turns (with_node b new.talk)
+    → ((j : ℕ) (own : Bool) → eqb k j ≡ own
+    → Gives j js (cond own (received turns) []) (cond own (handed_out turns) []))
+    → (Stands home t.wire (before ++ js) (put k new.talk guards) (front ++ new ∷ behind)
+    a.lobby.next → StandsIn home t.wire (before ++ js) (put k new.talk guards) b.lobby)
+    → LedSome home t before frames a b js []
+after_turns home t before frames guards k turns js a b front behind old new s each found was same
+    follow gives left =
+    let next = a.lobby.next in
+    let there = subst (λ z. Stands home t.wire before guards z next) found s in
+    let here = (all_back (Hosted before guards) front (old ∷ behind) there.hosted).0 in
+    let at : guards k ≡ old.talk = ap guards (sym was) ∙ here.at in
+    let seed =
+    some_is (came_with k before) (subst (λ (n : ℕ). IsSome (came_with n before)) was here.came) in
+    let p = with_node a old.talk in
+    let q = with_node b new.talk in
+    let go = turns_go t.doors seed.0 turns p q follow in
+    let talks = λ (j : ℕ). (guards j).talk in
+    let moved =
+    went k talks (within p) (within q) go.0 (ap (λ (g : Guarding). g.talk) at) go.1.follow in
+    let after =
+    goes_on home (λ (j : ℕ). (each j).handed) (λ (j : ℕ). (each j).answers)
+    (λ (j : ℕ). served_of j frames) (numbered k go.0) (conns talks a.seen a.outside)
+    (conns moved.0 b.seen b.outside) (λ (j : ℕ). (each j).holds) moved.1.follow in
+    let kept =
+    stands_told home t.wire before js (put k new.talk guards) (front ++ new ∷ behind) next
+    (λ j. (gives j (eqb k j) refl).earlier)
+    (stays home t.wire before guards k front old new behind next was same there) in (
+      as_deeds after.0,
+      put k new.talk guards,
+      record {
+        done = done_frames home (point_in a) (point_in b) after.0 after.1;
+        own = no_own_ticks after.0;
+        stands = left kept;
+        each =
+            subst
+            (λ z. EachBehind home t.doors (before ++ js) (frames ++ z) (put k new.talk guards))
+            (sym (frames_of_deeds after.0))
+            (visited home t.doors seed.0 before js frames after.0 guards k turns go.0 p q moved.0
+            each seed.1 at moved.1.at moved.1.rest gives go.1 after.2 after.3);
+      },
+    )
+
 -- ---- a change of which the node knows nothing
 
 nothing_gives : (k : ℕ) → Gives k [] [] []
@@ -255,6 +402,27 @@ after_change home t before frames guards (Stray j) a b seen outside h s each =
     stays_so home t before frames guards a b (told_change (Stray j)) seen outside
     (λ k. record { gave = refl; took = refl; earlier = refl })
     (subst (λ (l : Lobby). StandsIn home t.wire before guards l) (sym h.2) s) each
+after_change home t before frames guards (TakesLast j None) a b seen outside h s each =
+    stays_so home t before frames guards a b (told_change (TakesLast j None)) seen outside
+    (λ k. record { gave = refl; took = refl; earlier = refl })
+    (subst (λ (l : Lobby). StandsIn home t.wire before guards l) (sym h.1) s) each
+after_change home t before frames guards (TakesLast j (Some bytes)) a b seen outside h s each =
+    let new = h.3 in
+    let k = h.4 in
+    after_turns home t before frames guards j (TookOf bytes ∷ []) (Took j bytes ∷ []) a b h.0 h.1
+    h.2 new s each k.found k.number (ap (λ (g : Guest). g.number) k.same ∙ k.number) (
+      with_node b new.talk,
+      (
+        k.front,
+        ap (λ (g : Guest). g.talk) k.same,
+        record { seen = seen; outside = outside },
+      ),
+      refl,
+    )
+    (λ i own is. turns_give i j own is (TookOf bytes ∷ []) [] (nothing_gives i))
+    (λ kept.
+    subst (λ (l : Lobby). StandsIn home t.wire (before ++ Took j bytes ∷ []) (put j new.talk guards)
+    l) (sym k.left) kept)
 after_change home t before frames guards (Shut j w) a b seen outside h s each =
     stays_so home t before frames guards a b (told_change (Shut j w)) seen outside (closed_gives j)
     (subst (λ (l : Lobby). StandsIn home t.wire before guards l) (sym h.3.left)
@@ -265,100 +433,6 @@ after_change home t before frames guards (Stops e) a b seen outside h s each =
     (subst (λ (l : Lobby). StandsIn home t.wire before guards l) (sym h.2) s) each
 
 -- ---- a client that is ready
-
-some_is : (o : Option (List ℕ)) → IsSome o → (x : List ℕ) × (o ≡ Some x)
-some_is None there = absurd cc
-some_is (Some x) there = (x, refl)
-
--- its own stream goes on with its turns
-kept_own : {V : Type 0} {way : Way V} (doors : Doors) (server : List ℕ) (o : Option (List ℕ))
-    (g : Guarding) (turns inner : List Turn) (p q : GuardTurns.Place way)
-    (came handed answers sent : List ℕ) (begun : List Begun) → o ≡ Some server → g ≡ p.guard
-    → GoesAll doors server turns p q inner → KeptBy o doors g came handed answers sent begun
-    → KeptBy o doors q.guard (came ++ received turns) (handed ++ received inner)
-    (answers ++ handed_out inner) (sent ++ handed_out turns) (begun ++ begun_in turns)
-kept_own doors server o g turns inner p q came handed answers sent begun is at goes kept =
-    let was = subst (λ z. KeptBy z doors g came handed answers sent begun) is kept in
-    subst
-    (λ z. KeptBy z doors q.guard (came ++ received turns) (handed ++ received inner)
-    (answers ++ handed_out inner) (sent ++ handed_out turns) (begun ++ begun_in turns)) (sym is)
-    (goes.keeps came handed answers sent begun
-    (subst (λ z. Keeps doors server z came handed answers sent begun) at was))
-
--- each other one's is as it was
-kept_other : (doors : Doors) (o : Option (List ℕ)) (g : Guarding)
-    (came handed answers sent : List ℕ) (begun : List Begun)
-    → KeptBy o doors g came handed answers sent begun
-    → KeptBy o doors g (came ++ []) (handed ++ []) (answers ++ []) (sent ++ []) (begun ++ [])
-kept_other doors o g came handed answers sent begun kept =
-    kept_as doors g o o came (came ++ []) handed (handed ++ []) answers (answers ++ []) sent
-    (sent ++ []) begun (begun ++ []) refl (sym (append-nil came)) (sym (append-nil handed))
-    (sym (append-nil answers)) (sym (append-nil sent)) (sym (append-nil begun)) kept
-
--- so it stands with each client
-visited : {V : Type 0} {way : Way V} (home : Home) (doors : Doors) (server : List ℕ)
-    (before js : List Happened) (frames fs : List Served) (guards : ℕ → Guarding) (k : ℕ)
-    (turns inner : List Turn) (p q : GuardTurns.Place way) (new : ℕ → Talk)
-    (each : EachBehind home doors before frames guards)
-    → came_with k before ≡ Some server → guards k ≡ p.guard → new k ≡ q.guard.talk
-    → ((j : ℕ) → j ≢ k → new j ≡ (guards j).talk)
-    → ((j : ℕ) (own : Bool) → eqb k j ≡ own
-    → Gives j js (cond own (received turns) []) (cond own (handed_out turns) []))
-    → GoesAll doors server turns p q inner
-    → ((j : ℕ) → HoldsSome home ((each j).handed ++ received (turns_of j (numbered k inner)))
-    ((each j).answers ++ handed_out (turns_of j (numbered k inner)))
-    (served_of j frames ++ served_of j fs) (new j))
-    → ((j : ℕ) → begun_of (served_of j fs) ≡ begun_in (turns_of j (numbered k inner)))
-    → EachBehind home doors (before ++ js) (frames ++ fs) (put k q.guard guards)
-visited home doors server before js frames fs guards k turns inner p q new each came at moved rest
-    gives goes holds begins j = pick (eqb k j) refl
-  where
-    pick : (own : Bool) → eqb k j ≡ own
-        → Behind home doors j (before ++ js) (frames ++ fs) (cond own q.guard (guards j))
-    pick true is =
-        let same : k ≡ j = eqb-true k j is in
-        let mine : turns_of j (numbered k inner) ≡ inner = turns_numbered j k true is inner in
-        let h = each j in
-        more_behind home doors j before js frames fs (guards j) q.guard (received turns)
-        (handed_out turns) (received inner) (handed_out inner) (begun_in turns) h (gives j true is)
-        (begins j ∙ ap (λ z. begun_in z) mine ∙ goes.begins)
-        (subst (λ z. HoldsSome home (h.handed ++ received inner) (h.answers ++ handed_out inner)
-        (served_of j frames ++ served_of j fs) z) (ap new (sym same) ∙ moved)
-        (subst (λ z. HoldsSome home (h.handed ++ received z) (h.answers ++ handed_out z)
-        (served_of j frames ++ served_of j fs) (new j)) mine (holds j)))
-        (kept_own doors server (came_with j before) (guards j) turns inner p q (gave j before)
-        h.handed h.answers (took j before) (begun_of (served_of j frames))
-        (ap (λ z. came_with z before) (sym same) ∙ came) (ap guards (sym same) ∙ at) goes h.kept)
-    pick false is =
-        let apart : k ≢ j = eqb-false k j is in
-        let mine : turns_of j (numbered k inner) ≡ [] = turns_numbered j k false is inner in
-        let h = each j in
-        more_behind home doors j before js frames fs (guards j) (guards j) [] [] [] [] [] h
-        (gives j false is) (begins j ∙ ap (λ z. begun_in z) mine)
-        (subst (λ z. HoldsSome home (h.handed ++ []) (h.answers ++ [])
-        (served_of j frames ++ served_of j fs) z) (rest j (λ e. apart (sym e)))
-        (subst (λ z. HoldsSome home (h.handed ++ received z) (h.answers ++ handed_out z)
-        (served_of j frames ++ served_of j fs) (new j)) mine (holds j)))
-        (kept_other doors (came_with j before) (guards j) (gave j before) h.handed h.answers
-        (took j before) (begun_of (served_of j frames)) h.kept)
-
-abbrev as_deeds : List Served → List Deed
-as_deeds [] = []
-as_deeds (f ∷ fs) = Frame f ∷ as_deeds fs
-
-frames_of_deeds : (fs : List Served) → frames_in (as_deeds fs) ≡ fs
-frames_of_deeds [] = refl
-frames_of_deeds (f ∷ fs) = ap (λ z. f ∷ z) (frames_of_deeds fs)
-
-no_own_ticks : (fs : List Served) → own_ticks (as_deeds fs) ≡ []
-no_own_ticks [] = refl
-no_own_ticks (f ∷ fs) = no_own_ticks fs
-
-done_frames : {V : Type 0} {way : Way V} (home : Home) (a b : Point way) (fs : List Served)
-    → AreServedInTurn home a fs b → AreDoneInTurn home a (as_deeds fs) b
-done_frames home a b [] h = h
-done_frames home a b (f ∷ fs) h =
-    (h.0, (h.0, h.1, refl), done_frames home h.0 b fs h.2)
 
 visit_gives : (k : ℕ) (turns : List Turn) (fate : Option Why) (j : ℕ) (own : Bool) → eqb k j ≡ own
     → Gives j (told (Visit k turns fate)) (cond own (received turns) [])
@@ -374,44 +448,12 @@ after_visit : {V : Type 0} {way : Way V} (home : Home) (t : Terms) (before : Lis
     → Visits k turns fate a b front behind old new
     → LedSome home t before frames a b (told (Visit k turns fate)) []
 after_visit home t before frames guards k turns fate a b front behind old new s each h =
-    let next = a.lobby.next in
-    let js = told (Visit k turns fate) in
-    let found = subst (λ z. Stands home t.wire before guards z next) h.found s in
-    let here = (all_back (Hosted before guards) front (old ∷ behind) found.hosted).0 in
-    let at : guards k ≡ old.talk = ap guards (sym h.number) ∙ here.at in
-    let seed =
-    some_is (came_with k before) (subst (λ (n : ℕ). IsSome (came_with n before)) h.number here.came)
-    in
-    let p = with_node a old.talk in
-    let q = with_node b new.talk in
-    let go = turns_go t.doors seed.0 turns p q h.follow in
-    let talks = λ (j : ℕ). (guards j).talk in
-    let moved =
-    went k talks (within p) (within q) go.0 (ap (λ (g : Guarding). g.talk) at) go.1.follow in
-    let after =
-    goes_on home (λ (j : ℕ). (each j).handed) (λ (j : ℕ). (each j).answers)
-    (λ (j : ℕ). served_of j frames) (numbered k go.0) (conns talks a.seen a.outside)
-    (conns moved.0 b.seen b.outside) (λ (j : ℕ). (each j).holds) moved.1.follow in
-    let kept =
-    stands_told home t.wire before js (put k new.talk guards) (front ++ new ∷ behind) next
-    (λ j. (visit_gives k turns fate j (eqb k j) refl).earlier)
-    (stays home t.wire before guards k front old new behind next h.number h.same found) in (
-      as_deeds after.0,
-      put k new.talk guards,
-      record {
-        done = done_frames home (point_in a) (point_in b) after.0 after.1;
-        own = no_own_ticks after.0;
-        stands =
-            subst (λ (l : Lobby). StandsIn home t.wire (before ++ js) (put k new.talk guards) l)
-            (sym h.left) (left fate kept);
-        each =
-            subst
-            (λ z. EachBehind home t.doors (before ++ js) (frames ++ z) (put k new.talk guards))
-            (sym (frames_of_deeds after.0))
-            (visited home t.doors seed.0 before js frames after.0 guards k turns go.0 p q moved.0
-            each seed.1 at moved.1.at moved.1.rest (visit_gives k turns fate) go.1 after.2 after.3);
-      },
-    )
+    after_turns home t before frames guards k turns (told (Visit k turns fate)) a b front behind old
+    new s each h.found h.number h.same h.follow (visit_gives k turns fate)
+    (λ kept.
+    subst
+    (λ (l : Lobby). StandsIn home t.wire (before ++ told (Visit k turns fate))
+    (put k new.talk guards) l) (sym h.left) (left fate kept))
   where
     left : (f : Option Why)
         → Stands home t.wire (before ++ told (Visit k turns fate)) (put k new.talk guards)

@@ -8,8 +8,8 @@ use Rattle.store.specs.declared.home.Home.{Home}
 use Rattle.ticking.specs.Ticking.{Look, Ticking}
 use Rattle.multiplex.specs.EachClient.{TicksNeedAPeriod, ticks_of}
 use Rattle.multiplex.specs.Passing.{Change, Changed, Changes, Clock, Comes, Lobby, NoSocket, Pass}
-use Rattle.multiplex.specs.Passing.{Room, Shut, Step, Stops, Stray, Ticked, TurnedAway, Unwatched}
-use Rattle.multiplex.specs.Passing.{Visit, look_in, looked, ticks_after, ticks_at}
+use Rattle.multiplex.specs.Passing.{Room, Shut, Step, Stops, Stray, TakesLast, Ticked, TurnedAway}
+use Rattle.multiplex.specs.Passing.{Unwatched, Visit, look_in, looked, ticks_after, ticks_at}
 use Rattle.multiplex.specs.declared.own_ticks.OwnTicks.{OwnTicks}
 use Rattle.multiplex.specs.declared.table.Terms.{Terms}
 
@@ -23,6 +23,8 @@ after_change home t (TurnedAway k random) a b h = ap (λ (l : Lobby). l.own) h.e
 after_change home t NoSocket a b h = ap (λ (l : Lobby). l.own) h.1
 after_change home t (Unwatched k) a b h = ap (λ (l : Lobby). l.own) h.1
 after_change home t (Stray k) a b h = ap (λ (l : Lobby). l.own) h.2
+after_change home t (TakesLast k None) a b h = ap (λ (l : Lobby). l.own) h.1
+after_change home t (TakesLast k (Some bytes)) a b h = ap (λ (l : Lobby). l.own) h.4.left
 after_change home t (Shut k w) a b h = ap (λ (l : Lobby). l.own) h.3.left
 after_change home t (Stops e) a b h = ap (λ (l : Lobby). l.own) h.2
 

@@ -13,7 +13,8 @@ use Rattle.wire.specs.declared.frame.What.{What}
 use Rattle.wire.specs.declared.frame.What.TheVariants as what
 use Rattle.multiplex.specs.Passing.{AreMessages, Change, Changed, Changes, Clock, Comes, Lobby}
 use Rattle.multiplex.specs.Passing.{NoSocket, Pass, Room, Shares, SharesLast, SharesOne, Shut}
-use Rattle.multiplex.specs.Passing.{Step, Stops, Stray, Ticked, TurnedAway, Unwatched, Visit}
+use Rattle.multiplex.specs.Passing.{Step, Stops, Stray, TakesLast, Ticked, TurnedAway, Unwatched}
+use Rattle.multiplex.specs.Passing.{Visit}
 use Rattle.multiplex.specs.SharedTurns.{AreShared, TurnsAreShared, begun_by, count_dear}
 use Rattle.multiplex.specs.SharedTurns.{count_others, rounds, visits}
 use Rattle.multiplex.specs.declared.table.Terms.{Terms}
@@ -30,6 +31,8 @@ same_spent home t (TurnedAway k random) a b h = ap (λ (l : Lobby). l.spent) h.e
 same_spent home t NoSocket a b h = ap (λ (l : Lobby). l.spent) h.1
 same_spent home t (Unwatched k) a b h = ap (λ (l : Lobby). l.spent) h.1
 same_spent home t (Stray k) a b h = ap (λ (l : Lobby). l.spent) h.2
+same_spent home t (TakesLast k None) a b h = ap (λ (l : Lobby). l.spent) h.1
+same_spent home t (TakesLast k (Some bytes)) a b h = ap (λ (l : Lobby). l.spent) h.4.left
 same_spent home t (Shut k w) a b h = ap (λ (l : Lobby). l.spent) h.3.left
 same_spent home t (Stops e) a b h = ap (λ (l : Lobby). l.spent) h.2
 

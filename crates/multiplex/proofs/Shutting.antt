@@ -6,12 +6,12 @@ use Rattle.std.proofs.lemmas.Bool.{ltb-true}
 use Rattle.std.proofs.lemmas.List.Quantifiers.{position-Some}
 use Rattle.store.specs.declared.home.Home.{Home}
 use Rattle.wire.specs.declared.values.Version.{Version}
-use Rattle.guarded.specs.Guarding.{begun, fresh_guard}
+use Rattle.guarded.specs.Guarding.{Guarding, begun, fresh_guard}
 use Rattle.std.specs.List.{AllByRecursion}
 use Rattle.polled.specs.Telling.{Tells}
 use Rattle.multiplex.specs.Happenings.{Happened, Broke, Came, Closed, Full, watched}
 use Rattle.multiplex.specs.Passing.{Change, Changes, Comes, Lobby, NoSocket, Shut, TurnedAway}
-use Rattle.multiplex.specs.Passing.{Unwatched}
+use Rattle.multiplex.specs.Passing.{TakesLast, Unwatched}
 use Rattle.multiplex.specs.Passing.{Enters, IsCause, guest, lobby, told_change}
 use Rattle.multiplex.specs.declared.dear.DearTurns.{DearTurns}
 use Rattle.multiplex.specs.declared.ends.Over.{Over}
@@ -21,8 +21,9 @@ use Rattle.multiplex.specs.declared.own_ticks.OwnTicks.{OwnTicks}
 use Rattle.multiplex.specs.declared.table.Guest.{Guest}
 use Rattle.multiplex.specs.declared.table.Table.{Table}
 use Rattle.multiplex.specs.declared.table.Terms.{Terms}
-use Rattle.multiplex.specs.model.Scenes.{AltersSome, ChangeAll, Empties, IsShut, Loses}
-use Rattle.multiplex.specs.model.Scenes.{Welcomes}
+use Rattle.multiplex.specs.model.Scenes.{AltersSome, ChangeAll, Empties, EndsLast, IsShut, Loses}
+use Rattle.multiplex.specs.model.Scenes.{Welcomes, told_changes}
+use Rattle.multiplex.specs.model.Visiting.{Sends}
 use Rattle.answers.specs.Seen.{Seen}
 use Rattle.wire.specs.Ranges.{IsDifference}
 use Rattle.wire.specs.declared.standing.Difference.{Difference}
@@ -312,42 +313,109 @@ shut_fewer happened place over old new c later h =
 
 -- ---- all are ended
 
+-- these stand in a lobby in place of those of a table, serving is over
+abbrev over_with : Table → Over → List Guest → Lobby
+over_with t over guests = lobby guests t.next t.time t.own t.dear.spent t.differs (Some over)
+
+some_none : (over : Over) → Some over ≡ None → ⊥
+some_none over e = absurd cc
+
+-- what is told once a client was offered what is to be sent to it, and which guest it is then
+record Offered {C : Type 0} (happened : C → Option (List Happened)) (home : Home) (t : Terms)
+    (over : Over) (mid : Table) (front : List Guest) (gone : Guest) (c later : C) : Type 0 where
+  guest : Guest
+  number : guest.number ≡ gone.number
+  changes : List Change
+  changed :
+      ChangeAll home t (over_with mid over (front ++ gone ∷ [])) changes
+      (over_with mid over (front ++ guest ∷ []))
+  told : Tells (happened c) (happened later) (told_changes changes)
+
+offered : {C : Type 0} (happened : C → Option (List Happened)) (home : Home) (t : Terms)
+    (over : Over) (mid : Table) (front : List Guest) (gone : Guest) (talk : Guarding) (ok : Bool)
+    (c later : C) → Sends happened gone.number ok c later gone.talk talk
+    → Offered happened home t over mid front gone c later
+offered happened home t over mid front gone talk true c later (inl k) =
+    let away : Guest = record gone { talk = talk } in
+    record {
+      guest = away;
+      number = refl;
+      changes = TakesLast gone.number (Some k.0) ∷ [];
+      changed = (
+        over_with mid over (front ++ away ∷ []),
+        (
+          front,
+          [],
+          gone,
+          away,
+          record {
+            over = some_none over;
+            found = refl;
+            number = refl;
+            front = k.1;
+            same = ap (λ (z : Guarding). record gone { talk = z }) k.2;
+            left = refl;
+          },
+        ),
+        refl,
+      );
+      told = k.3;
+    }
+offered happened home t over mid front gone talk true c later (inr k) =
+    record { guest = gone; number = refl; changes = []; changed = refl; told = k.1 }
+offered happened home t over mid front gone talk false c later k = record {
+  guest = gone;
+  number = refl;
+  changes = TakesLast gone.number None ∷ [];
+  changed = (over_with mid over (front ++ gone ∷ []), (some_none over, refl), refl);
+  told = k.1;
+}
+
 -- one more was ended, of those that are still there the last one
 pub empties_more : {C : Type 0} (happened : C → Option (List Happened)) (home : Home) (t : Terms)
-    (over : Over) (old mid new : Table) (gone : Guest) (c between later : C)
+    (over : Over) (old mid new : Table) (gone : Guest) (talk : Guarding) (c between later : C)
     → mid.guests.items ≡ new.guests.items ++ gone ∷ [] → new.next ≡ mid.next
     → new.time ≡ mid.time → new.own ≡ mid.own → new.dear ≡ mid.dear → new.differs ≡ mid.differs
     → Empties happened home t over old mid c between
-    → Tells (happened between) (happened later) (Closed gone.number ∷ [])
+    → EndsLast happened between later gone talk
     → Empties happened home t over old new c later
-empties_more happened home t over old mid new gone c between later last next time own dear differs
-    h told = (
-      h.0 ++ Shut gone.number why.Over ∷ [],
+empties_more happened home t over old mid new gone talk c between later last next time own dear
+    differs h (end, ok, sends, closed) =
+    let o = offered happened home t over mid new.guests.items gone talk ok between end sends in
+    let shut = Shut gone.number why.Over ∷ [] in
+    let there : lobby_of mid (Some over) ≡ over_with mid over (new.guests.items ++ gone ∷ []) =
+    lobby_same last refl refl refl refl refl refl in (
+      h.0 ++ (o.changes ++ shut),
       ChangeAll-trans home t (lobby_of old (Some over)) (lobby_of mid (Some over))
-          (lobby_of new (Some over)) h.0 (Shut gone.number why.Over ∷ []) h.1 (
+          (lobby_of new (Some over)) h.0 (o.changes ++ shut) h.1
+          (subst (λ l. ChangeAll home t l (o.changes ++ shut) (lobby_of new (Some over)))
+          (sym there)
+          (ChangeAll-trans home t (over_with mid over (new.guests.items ++ gone ∷ []))
+          (over_with mid over (new.guests.items ++ o.guest ∷ [])) (lobby_of new (Some over))
+          o.changes shut o.changed (
             lobby_of new (Some over),
             (
               new.guests.items,
               [],
-              gone,
+              o.guest,
               record {
-                found = last;
-                number = refl;
-                cause = λ e. some_none e;
+                found = refl;
+                number = o.number;
+                cause = some_none over;
                 left =
                     lobby_same (sym (append-nil new.guests.items)) next time own
                     (spent_same new.dear mid.dear dear) differs refl;
               },
             ),
             refl,
-          ),
+          ))),
       Tells-as (happened c) (happened later) _ _
-          (sym (changes_told_both h.0 (Shut gone.number why.Over ∷ [])))
-          (Tells-trans (happened c) (happened between) (happened later) _ _ h.2 told),
+          (sym (changes_told_both h.0 (o.changes ++ shut)))
+          (Tells-trans (happened c) (happened between) (happened later) _ _ h.2
+          (Tells-as (happened between) (happened later) _ _
+          (sym (changes_told_both o.changes shut))
+          (Tells-trans (happened between) (happened end) (happened later) _ _ o.told closed))),
     )
-  where
-    some_none : Some over ≡ None → ⊥
-    some_none e = absurd cc
 
 pub empties_same : {C : Type 0} (happened : C → Option (List Happened)) (home : Home) (t : Terms)
     (over : Over) (old mid new : Table) (c later : C)

@@ -1,6 +1,5 @@
 -- What a desk has to ask of its clients and its links at each step.
 use Rattle.std.specs.Prelude.{◌≡◌, ◌≢◌, ◌⊎◌, ◌≤◌, ◌<◌, ℕ, ◌-◌, min, List, [], ◌∷◌, ◌++◌, length}
-use Rattle.std.specs.Prelude.{map, reverse}
 use Rattle.std.specs.Prelude.{Option, None, Some, Bool, true, false, IfSome, ◌↔◌}
 use Rattle.std.specs.List.{AllByRecursion}
 use Rattle.answers.specs.Seen.{Seen}
@@ -227,9 +226,24 @@ pub record AsksUntil {L : Type 0} (due : L → ℕ → Option ℕ → Type 0) (k
   pub ends : Ends due kept t home over (length steps) mid b last
   pub all : asked ≡ joined steps ++ last
 
--- at the end all connections are ended, the last one first
-abbrev pub ends_of : List Guest → List Request
-ends_of guests = map (λ (g : Guest). Closing g.number) (reverse guests)
+-- all that is to be sent to a client is offered to it, where there is such
+abbrev pub OffersLast : ℕ → List ℕ → List Request → Type 0
+OffersLast k output asked =
+    ((output ≢ []) × ((t : Taken) × (asked ≡ Writing k (length output) t ∷ [])))
+    ⊎ ((output ≡ []) × (asked ≡ []))
+
+-- and then its connection is ended
+abbrev pub IsEndOf : Guest → List Request → Type 0
+IsEndOf g asked =
+    (first : List Request) × OffersLast g.number g.talk.output first
+    × (asked ≡ first ++ Closing g.number ∷ [])
+
+-- at the end those of all are ended, the last one first
+abbrev pub AreEndsOf : List Guest → List Request → Type 0
+AreEndsOf [] asked = asked ≡ []
+AreEndsOf (g ∷ guests) asked =
+    (first : List Request) × (last : List Request) × AreEndsOf guests first × IsEndOf g last
+    × (asked ≡ first ++ last)
 
 -- before the first client
 abbrev pub IsFresh : OwnTicks → Table → Type 0
@@ -248,7 +262,9 @@ pub record ServesDuly {L : Type 0} (due : L → ℕ → Option ℕ → Type 0) (
   pub seen : Seen
   pub until : AsksUntil due kept t home over (stand before first before_it)
       (stand after last seen) served
-  pub all : asked ≡ served ++ ends_of after.guests.items
+  pub ends : List Request
+  pub ended : AreEndsOf after.guests.items ends
+  pub all : asked ≡ served ++ ends
 
 -- nothing is asked where there was no memory to begin
 abbrev pub AsksDuly : {L : Type 0} → (L → ℕ → Option ℕ → Type 0) → (L → Option (List ℕ)) → Terms

@@ -4,7 +4,8 @@ use Rattle.std.specs.Prelude.{Option, None, Some, suc, Bool, true, false, ◌||�
 use Rattle.std.specs.Prelude.{if◌then◌else◌}
 use Rattle.std.specs.List.{AllByRecursion}
 use Rattle.answers.specs.Seen.{Seen}
-use Rattle.guarded.specs.Guarding.{Guarding, IsDear, IsDone, WantsRead, begun, fresh_guard}
+use Rattle.guarded.specs.Guarding.{Guarding, IsDear, IsDone, WantsRead, after_sent, begun}
+use Rattle.guarded.specs.Guarding.{fresh_guard}
 use Rattle.guarded.specs.GuardTurns.{Follow, Place}
 use Rattle.store.specs.declared.home.Home.{Home}
 use Rattle.serving.specs.declared.ends.End.{End}
@@ -109,13 +110,15 @@ with_node a talk = record { guard = talk; seen = a.seen; outside = a.outside }
 
 -- a change of which the node knows nothing: a client came, with these random bytes, or came and was
 -- turned away for want of memory; the system had no socket for one; it refuses to name one; a
--- client was ready whose connection is not open; a connection was ended; serving is over
+-- client was ready whose connection is not open; once serving is over, a client took these bytes of
+-- what was to be sent to it, or that write failed; a connection was ended; serving is over
 pub data Change : Type 0 where
   Comes : ℕ → List ℕ → Change
   TurnedAway : ℕ → List ℕ → Change
   NoSocket : Change
   Unwatched : ℕ → Change
   Stray : ℕ → Change
+  TakesLast : ℕ → Option (List ℕ) → Change
   Shut : ℕ → Why → Change
   Stops : Over → Change
 
@@ -166,6 +169,8 @@ told_change (TurnedAway k random) = Came k random ∷ Closed k ∷ []
 told_change NoSocket = Full ∷ []
 told_change (Unwatched k) = Broke k ∷ []
 told_change (Stray k) = Named k ∷ []
+told_change (TakesLast k None) = Broke k ∷ []
+told_change (TakesLast k (Some bytes)) = Took k bytes ∷ []
 told_change (Shut k w) = Closed k ∷ []
 told_change (Stops e) = told_over e
 
@@ -313,6 +318,16 @@ pub record Shuts (t : Terms) (k : ℕ) (w : Why) (a b : Lobby) (before after : L
   pub left : b ≡ lobby (before ++ after) a.next a.time a.own a.spent a.differs
       (first_of a.over (over_by old.talk.talk.end))
 
+-- a client took these bytes of what was to be sent to it once serving was over
+pub record SendsLast (k : ℕ) (bytes : List ℕ) (a b : Lobby) (before after : List Guest)
+    (old new : Guest) : Type 0 where
+  pub over : a.over ≢ None
+  pub found : a.guests ≡ before ++ old ∷ after
+  pub number : old.number ≡ k
+  pub front : old.talk.output ≡ bytes ++ new.talk.output
+  pub same : new ≡ record old { talk = after_sent old.talk (length bytes) }
+  pub left : b ≡ lobby (before ++ new ∷ after) a.next a.time a.own a.spent a.differs a.over
+
 -- another client came, with which these stay
 pub record Enters (t : Terms) (k : ℕ) (more : List Guest) (a b : Lobby) : Type 0 where
   pub going : a.over ≡ None
@@ -341,6 +356,10 @@ Changes home t NoSocket a b = (a.over ≡ None) × (b ≡ a)
 Changes home t (Unwatched k) a b = (a.over ≡ None) × (b ≡ a)
 Changes home t (Stray k) a b =
     (a.over ≡ None) × AllByRecursion (λ (g : Guest). g.number ≢ k) a.guests × (b ≡ a)
+Changes home t (TakesLast k None) a b = (a.over ≢ None) × (b ≡ a)
+Changes home t (TakesLast k (Some bytes)) a b =
+    (before : List Guest) × (after : List Guest) × (old : Guest) × (new : Guest)
+    × SendsLast k bytes a b before after old new
 Changes home t (Shut k w) a b =
     (before : List Guest) × (after : List Guest) × (old : Guest)
     × Shuts t k w a b before after old

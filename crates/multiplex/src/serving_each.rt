@@ -152,7 +152,8 @@ fn serve_rounds<D: Desk, C: Clients, L: Links>(
 /// sheet or entries of the log: the others that ask for such are put off to the next rounds, those
 /// without a key after those that have one. It ends once `most` clients came and their connections
 /// are ended, after a Stop, where the desk is down, and where the system doesn't tell what is ready
-/// any more; then all connections are ended.
+/// any more; then all connections are ended, and what a client has not taken of its answers is
+/// offered to it once more, without waiting.
 ///
 /// A connection is ended as `Connection` says, once its answers are taken; where the client ends it
 /// or it breaks; where the client wasn't ready for longer than the patience; and where another one

@@ -4,14 +4,15 @@ ghost use Rattle.std.specs.Prelude.{◌≡◌, ◌≤◌, ◌<◌, ◌-◌, ◌�
 ghost use Rattle.std.specs.Prelude.{is_some};
 ghost use Rattle.std.specs.List.{AllByRecursion};
 ghost use Rattle.multiplex.specs.Passing.{over_by};
-ghost use Rattle.multiplex.specs.Musts.{Accepts, Admits, Attends, IsWoken, MakesPlace};
-ghost use Rattle.multiplex.specs.Musts.{NoneIsSilent, WaitsToRead};
+ghost use Rattle.multiplex.specs.Musts.{Accepts, Admits, AreEndsOf, Attends, IsEndOf, IsWoken};
+ghost use Rattle.multiplex.specs.Musts.{MakesPlace, NoneIsSilent, OffersLast, WaitsToRead};
 ghost use Rattle.multiplex.specs.Requests.{Asks};
-ghost use Rattle.multiplex.specs.model.Asking.{AsksHosted, AsksSome, ClosesAt, IsEndsOf, MayClose};
+ghost use Rattle.multiplex.specs.model.Asking.{AsksHosted, AsksSome, ClosesAt, MayClose};
 ghost use Rattle.multiplex.specs.model.Tables.{AreKept, IsKept, KeepsAll, KeepsKept, MakesRoom};
-ghost use Rattle.multiplex.specs.model.Scenes.{AltersSome, Answers, Empties, Hosts, IsShut};
+ghost use Rattle.multiplex.specs.model.Scenes.{AltersSome, Answers, Empties, EndsLast, Hosts};
 ghost use Rattle.multiplex.specs.Scenes.{scene};
-ghost use Rattle.multiplex.specs.model.Scenes.{Welcomes, turned};
+ghost use Rattle.multiplex.specs.model.Scenes.{IsShut, Welcomes, turned};
+ghost use Rattle.multiplex.specs.model.Visiting.{Sends};
 ghost use Rattle.multiplex.specs.Noting.{awakes};
 ghost use Rattle.multiplex.specs.Noting.{AreNoted};
 ghost use Rattle.multiplex.specs.model.Asking.{KeepsWoken, WakesAll};
@@ -28,7 +29,7 @@ use crate::dear::DearTurns;
 use crate::ends::{Over, Why};
 use crate::notes::{Notes, awaited_next, is_due};
 use crate::table::{Guest, MOST_OPEN, Table, Terms, longest_silent, ready_after};
-use crate::turns::talk_on;
+use crate::turns::{send, talk_on};
 use answers::Desk;
 use guarded::Guard;
 use serving::{End, Peers};
@@ -242,15 +243,37 @@ pub(crate) fn wake<D: Desk, C: Clients>(table: &Table, clients: &mut C, node: &D
     }
 }
 
-/// Ends all connections that are open.
+/// Offers a client once more what is to be sent to it, where there is such. False: the write
+/// failed.
+fn offer_last<C: Clients>(number: u64, talk: &mut Guard, clients: &mut C) -> bool
+    ensures sends { Sends C.happened number result clients.old clients.new talk.old talk.new }
+    ensures asks { Asks C.requests clients.old clients.new (OffersLast number talk.old.output) }
+{
+    if !talk.wants_write() {
+        return true;
+    }
+    send(number, talk, clients)
+}
+
+/// Ends the connection of a client, to which what it has not taken is offered once more.
+fn end_last<C: Clients>(guest: &mut Guest, clients: &mut C)
+    ensures told { EndsLast C.happened clients.old clients.new guest.old guest.new.talk }
+    ensures asks { Asks C.requests clients.old clients.new (IsEndOf guest.old) }
+{
+    offer_last(guest.number, &mut guest.talk, clients);
+    clients.close(guest.number);
+}
+
+/// Ends all connections that are open. What a client has not taken of its answers is offered to it
+/// once more, without waiting.
 pub(crate) fn let_all_go<C: Clients>(table: &mut Table, clients: &mut C)
     ensures told { (home : Home) (t : TermsOf) (over : OverOf)
         → Empties C.happened home t over table.old table.new clients.old clients.new }
-    ensures asks { Asks C.requests clients.old clients.new (IsEndsOf table.old.guests.items) }
+    ensures asks { Asks C.requests clients.old clients.new (AreEndsOf table.old.guests.items) }
     ensures empty { table.new.guests.items ≡ [] }
 {
-    while let Some(guest) = table.guests.pop() {
-        clients.close(guest.number);
+    while let Some(mut guest) = table.guests.pop() {
+        end_last(&mut guest, clients);
     }
 }
 

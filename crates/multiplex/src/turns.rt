@@ -21,7 +21,7 @@ use serving::Peers;
 use wire::Difference;
 
 /// Writes once what is to be sent. False: the write failed.
-fn send<C: Clients>(number: u64, talk: &mut Guard, clients: &mut C) -> bool
+pub(crate) fn send<C: Clients>(number: u64, talk: &mut Guard, clients: &mut C) -> bool
     requires { talk.old.output ≢ [] }
     ensures sends { Sends C.happened number result clients.old clients.new talk.old talk.new }
     ensures asks { Asks C.requests clients.old clients.new (Offers number talk.old.output) }

@@ -2,7 +2,7 @@
 use Rattle.std.specs.Prelude.{◌≡◌, ◌⊎◌, ℕ, List, [], ◌∷◌, ◌++◌, length, slice_index_or}
 use Rattle.std.specs.Prelude.{Option, None, Some}
 use Rattle.guarded.specs.Guarding.{Guarding}
-use Rattle.multiplex.specs.Musts.{IsMove, IsWatched, IsWoken, ends_of}
+use Rattle.multiplex.specs.Musts.{IsMove, IsWatched, IsWoken}
 use Rattle.answers.specs.Seen.{Seen}
 use Rattle.std.specs.List.{AllByRecursion}
 use Rattle.store.specs.declared.home.Home.{Home}
@@ -56,10 +56,6 @@ pub record ClosesAt (place : ℕ) (guests : List Guest) (asked : List Request) :
 -- that of the client that came, or none
 abbrev pub MayClose : ℕ → List Request → Type 0
 MayClose k asked = (asked ≡ []) ⊎ (asked ≡ Closing k ∷ [])
-
--- those of all that are open
-abbrev pub IsEndsOf : List Guest → List Request → Type 0
-IsEndsOf guests asked = asked ≡ ends_of guests
 
 -- all are woken whose Await is to be answered
 abbrev pub WakesAll : Home → Seen → ℕ → List Guest → List Request → Type 0

@@ -4,7 +4,7 @@ use Rattle.std.specs.Prelude.{Bool}
 use Rattle.answers.specs.declared.desk.Desk.{Ghosts as DeskOf}
 use Rattle.serving.specs.declared.peers.Peers.{Ghosts as PeersOf}
 use Rattle.serving.specs.Making.{speaking}
-use Rattle.guarded.specs.Guarding.{begun, fresh_guard}
+use Rattle.guarded.specs.Guarding.{Guarding, begun, fresh_guard}
 use Rattle.store.specs.declared.home.Home.{Home}
 use Rattle.wire.specs.declared.values.Version.{Version}
 use Rattle.polled.specs.Telling.{Tells}
@@ -21,7 +21,7 @@ use Rattle.multiplex.specs.Scenes.{Scene, in_room, scene}
 use Rattle.wire.specs.declared.standing.Difference.{Difference}
 use Rattle.multiplex.specs.Noting.{first_notes}
 use Rattle.answers.specs.Seen.{Seen}
-use Rattle.multiplex.specs.model.Visiting.{Spot, TalksOn, beside, spot}
+use Rattle.multiplex.specs.model.Visiting.{Sends, Spot, TalksOn, beside, spot}
 
 abbrev pub lobby_of : Table → Option Over → Lobby
 lobby_of t over = lobby t.guests.items t.next t.time t.own t.dear.spent t.differs over
@@ -79,6 +79,13 @@ Empties happened home t over old new c later =
     (changes : List Change)
     × ChangeAll home t (lobby_of old (Some over)) changes (lobby_of new (Some over))
     × Tells (happened c) (happened later) (told_changes changes)
+
+-- a client took what it takes of what was to be sent to it, and then its connection was ended
+abbrev pub EndsLast : {C : Type 0} → (C → Option (List Happened)) → C → C → Guest → Guarding
+    → Type 0
+EndsLast {C} happened c later g talk =
+    (between : C) × (ok : Bool) × Sends happened g.number ok c between g.talk talk
+    × Tells (happened between) (happened later) (Closed g.number ∷ [])
 
 -- a client that came has a connection, or none for want of memory
 pub record Welcomes {C : Type 0} (happened : C → Option (List Happened)) (home : Home)

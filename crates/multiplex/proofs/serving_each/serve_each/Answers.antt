@@ -1,5 +1,4 @@
-use Rattle.std.proofs.Common.{refl, ap, inr, List, ◌++◌}
-use Rattle.multiplex.specs.Requests.{Request}
+use Rattle.std.proofs.Common.{refl, ap, inr, ◌++◌}
 use Rattle.multiplex.specs.declared.dear.DearTurns.{DearTurns}
 use Rattle.multiplex.proofs.Shutting.{lobby_same}
 use Rattle.polled.proofs.Telling.{Tells-trans}
@@ -49,6 +48,8 @@ returns-clause-asks g c =
             served = until.0;
             seen = g.D.Desk.seen c.serve_rounds-over.new.node;
             until = until.2;
-            all = ap (λ (z : List Request). until.0 ++ z) ends.2;
+            ends = ends.0;
+            ended = ends.2;
+            all = refl;
           }),
     )

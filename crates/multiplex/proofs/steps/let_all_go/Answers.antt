@@ -1,8 +1,15 @@
-use Rattle.std.proofs.Common.{refl, arith}
+use Rattle.std.proofs.Common.{[], refl, arith}
 use Rattle.multiplex.specs.declared.table.Table.{Table}
-use Rattle.multiplex.proofs.Asked.{ends_all, ends_more, none_left}
+use Rattle.multiplex.proofs.Asked.{ends_all, ends_more, ends_none, none_left}
 use Rattle.multiplex.proofs.Shutting.{empties_more, empties_same}
+use Rattle.polled.proofs.Telling.{Tells-nil}
 use Rattle.multiplex.proofs.steps.let_all_go.Goals as goal
+
+pub loop-guest-init : goal.loop-guest-init
+loop-guest-init g c = record {
+  told = λ home t over. ([], refl, Tells-nil (g.C.Clients.happened c.args.clients.now));
+  asks = ends_none g.C.Clients.requests c.args.clients.now c.args.table.now.guests.items;
+}
 
 pub loop-guest-preserved : goal.loop-guest-preserved
 loop-guest-preserved g c =
@@ -21,13 +28,13 @@ loop-guest-preserved g c =
     let gone = c.in-Some.guest in
     record {
       told = λ home t over.
-          empties_more g.C.Clients.happened home t over c.args.table.now table left
-          c.in-Some.guest c.args.clients.now c.loop-guest.clients c.close.new.self
+          empties_more g.C.Clients.happened home t over c.args.table.now table left gone
+          c.end_last.new.guest.talk c.args.clients.now c.loop-guest.clients c.end_last.new.clients
           c.in-Some.ensures.items refl refl refl refl refl
-          (c.loop-guest.invariant.told home t over) c.close.ensures.told;
-      asks = ends_more requests c.args.clients.now c.loop-guest.clients c.close.new.self
+          (c.loop-guest.invariant.told home t over) c.end_last.ensures.told;
+      asks = ends_more requests c.args.clients.now c.loop-guest.clients c.end_last.new.clients
           c.args.table.now.guests.items table.guests.items c.pop.new.self.items gone
-          c.in-Some.ensures.items c.loop-guest.invariant.asks c.close.ensures.requests;
+          c.in-Some.ensures.items c.loop-guest.invariant.asks c.end_last.ensures.asks;
     }
 
 pub returns-clause-told : goal.returns-clause-told

@@ -1,10 +1,9 @@
-use Rattle.std.proofs.Common.{◌≡◌, ◌++◌}
-use Rattle.multiplex.specs.Musts.{ends_of}
 use Rattle.multiplex.specs.Requests.{Asks}
 use Rattle.multiplex.specs.declared.ends.Over.{Over}
 use Rattle.multiplex.specs.declared.table.Terms.{Terms}
 use Rattle.multiplex.specs.model.Scenes.{Empties}
 use Rattle.store.specs.declared.home.Home.{Home}
+use Rattle.multiplex.proofs.Asked.{EndsSome}
 use Rattle.multiplex.proofs.steps.let_all_go.Given as goal
 
 -- those so far were ended
@@ -14,7 +13,7 @@ invariant-loop-guest g l = record {
       → Empties g.C.Clients.happened home t over l.initial.table l.table l.initial.clients
       l.clients;
   asks : Asks g.C.Clients.requests l.initial.clients l.clients
-      (λ asked. asked ++ ends_of l.table.guests.items ≡ ends_of l.initial.table.guests.items);
+      (EndsSome l.initial.table.guests.items l.table.guests.items);
 }
 
 abbrev pub decreases-loop-guest : goal.decreases-loop-guest
