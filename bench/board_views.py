@@ -105,8 +105,9 @@ def section(meet, what, which, position, podium=False):
     head += [str(count) for count in range(1, rules.ATTEMPTS[table.form] + 1)] + ["advances"]
     out = f'<section id="{what}-{which}"><table><caption><h2>{in_words(what, which, table)}</h2>\n'
     out += f'<p class="told">{settings(what, table)}, <strong>{state(table)}</strong></p>'
-    out += "</caption>\n<thead><tr>"
-    out += "".join(f'<th scope="col">{name}</th>' for name in head) + "</tr></thead><tbody>\n"
+    said = f"{in_words(what, which, table)}: {settings(what, table)}, {state(table)}"
+    out += f'</caption>\n<thead><tr><th scope="col" data-title="{said}">place</th>'
+    out += "".join(f'<th scope="col">{name}</th>' for name in head[1:]) + "</tr></thead><tbody>\n"
     for _, who, shown, _ in rules.rows(table):
         if podium and not is_high(table, who):
             continue

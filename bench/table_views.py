@@ -17,10 +17,12 @@ from pathlib import Path
 sys.dont_write_bytecode = True
 sys.path.append(str(Path(__file__).resolve().parent.parent / "scripts"))
 import rules
-from board_views import WORDS
+from board_views import WORDS, section
 
 TOKEN = "0123456789abcdef"
 IDS = [1000 + 37 * place for place in range(32)]
+# what the comments propose that the pages are given (tests/pages/table_pages.rt.txt)
+PROPOSALS = {("555", 3): ("ao5", (2, 4500), 54000, ("top", 8))}
 FORMS = {"ao5": "average of 5", "mo3": "mean of 3", "bo1": "best of 1", "bo2": "best of 2",
          "bo3": "best of 3"}
 ROUND = re.compile("(%s)-([1-4])" % "|".join(WORDS))
@@ -108,7 +110,7 @@ class Pages:
         return None, 0
 
     def bar(self):
-        kept, (slow, seconds) = "Go on: cards are kept here, and sent", self.slow()
+        kept, (slow, seconds) = "Continue: cards are kept here, and sent", self.slow()
         look = " Look after " + " and ".join(f"machine {desk}" for desk in self.away) + "."
         if self.wrong_key():
             return "lost", f"This table cannot enter: {KEYS[self.wrong_key()]}"
@@ -136,7 +138,7 @@ class Pages:
                 '<nav><a href="/">all rounds</a>\n<a href="/rounds">open and close</a>\n'
                 '<a href="/people">competitors</a></nav>\n'
                 f'<p id="bar" class="{state}"><span role="status">{told}</span> '
-                f"<small>position {self.length}</small></p>\n<main>\n"
+                f"<small>result {self.length}</small></p>\n<main>\n"
                 f"{inside}</main></body></html>\n")
 
     def recent(self):
@@ -182,7 +184,7 @@ class Pages:
                 values = "".join(rules.printed(value, card[1]) + " "
                                  for value in self.standing(card))
                 told += f": {values or 'nothing '}stands now"
-            return "changed", f"{told}, by entry {count + 1}"
+            return "changed", f"{told}, by result {count + 1}"
         if text[0] == "r":
             return "refused", "not entered: the round is closed"
         return "refused", "not entered: its id was used for something else"
@@ -321,7 +323,10 @@ class Pages:
         if origin:
             place = ("entered at this table" if origin[0] == "here"
                      else "from no card of this table")
-            out += f'<p class="origin">Entry {origin[1]} of the log, {place}</p>\n'
+            out += f'<p class="origin">Result {origin[1]}, {place}</p>\n'
+        if who:
+            out += (f'<p class="origin"><a href="/history/{where}?number={who}">History of this '
+                    "result</a></p>\n")
         if self.may_leave(table, who):
             out += (f'<p class="origin"><a href="/person/{who}">Withdraw competitor {who}</a>'
                     "</p>\n")
@@ -452,7 +457,7 @@ class Pages:
                 '<form method="post" action="/command" autocomplete="off">\n'
                 f'{hidden("token", TOKEN)}{hidden("id", IDS[0])}\n{hidden("command", "EDITION")}\n'
                 f'{hidden("back", back)}\n{hidden("text", "EDITION 4")}\n'
-                "<button>Go on to edition 4</button></form>\n")
+                "<button>Change to edition 4</button></form>\n")
 
     def person(self, who):
         back, number = f"/person/{who}", hidden("number", who) + "\n"
@@ -477,7 +482,7 @@ class Pages:
                         "in it. From a first round it is taken back by entering the competitor "
                         'once more, under <a href="/people">competitors</a>. From a later round it '
                         "can't be taken back: the best of the round before who has a result, did "
-                        "not go on and has not taken a place yet takes the place.</p>\n"
+                        "not advance and has not taken a place yet takes the place.</p>\n"
                         + self.form(1, "WDR", back) + number
                         + "".join(f'<button name="round" value="{what}-{which}">Withdraw from '
                                   f"{self.words(what, which)}</button>\n"
@@ -570,7 +575,7 @@ class Pages:
                       'more, under <a href="/people">competitors</a>.')
         else:
             undone = ("It can't be taken back: the best of the round before who has a result, did "
-                      "not go on and has not taken a place yet takes the place, and stands here "
+                      "not advance and has not taken a place yet takes the place, and stands here "
                       "until the first attempt.")
         forms = [("<p>Who never came is withdrawn, and has no result in this round then. " + undone
                   + " If one of these still comes, withdraw each of the others on the page of that "
@@ -616,15 +621,15 @@ class Pages:
     def advance_fields(self, advance):
         options = "".join(
             f'<option value="{name}"{" selected" if name == advance[0] else ""}>{words}</option>\n'
-            for name, words in (("final", "nobody: it is the final"), ("top", "so many"),
-                                ("pct", "so many percent")))
-        return (f'<label>Who goes on <select name="advance">\n{options}</select></label>\n'
+            for name, words in (("final", "nobody: it is the final"), ("top", "a number"),
+                                ("pct", "a percentage")))
+        return (f'<label>Who advances <select name="advance">\n{options}</select></label>\n'
                 + self.field("amount", "how many", "".join(map(str, advance[1:]))))
 
     def proposed(self, what, which):
-        """What is said of it, and the format, the limit and who goes on."""
+        """What is said of it, and the format, the cutoff, the limit and who advances."""
         if which == 1:
-            return "What is chosen here is proposed: ", None, "10:00.00", ("final",)
+            return "What is chosen here is proposed: ", None, "-", "10:00.00", ("final",)
         before = self.meet.rounds[what, which - 1]
         come = len(before.advancing())
         earlier = [self.meet.rounds[what, j].as_next_sees_it() for j in range(1, which)]
@@ -632,9 +637,12 @@ class Pages:
                    for j, it in enumerate(earlier, 1))
         advance = ("final",) if last or come <= 16 else ("top", rules.quota(("top", 16), come))
         told = (f"{come} {'comes' if come == 1 else 'come'} into this round. What is chosen here "
-                "is proposed, after the round before: ")
-        limit = "" if before.limit == "-" else rules.printed(before.limit, "333")
-        return told, before.form, limit, advance
+                "is proposed: ")
+        form, cutoff, limit = before.form, "-", before.limit
+        if (what, which) in PROPOSALS:
+            form, cutoff, limit, advance = PROPOSALS[what, which]
+            advance = ("final",) if last else advance
+        return (told, form, cutoff, "" if limit == "-" else rules.printed(limit, "333"), advance)
 
     def rule_fields(self, what, chosen, cutoff, limit):
         forms = [form for form in FORMS if form in rules.FORMATS[what]]
@@ -659,11 +667,11 @@ class Pages:
 
     def opening(self, what, which):
         where = f"{what}-{which}"
-        told, proposed, limit, advance = self.proposed(what, which)
+        told, proposed, cutoff, limit, advance = self.proposed(what, which)
         return (f"<h2>Open the round</h2>\n<p>{told}change what you like. The button opens the "
                 "round as the fields say.</p>\n"
                 + self.form(0, "OPEN", f"/rounds?round={where}") + hidden("round", where) + "\n"
-                + self.rule_fields(what, proposed, "-", limit)
+                + self.rule_fields(what, proposed, cutoff, limit)
                 + self.advance_fields(advance) + self.button("Open the round"))
 
     def changing(self, what, where, table):
@@ -689,17 +697,17 @@ class Pages:
 
     def through(self, where, table):
         if table.advance == ("final",):
-            return "<p>It is the final: nobody goes on.</p>\n"
+            return "<p>It is the final: nobody advances.</p>\n"
         numbers, most = table.advancing(), rules.quota(table.advance, len(table.started()))
-        out = (f"<h2>Who goes on, as it stands: {len(numbers)}</h2>\n<ol>\n"
+        out = (f"<h2>Who advances, as it stands: {len(numbers)}</h2>\n<ol>\n"
                + self.entrants(where, numbers) + "</ol>\n")
         if len(numbers) >= most:
             return out
         tied = self.tied(table, numbers)
         if not tied:
-            return out + f'<p class="told">{most} could go on: the others have no result.</p>\n'
-        return (out + f'<p class="told">{most} could go on, but these are tied at the border, so '
-                "none of them goes on:</p>\n<ul>\n" + self.entrants(where, tied) + "</ul>\n")
+            return out + f'<p class="told">{most} could advance: the others have no result.</p>\n'
+        return (out + f'<p class="told">{most} could advance, but these are tied at the border, so '
+                "none of them does:</p>\n<ul>\n" + self.entrants(where, tied) + "</ul>\n")
 
     @staticmethod
     def tied(table, through):
@@ -736,11 +744,11 @@ class Pages:
         after = ("It can be opened again until the next round is opened."
                  if self.meet.edition >= 4 else "Nothing in it changes afterwards.")
         return (out + self.through(where, table) + self.changing(what, where, table)
-                + "<h2>Change who goes on</h2>\n<p>The button sets who goes on to what is chosen "
+                + "<h2>Change who advances</h2>\n<p>The button sets who advances to what is chosen "
                 "here, and changes nothing else.</p>\n"
                 + self.form(1, "ADV", back) + hidden("round", where) + "\n"
                 + self.advance_fields(table.advance)
-                + self.button("Change who goes on") + "<h2>Close the round</h2>\n"
+                + self.button("Change who advances") + "<h2>Close the round</h2>\n"
                 + self.form(0, "CLOSE", back) + hidden("round", where) + "\n" + hidden("text", text)
                 + f"\n<p>{after} This is sent: "
                 f"<code>{text}</code></p>\n"
@@ -788,15 +796,10 @@ class Pages:
                 f'</head>\n<body class="{kind}"><main>\n{inside}</main></body></html>\n')
 
     def wall(self, what, which):
-        names, *lines = self.records(what, which)
-        table = self.meet.rounds[what, which]
-        out = (f'<table><thead><tr><th colspan="20" class="head"><b>{self.words(what, which)}</b> '
-               f"<span>{self.settings(what, table)}</span> <i>{escaped(self.hall)}, position "
-               f"{self.length}</i></th></tr>\n<tr>{self.headings(names)}</tr></thead><tbody>\n")
-        for fields in lines:
-            out += f'<tr class="{fields[-1]}">{self.cells(fields)}</tr>\n'
-        return self.printed("wall", out + '</tbody></table>\n<p class="signature">Delegate: <span>'
-                            "</span> Date: <span></span></p>\n")
+        return self.printed("wall", f"<h1>{escaped(self.hall)}</h1>\n"
+                            + section(self.meet, what, which, self.length)
+                            + '<p class="signature">Delegate: <span></span> Date: <span></span>'
+                            "</p>\n")
 
     def scorecards(self, what, which):
         table, out = self.meet.rounds[what, which], ""
