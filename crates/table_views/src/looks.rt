@@ -526,7 +526,8 @@ function submit() {
   if (!row || whose !== cell(row, 1)) return choose();
   if (wrong >= 0) return enter(fields[wrong]), beep();
   if (!isBlind() && !isTyped()) return untyped(row);
-  const words = questions(readings), whole = JSON.stringify([body.toString(), words, moved]);
+  const words = questions(readings), { value: was } = form.elements.was;
+  const whole = JSON.stringify([row.dataset.was, was, whose, typed, words, moved]);
   if ((words.length > 0 || moved) && warned !== whole) {
     warned = whole;
     const also = moved ? 'typed for ' + moved + ', and now for ' + nameOf(row) + '. ' : '';
@@ -552,17 +553,21 @@ async function standsOf(row) {
   const [by] = /[0-9]+/.exec(all('.origin', card).map((it) => it.textContent).join()) || [];
   return value && by && value + ' ' + by;
 }
-async function tick(row) {
+// A card is ticked at once, and its entry is kept with it as soon as the table says it.
+let ticking = Promise.resolve();
+function tick(row) {
   const { was } = row.dataset;
-  localStorage.setItem(readAs(row), was), mark();
-  const stands = await standsOf(row);
-  if (stands && readOf(row) === was) localStorage.setItem(readAs(row), stands), mark();
+  const keep = (text) => { localStorage.setItem(readAs(row), text), mark(); };
+  const said = standsOf(row).then((stands) => stands && readOf(row) === was && keep(stands));
+  keep(was);
+  ticking = Promise.all([ticking, said]);
 }
 // Cards that stand by another entry than the one that was read are no longer ticked.
 async function recheck() {
-  const at = 'read ' + location.pathname, { position } = shown, ticked = rows().filter(isRead);
+  await ticking;
+  const at = 'read ' + location.pathname, { position } = shown;
   if (localStorage.getItem(at) === position) return;
-  for (const row of ticked) {
+  for (const row of rows().filter(isRead)) {
     const read = readOf(row), stands = await standsOf(row);
     if (!stands) return;
     if (stands !== read && readOf(row) === read) localStorage.removeItem(readAs(row));
