@@ -130,10 +130,13 @@ impl DeskWire {
         ensures next { result ≡ next_key self.now.turned key former }
         ensures either { (result ≡ key) ⊎ (IsSome former × (result ≡ former)) }
     {
-        if former.is_none() {
+        let Some(former) = former else {
+            return key;
+        };
+        if !self.turned {
             return key;
         }
-        if self.turned { former } else { key }
+        Some(former)
     }
 
     /// What went wrong last.
