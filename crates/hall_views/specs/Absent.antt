@@ -40,8 +40,8 @@ leaving_words round =
     ++ codes "each command, with the name.</p>\n"
     else codes "<p>Who never came is withdrawn, and has no result in this round then. It can't be "
     ++ codes "taken back: the best of the round before who has a result, did not advance and has "
-    ++ codes "not taken a place yet takes the place, and stands here until the first attempt. If one "
-    ++ codes "of these still comes, withdraw each of the others on the page of that competitor. "
+    ++ codes "not taken a place yet takes the place, and stands here until the first attempt. If "
+    ++ codes "one of these still comes, withdraw each of the others on the page of that competitor. "
     ++ codes "The button enters nothing yet: it shows each command, with the name.</p>\n"
 
 -- what it means that those are withdrawn too who would take the places

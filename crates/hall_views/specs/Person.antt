@@ -46,7 +46,8 @@ number_part number = joined (codes "?number=" ∷ decimal number ∷ codes "\">"
 -- a link to the card
 unfoldable pub round_link : ℕ → RoundId → List ℕ
 round_link number id =
-    codes " <a href=\"/card/" ++ round_name id ++ number_part number ++ round_name id ++ codes "</a>"
+    codes " <a href=\"/card/" ++ round_name id ++ number_part number ++ round_name id
+    ++ codes "</a>"
 
 abbrev pub link_if : ℕ → RoundId → Option (Settings × Table) → List ℕ
 link_if number id None = []

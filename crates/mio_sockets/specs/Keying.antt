@@ -20,8 +20,8 @@ key_of s = own_key s.call
 abbrev pub wire_key : DeskWire → Option (Option (List ℕ))
 wire_key w = option_map key_of w.stream
 
--- the key of the next connection to a desk: the hall's, or where it is turned, and there is one, the
--- one that was the hall's
+-- the key of the next connection to a desk: the hall's, or where it is turned, and there is one,
+-- the one that was the hall's
 abbrev pub next_key : (turned : Bool) → (key former : Option (List ℕ)) → Option (List ℕ)
 next_key turned key None = key
 next_key false key (Some former) = key
@@ -32,8 +32,8 @@ abbrev pub turned_by : Trouble → (turned : Bool) → Bool
 turned_by (trouble_is.Key trouble) turned = not turned
 turned_by (trouble_is.System kind) turned = turned
 
--- after this came of a connection that was begun, and was heard on one that is open, where this went
--- wrong last
+-- after this came of a connection that was begun, and was heard on one that is open, where this
+-- went wrong last
 abbrev pub turned_at : Opening → Trouble → (turned : Bool) → Bool
 turned_at opening_is.Failed trouble turned = turned_by trouble turned
 turned_at opening_is.Later trouble turned = turned

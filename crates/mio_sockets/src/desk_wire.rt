@@ -10,7 +10,8 @@
 ghost use Rattle.std.specs.Prelude.{◌≡◌, ◌≢◌, ◌⊎◌, [], false, length, IsSome, None};
 ghost use Rattle.std.specs.Result.{result_ok};
 ghost use Rattle.polled.specs.Counts.{CountsTaken};
-ghost use Rattle.mio_sockets.specs.Keying.{key_of, next_key, turned_at, turned_by, turned_in, wire_key};
+ghost use Rattle.mio_sockets.specs.Keying.{key_of, next_key, turned_at, turned_by, turned_in};
+ghost use Rattle.mio_sockets.specs.Keying.{wire_key};
 ghost use Rattle.mio_sockets.specs.declared.wires.Trouble.TheVariants as trouble_is;
 
 use crate::asking::Asking;

@@ -78,8 +78,8 @@ HasAsked file wanted hall texts may old new =
     × (IsTrue may ↔ MayBegin wanted.new_hall k)
 
 -- Whether the desk that is wanted may serve: where its store is to be made the others may have been
--- asked, and it may not only where one of them had a command, or none answered in a hall that is not
--- new.
+-- asked, and it may not only where one of them had a command, or none answered in a hall that is
+-- not new.
 abbrev pub AsksFirst : Bor (List ℕ) → HallService → HallFile → List (List ℕ) → Bool
     → (old new : Option (List Dialed)) → Type 0
 AsksFirst file wanted hall texts true old new =
