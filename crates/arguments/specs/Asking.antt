@@ -1,7 +1,7 @@
 -- What the arguments of the program ask for, as its parser reads them: `clap` says which argument
 -- is the value of which name.
-use Rattle.std.specs.Prelude.{◌≡◌, ◌≤◌, ◌&&◌, ◌||◌, true, false, Bool, ℕ, List, [], ◌∷◌, codes, decimal}
-use Rattle.std.specs.Prelude.{length, map, nat_le, Option, None, Some, IfSome}
+use Rattle.std.specs.Prelude.{◌≡◌, ◌≤◌, ◌&&◌, ◌||◌, true, false, Bool, ℕ, List, [], ◌∷◌, codes}
+use Rattle.std.specs.Prelude.{decimal, length, map, nat_le, Option, None, Some, IfSome}
 use Rattle.clap.specs.Words.{App, Row, Text, all_of, first_of, new_app, subcommand_of}
 use Rattle.clap.specs.Words.{with_rule, with_subcommand}
 use Rattle.wire.specs.declared.values.SheetStyle.{SheetStyle}
@@ -316,8 +316,8 @@ abbrev pub Makes : List Row → (makes new_hall : Bool) → Type 0
 Makes rows makes new_hall =
     (new : Bool) × IsFlag (codes "new") rows new × (makes ≡ new || new_hall)
 
--- of a desk of a file's hall the same, whether its store is made, whether all its desks are new, and
--- after how many milliseconds it ticks itself, 1,000 where none are given
+-- of a desk of a file's hall the same, whether its store is made, whether all its desks are new,
+-- and after how many milliseconds it ticks itself, 1,000 where none are given
 pub record IsHallService (s : HallService) (rows : List Row) : Type 0 where
   pub desk : IsNumberAt (codes "desk") rows s.desk
   pub store : first_of (codes "store") rows ≡ Some s.store.now

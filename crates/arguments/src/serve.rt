@@ -1,6 +1,6 @@
 //! The subcommand `serve`: its arguments and its help.
 
-ghost use Rattle.std.specs.Prelude.{◌≡◌, codes, IfOk, IfSome};
+ghost use Rattle.std.specs.Prelude.{◌≡◌, ◌||◌, codes, IfOk, IfSome};
 ghost use Rattle.clap.specs.Words.{app_of, found_of, rows_of, with_subcommand};
 ghost use Rattle.arguments.specs.Arguments.{IsNumberOr};
 ghost use Rattle.arguments.specs.Asking.{serve_arguments, wire_number, IsTask, Makes};
@@ -196,11 +196,19 @@ fn wire_at(found: &ArgMatches<'_>) -> Option<Version>
     }
 }
 
+/// Whether one of two options is given.
+fn either(new: bool, new_hall: bool) -> bool
+    ensures { result ≡ (new || new_hall) }
+{
+    new || new_hall
+}
+
 /// Whether the desk's file is made, in a hall that is new as a whole or is not.
 fn makes_at(found: &ArgMatches<'_>, new_hall: bool) -> bool
     ensures { Makes (rows_of (found_of found.now)) result new_hall }
 {
-    flag_at(found, "new") || new_hall
+    let new = flag_at(found, "new");
+    either(new, new_hall)
 }
 
 /// What the arguments of `serve` ask for: a desk of a hall at addresses, or of a file's hall.

@@ -1,5 +1,4 @@
-use Rattle.std.proofs.Common.{refl}
 use Rattle.arguments.proofs.serve.makes_at.Goals as goal
 
 pub returns : goal.returns
-returns c = (c.flag_at.result, c.flag_at.ensures, refl)
+returns c = (c.flag_at-new.result, c.flag_at-new.ensures, c.either.ensures)
