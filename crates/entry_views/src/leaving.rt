@@ -62,7 +62,7 @@ fn push_links(
     number: u16,
 ) -> Result<(), NoMemory>
     ensures { OnOk result (out.new.items
-        ≡ out.old.items ++ history_words id number ++ leaving_if table.now number) }
+        ≡ out.old.items ++ (history_words id number ++ leaving_if table.now number)) }
 {
     push_history(out, id, number)?;
     push_leaving_if(out, table, number)?;
