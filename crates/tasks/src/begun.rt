@@ -1,6 +1,7 @@
 //! Whether a hall's day has begun, asked before the store of one of its desks is made.
 
 ghost use Rattle.std.specs.Prelude.{◌≡◌, ◌≤◌, ◌+◌, ◌∷◌, ◌↔◌, [], length, IsTrue};
+ghost use Rattle.std.specs.Io.KnownBytes.{Keeps};
 ghost use Rattle.batch.specs.Dialing.{Adds, asked_so};
 ghost use Rattle.client.specs.Standings.{status_request};
 ghost use Rattle.tasks.specs.Begun.{AsksEach, MayBegin, MayMake, joined, known_by, place_at};
@@ -113,24 +114,31 @@ fn may_begin(known: Known, new_hall: bool) -> bool
     known.have == 0 && known.had == 0 && (known.answers || new_hall)
 }
 
-/// Says why the store of this desk is not made.
-fn tell_known<F: Write>(faults: &mut F, known: Known, desk: u8) {
+/// Says why the store of this desk is not made, where it may not be.
+fn tell_known<F: Write>(faults: &mut F, known: Known, desk: u8, may: bool)
+    ensures { IsTrue may → Keeps (F.contents faults.old) (F.contents faults.new) }
+{
+    if may {
+        return;
+    }
     let (have, had) = (known.have, known.had);
     let page = "see HALL, 'A disk died'";
-    let _ = if had > 0 {
-        writeln!(
+    if had > 0 {
+        let _ = writeln!(
             faults,
             "desk {desk} had {had} commands: its file is lost; {page}"
-        )
-    } else if have > 0 {
-        writeln!(
+        );
+        return;
+    }
+    if have > 0 {
+        let _ = writeln!(
             faults,
             "the day has begun with {have} commands: desk {desk} is not made; {page}"
-        )
-    } else {
-        let what = "start another desk first, or if all desks are new take --new-hall";
-        writeln!(faults, "no desk answers, desk {desk} is not made: {what}")
-    };
+        );
+        return;
+    }
+    let what = "start another desk first, or if all desks are new take --new-hall";
+    let _ = writeln!(faults, "no desk answers, desk {desk} is not made: {what}");
 }
 
 /// Asks the desks of a hall whether its day has begun, before the store of the desk of this number
@@ -150,8 +158,6 @@ pub fn may_make<D: Dial, F: Write>(
 {
     let known = ask_all(alloc, dial, inquiry, desk, 1, inquiry.addresses);
     let may = may_begin(known, new_hall);
-    if !may {
-        tell_known(faults, known, desk);
-    }
+    tell_known(faults, known, desk, may);
     may
 }
