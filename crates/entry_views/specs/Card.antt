@@ -97,7 +97,7 @@ form_end =
     ++ codes "<output id=\"best\"></output></p>\n<button>Enter the card</button>\n</form>\n"
     ++ codes "<p class=\"keys\"><kbd>d</kbd> or <kbd>/</kbd> DNF, <kbd>s</kbd> or <kbd>*</kbd> "
     ++ codes "DNS (in fewest moves <kbd>/</kbd> and <kbd>*</kbd>), <kbd>+</kbd> after a time 2 "
-    ++ codes "seconds more, <kbd>Esc</kbd> puts the card away</p>\n"
+    ++ codes "seconds more</p>\n"
     ++ codes "<p class=\"options\" hidden><label><input id=\"sound\" type=\"checkbox\"> sound"
     ++ codes "</label>"
     ++ codes " <label><input id=\"blind\" type=\"checkbox\"> second reading: what differs is listed"

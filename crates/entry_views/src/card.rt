@@ -35,8 +35,7 @@ const FORM_END: &[u8] = b"\
 <button>Enter the card</button>
 </form>
 <p class=\"keys\"><kbd>d</kbd> or <kbd>/</kbd> DNF, <kbd>s</kbd> or <kbd>*</kbd> DNS \
-(in fewest moves <kbd>/</kbd> and <kbd>*</kbd>), <kbd>+</kbd> after a time 2 seconds more, \
-<kbd>Esc</kbd> puts the card away</p>
+(in fewest moves <kbd>/</kbd> and <kbd>*</kbd>), <kbd>+</kbd> after a time 2 seconds more</p>
 <p class=\"options\" hidden><label><input id=\"sound\" type=\"checkbox\"> sound</label> \
 <label><input id=\"blind\" type=\"checkbox\"> second reading: what differs is listed</label></p>
 <p id=\"unsent\"></p>

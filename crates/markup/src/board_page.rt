@@ -4,4 +4,4 @@ mod escaping;
 mod table;
 
 pub use escaping::push_escaped;
-pub use table::{field_at, push_cell, push_each_heading, push_lines, records_of};
+pub use table::{field_at, push_cell, push_each_heading, records_of};

@@ -109,13 +109,13 @@ all_stand_text polled =
     if some_behind polled then every_lag_text false polled
     else all_text (size_of polled) (newest polled)
 
-abbrev pub goes_on_text : List Polled → List ℕ
-goes_on_text polled = codes "the hall goes on" ++ every_lag_text true polled
+abbrev pub works_text : List Polled → List ℕ
+works_text polled = codes "the hall works" ++ every_lag_text true polled
 
 -- a majority answered, and not each desk said how it stands
 abbrev pub some_stand_text : List Polled → List ℕ
 some_stand_text polled =
-    count_text (answered polled) (size_of polled) ++ goes_on_text polled
+    count_text (answered polled) (size_of polled) ++ works_text polled
 
 -- a majority answered
 abbrev pub going_text : List Polled → List ℕ

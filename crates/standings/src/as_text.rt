@@ -3,7 +3,7 @@
 ghost use Rattle.std.specs.Prelude.{◌≡◌, ◌≤◌, ◌++◌, IfOk, OnOk, decimal, flat_map, length};
 ghost use Rattle.standings.specs.AsText.{all_stand_text, all_text, commands_text, count_text};
 ghost use Rattle.standings.specs.AsText.{every_lag_text};
-ghost use Rattle.standings.specs.AsText.{goes_on_text, going_text, in_order, is_other, lag_text};
+ghost use Rattle.standings.specs.AsText.{works_text, going_text, in_order, is_other, lag_text};
 ghost use Rattle.standings.specs.AsText.{lags_text, line_text};
 ghost use Rattle.standings.specs.AsText.{more_text, name_text, order_text, place_text, reply_text};
 ghost use Rattle.standings.specs.AsText.{text_of, role_name, some_elsewhere, some_stand_text};
@@ -252,11 +252,11 @@ fn push_all_stand(out: &mut Vec<u8>, polled: &[Polled<'_>]) -> Result<(), AllocE
     }
 }
 
-/// Adds that the hall goes on, and what desks lack.
-fn push_goes_on(out: &mut Vec<u8>, polled: &[Polled<'_>]) -> Result<(), AllocError>
-    ensures { OnOk result (out.new.items ≡ out.old.items ++ goes_on_text polled.now) }
+/// Adds that the hall works, and what desks lack.
+fn push_works(out: &mut Vec<u8>, polled: &[Polled<'_>]) -> Result<(), AllocError>
+    ensures { OnOk result (out.new.items ≡ out.old.items ++ works_text polled.now) }
 {
-    out.extend_from_slice(b"the hall goes on")?;
+    out.extend_from_slice(b"the hall works")?;
     push_every_lag(out, true, polled)
 }
 
@@ -266,7 +266,7 @@ fn push_some_stand(out: &mut Vec<u8>, polled: &[Polled<'_>]) -> Result<(), Alloc
     ensures { OnOk result (out.new.items ≡ out.old.items ++ some_stand_text polled.now) }
 {
     push_count(out, answered(polled), size_of(polled))?;
-    push_goes_on(out, polled)
+    push_works(out, polled)
 }
 
 /// Adds what it means where a majority answered.

@@ -923,9 +923,10 @@ async function answer(event) {
 // What the script adds to a card's page.
 function addOptions() {
   const eye = Object.assign(make('input'), { id: 'eye', type: 'checkbox' }), label = make('label');
-  label.append(eye, ' read by eye: Enter goes on to the next card');
+  label.append(eye, ' read by eye: Enter opens the next card');
   $('blind').closest('p').append(' ', label, ' ', Object.assign(make('output'), { id: 'read' }));
-  for (const it of all('.keys')) it.append(', ', make('kbd', 'F9'), ' takes the last card back');
+  for (const it of all('.keys')) it.append(', ', make('kbd', 'Esc'), ' puts the card away, ',
+    make('kbd', 'F9'), ' takes the last card back');
   const roles = { role: 'combobox', 'aria-controls': 'found', 'aria-autocomplete': 'list' };
   for (const [key, value] of Object.entries(roles)) $('number').setAttribute(key, value);
   $('found').role = 'listbox';

@@ -2,7 +2,7 @@
 
 ghost use Rattle.std.specs.Prelude.{◌≡◌, ◌++◌, [], get_or, map, flat_map, IfOk, OnOk};
 ghost use Rattle.csv.specs.Records.{fields_of};
-ghost use Rattle.markup.specs.board_page.Table.{cell, heading, line, line_start, AreRecordsOf};
+ghost use Rattle.markup.specs.board_page.Table.{cell, heading, AreRecordsOf};
 
 use crate::board_page::escaping::push_escaped;
 use csv::{ByteRecord, ReaderBuilder};
@@ -62,46 +62,6 @@ pub fn push_each_heading(out: &mut Vec<u8>, row: &ByteRecord) -> Result<(), Allo
 {
     for place in 0..row.len() {
         push_heading(out, field_at(row, place))?;
-    }
-    Ok(())
-}
-
-/// Adds a cell for each field.
-fn push_each_cell(out: &mut Vec<u8>, row: &ByteRecord) -> Result<(), AllocError>
-    ensures { OnOk result (out.new.items ≡ out.old.items ++ flat_map cell (fields_of row.now)) }
-{
-    for place in 0..row.len() {
-        push_cell(out, field_at(row, place))?;
-    }
-    Ok(())
-}
-
-fn push_line_start(out: &mut Vec<u8>, class: &[u8]) -> Result<(), AllocError>
-    ensures { OnOk result (out.new.items ≡ out.old.items ++ line_start class.now) }
-{
-    out.extend_from_slice(b"<tr class=\"")?;
-    push_escaped(out, class)?;
-    out.extend_from_slice(b"\">")?;
-    Ok(())
-}
-
-/// Adds the line of a record, whose class is its last field.
-fn push_line(out: &mut Vec<u8>, row: &ByteRecord) -> Result<(), AllocError>
-    ensures { OnOk result (out.new.items ≡ out.old.items ++ line (fields_of row.now)) }
-{
-    push_line_start(out, field_at(row, row.len().saturating_sub(1)))?;
-    push_each_cell(out, row)?;
-    out.extend_from_slice(b"</tr>\n")?;
-    Ok(())
-}
-
-/// Adds a line of a table for each record, with a cell for each field; its class is the last field.
-pub fn push_lines(out: &mut Vec<u8>, rows: &[ByteRecord]) -> Result<(), AllocError>
-    ensures { OnOk result (out.new.items
-        ≡ out.old.items ++ flat_map line (map fields_of rows.now)) }
-{
-    for row in rows {
-        push_line(out, row)?;
     }
     Ok(())
 }
