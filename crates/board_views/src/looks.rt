@@ -52,10 +52,10 @@ tr.changed > th::after { content: \" \\2731\"; }
   main { padding: .3em; }
   body.all section { display: none; }
   body.all nav { flex-direction: column; font-size: 1.2em; }
-  nav a[href=\"/hall\"] { display: none; }
+  nav a[href=\"/hall\"], body.hall tr > :last-child { display: none; }
   body.one section { font-size: .8rem; }
   body.one section[id] table, body.one section[id] thead,
-  body.one section[id] tbody, section:not(.people) caption { display: block; }
+  body.one section[id] tbody, body:not(.hall) section:not(.people) caption { display: block; }
   section:not(.people) td { white-space: normal; }
   body.one section[id] tr { display: grid; grid-template-columns: 1.8em repeat(10, 1fr);
     border-bottom: 1px solid var(--line); padding: .15em 0; align-items: baseline; }

@@ -31,7 +31,7 @@ label output { margin-left: .5rem; }
 input, select, textarea, button { font: inherit; padding: .3rem .5rem; color: inherit;
   background: var(--paper); border: 1px solid var(--line); border-radius: .3rem; }
 button { background: var(--soft); cursor: pointer; }
-body.hall textarea, #read { display: block; }
+body.hall textarea, #read { display: block; max-width: 90vw; }
 :focus-visible { outline: 3px solid var(--link); outline-offset: 1px; }
 body.entry main { display: grid; grid-template-columns: 30rem minmax(0, 1fr); gap: 0 2rem;
   grid-template-areas: \"card round\" \"recent round\"; grid-template-rows: auto 1fr; }
@@ -50,6 +50,8 @@ body.entry main { display: grid; grid-template-columns: 30rem minmax(0, 1fr); ga
 .field output { font-size: 1.2rem; overflow-wrap: anywhere; }
 .field strong, .told, .wrong, #unsent { color: var(--bad); font-weight: bold; }
 .field .said { grid-column: 2 / 5; }
+[data-unit=moves] p input { grid-column: 2 / 5; font-size: 1rem; }
+[data-unit=moves] p output { grid-column: 2 / 4; }
 .field strong { display: block; }
 .field input:disabled { background: var(--soft); border-style: dashed; }
 .keys { font-size: .85rem; margin: .3rem 0; }
@@ -98,6 +100,9 @@ body.hall li { break-inside: avoid; }
 @media (max-width: 70rem) {
   body.entry main { display: block; }
 }
+@media (max-width: 44rem) {
+  #beside { overflow-x: auto; }
+}
 @media (max-width: 30rem) {
   .field output.wrong { grid-column: 1 / 5; }
 }
@@ -112,6 +117,8 @@ body.wall main, body.scorecards main { padding: 0; }
 body.wall h1 { font-size: .9rem; font-weight: normal; }
 body.wall .told { color: inherit; font-weight: normal; }
 body.wall th, body.wall td { padding: .1rem .3rem; vertical-align: bottom; }
+body.wall td { white-space: nowrap; }
+body.wall td:last-child { font-size: .9em; }
 body.wall th:nth-child(3) { text-align: left; overflow-wrap: anywhere; min-width: 11rem; }
 body.wall a { color: inherit; text-decoration: none; }
 body.wall tr.yes > *, body.wall td:nth-child(4) { font-weight: bold; }
