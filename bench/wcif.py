@@ -140,7 +140,8 @@ def person_faults(place, person, persons, names, held):
                 out.append(f"event {item} of the registration is not held")
             elif event in ids[:item - 1]:
                 out.append(f"event {item} of the registration stands there twice")
-    who = quoted(text(person, "name") or "") + ("" if number is None else f" ({number})")
+    name = (text(person, "name") or "").encode()[:160].decode(errors="ignore")
+    who = quoted(name) + ("" if number is None else f" ({number})")
     return [f"person {place}, {who}: {fault}" for fault in out]
 
 

@@ -20,7 +20,7 @@ use crate::reasons::Reasons;
 use crate::report::{Progress, Report};
 use arguments::Lines;
 use batch::{Batch, BatchFault, Contact, Dial, Receiver, enter_command, enter_lines, told_answer};
-use client::reply_text;
+use client::{ClientFault, reply_text};
 use lines::command_file::{CommandText, first_fault, read_commands};
 use lines::{RunFault, write_text};
 use std::alloc::{AllocError, Global};
@@ -29,7 +29,7 @@ use std::random::RandomSource;
 use std::time::Clock;
 use texts::Answer;
 use texts::meanings::meaning_of;
-use wire::What;
+use wire::{ClientRefusal, What};
 
 /// What stands before what is wrong with the first line.
 const LINE_1: &[u8] = b"line 1: ";
@@ -264,12 +264,22 @@ pub fn may_enter<F: Write>(alloc: Global, text: &[u8], faults: &mut F) -> Result
     Err(DeskFault::NoCommand)
 }
 
+/// Whether the desk refused a command for want of a key: entered with one, it needs no old id.
+fn lacks_key(fault: &BatchFault) -> bool {
+    matches!(
+        fault,
+        BatchFault::Asking(ClientFault::Refused {
+            refusal: ClientRefusal::NotAllowed
+        })
+    )
+}
+
 /// Enters one text at a desk, with the id that is given or one that is drawn, and prints what it
 /// answers: `taken <id>`, or, where it is waited for, `done <id> <pos> Done`, and after a refusal
 /// its code and what it means, as `done 17 40 OutOfOrder: the attempt is not the next one`. The
 /// exit status that it gives is 1 after a refusal, else 0. After two seconds without a decision
 /// `faults` is told what is waited for, and where the command wasn't entered, or it isn't known,
-/// the id that was drawn.
+/// the id that was drawn, unless it was refused for want of a key.
 ///
 /// # Errors
 ///
@@ -307,7 +317,7 @@ pub fn enter_one<T: Clock + RandomSource, D: Dial, W: Write, F: Write, H: Reason
     match enter_command(alloc, dial, contact, receiver, waits, id, text, &mut report) {
         Ok(last) => print_one(alloc, writer, last),
         Err(fault) => {
-            if is_drawn {
+            if is_drawn && !lacks_key(&fault) {
                 report.tell_drawn();
             }
             Err(DeskFault::from(fault))

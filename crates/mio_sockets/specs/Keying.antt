@@ -27,6 +27,11 @@ next_key turned key None = key
 next_key false key (Some former) = key
 next_key true key (Some former) = Some former
 
+-- that of the desk at a place of the connections, if one is there, and else the hall's
+abbrev pub key_at : Option DeskWire → (key former : Option (List ℕ)) → Option (List ℕ)
+key_at None key former = key
+key_at (Some w) key former = next_key w.turned key former
+
 -- whether it is turned after this went wrong: by its keys it turns each time, and else it stays
 abbrev pub turned_by : Trouble → (turned : Bool) → Bool
 turned_by (trouble_is.Key trouble) turned = not turned

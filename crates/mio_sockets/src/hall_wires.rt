@@ -1,8 +1,8 @@
 //! The connections to the desks of a hall, all of them under its keys.
 
-ghost use Rattle.std.specs.Prelude.{◌≡◌, ◌≢◌, [], length, IfOk};
+ghost use Rattle.std.specs.Prelude.{◌≡◌, ◌≢◌, ◌⊎◌, [], length, slice_get, IfOk, IsSome};
 ghost use Rattle.polled.specs.Counts.{CountsTaken};
-ghost use Rattle.mio_sockets.specs.Keying.{IsKeyOf, key_of, wires_of};
+ghost use Rattle.mio_sockets.specs.Keying.{IsKeyOf, key_at, key_of, wires_of};
 
 use crate::asking::Asking;
 use crate::desk_wire::DeskWire;
@@ -17,6 +17,23 @@ use std::marker::Model;
 
 /// The places for connections. Place 0 is nobody's.
 const PLACES: usize = 6;
+
+/// The key under which a connection to the desk at a place is begun, of the hall's and of the one
+/// that was the hall's, where there is one: [`DeskWire::next_key`].
+fn key_at(
+    wires: &[DeskWire],
+    place: usize,
+    key: Option<[u8; 32]>,
+    former: Option<[u8; 32]>,
+) -> Option<[u8; 32]>
+    ensures next { result ≡ key_at (slice_get wires.now place) key former }
+    ensures either { (result ≡ key) ⊎ (IsSome former × (result ≡ former)) }
+{
+    match wires.get(place) {
+        Some(wire) => wire.next_key(key, former),
+        None => key,
+    }
+}
 
 /// The connections to the desks 1 to 5 of a hall, one at most to each. All are under the hall's
 /// key, or under none where it has none; and while the key is changed, under the one that was the
@@ -59,15 +76,11 @@ impl HallWires {
         }
     }
 
-    /// The key under which a connection to this desk is begun, if the hall has one:
-    /// [`DeskWire::next_key`].
+    /// The key under which a connection to this desk is begun, if the hall has one: [`key_at`].
     pub(crate) fn key(&self, desk: u8) -> Option<[u8; 32]>
         ensures { IsKeyOf self.now result }
     {
-        match self.desks.get(usize::from(desk)) {
-            Some(wire) => wire.next_key(self.key, self.former),
-            None => self.key,
-        }
+        key_at(&self.desks, usize::from(desk), self.key, self.former)
     }
 
     /// Has a connection to a desk that was begun, or could not be. False: it could not be, or there

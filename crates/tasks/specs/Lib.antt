@@ -2,6 +2,7 @@ pub mod Asking
 pub mod Begun
 pub mod Entering
 pub mod Folders
+pub mod Machine
 pub mod Places
 pub mod Services
 pub mod Standings

@@ -1,6 +1,6 @@
 -- What a desk cannot hold of a competition in the WCA Competition Interchange Format: of its
 -- persons, and then of its events, each in the order of the file.
-use Rattle.std.specs.Prelude.{nat_lt, if◌then◌else◌, List, [], ◌∷◌, ◌++◌, length, map}
+use Rattle.std.specs.Prelude.{ℕ, nat_lt, if◌then◌else◌, List, [], ◌∷◌, ◌++◌, length, map, take}
 use Rattle.std.specs.Prelude.{codes, Option, Some, None}
 use Rattle.serde_json.specs.Data.{Data}
 use Rattle.wcif.specs.declared.options.Options.{Options}
@@ -13,9 +13,13 @@ use Rattle.wcif.specs.Persons.{accepted_faults, given_name, is_accepted, most_ev
 use Rattle.wcif.specs.Events.{event_faults}
 use Rattle.wcif.specs.Told.{told, place}
 
--- the name and the number of a person
+-- the first bytes of a text, at most this many
+abbrev pub front_within : ℕ → List ℕ → List ℕ
+front_within most text = if nat_lt most (length text) then take most text else text
+
+-- the first 160 bytes of the name, and the number, of a person
 abbrev pub who : Data → Who
-who p = record { name = given_name p; number = number_of p }
+who p = record { name = front_within 160 (given_name p); number = number_of p }
 
 -- of a person: nothing, where he is not accepted
 unfoldable pub person_faults : SameNames → List Data → List Data → List Data → Data → List Fault

@@ -4,7 +4,7 @@ ghost use Rattle.std.specs.Prelude.{◌≡◌, ◌++◌, ◌∷◌, [], ◌+◌,
 ghost use Rattle.serde_json.specs.Data.{Data};
 ghost use Rattle.serde_json.specs.View.{view};
 ghost use Rattle.wcif.specs.declared.fault.Fault.TheVariants.{Person as PersonOf};
-ghost use Rattle.wcif.specs.Faults.{person_faults, who};
+ghost use Rattle.wcif.specs.Faults.{front_within, person_faults, who};
 ghost use Rattle.wcif.specs.Told.{told};
 ghost use Rattle.wcif.specs.model.Kept.{AreKept, AddsFaults, KeepsPerson};
 
@@ -17,12 +17,26 @@ use attempts::NoMemory;
 use serde_json::Value;
 use std::alloc::Global;
 
+/// The most bytes of a name that are told.
+const MOST_TOLD: usize = 160;
+
+/// The first bytes of a text, at most this many.
+fn front_within(text: &[u8], most: usize) -> &[u8]
+    ensures { result.now ≡ front_within most text.now }
+{
+    if text.len() > most {
+        return &text[..most];
+    }
+    text
+}
+
 /// The name and the number of a person.
 fn who(alloc: Global, person: &Value) -> Result<Who, NoMemory>
     ensures { IfOk result (λ found. found ≡ who (view person.now)) }
 {
+    let name = front_within(given_name(person).as_bytes(), MOST_TOLD);
     Ok(Who {
-        name: Quoted::of(alloc, given_name(person).as_bytes())?,
+        name: Quoted::of(alloc, name)?,
         number: number_of(person),
     })
 }

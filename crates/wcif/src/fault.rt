@@ -94,7 +94,7 @@ pub enum EventFault {
     TooManyRounds,
 }
 
-/// A person of the file: the name, and the number where there is one.
+/// A person of the file: the first 160 bytes of the name, and the number where there is one.
 #[derive(Debug, Drop)]
 pub struct Who {
     pub name: Quoted,

@@ -7,7 +7,8 @@ use std::alloc::Global;
 use std::fmt;
 use std::marker::Model;
 
-/// A text as it is told: in double quotes, with escapes for what is not seen.
+/// A text as it is told: in double quotes, with escapes for what is not seen. A character that is
+/// cut at its end is left out.
 #[derive(Debug, Drop)]
 pub struct Quoted {
     bytes: Vec<u8>,
@@ -32,9 +33,20 @@ impl Quoted {
     }
 }
 
+/// The text up to a place; nothing where it is none.
+fn front_of(bytes: &[u8], place: usize) -> &str {
+    if place > bytes.len() {
+        return "";
+    }
+    str::from_utf8(&bytes[..place]).unwrap_or("")
+}
+
 impl fmt::Display for Quoted {
     fn fmt<W: fmt::Write>(&self, f: &mut fmt::Formatter<W>) -> fmt::Result {
-        let text = str::from_utf8(&self.bytes).unwrap_or("?");
+        let text = match str::from_utf8(&self.bytes) {
+            Ok(text) => text,
+            Err(error) => front_of(&self.bytes, error.valid_up_to()),
+        };
         write!(f, "{text:?}")
     }
 }

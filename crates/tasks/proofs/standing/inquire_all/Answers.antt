@@ -1,3 +1,4 @@
+use Rattle.std.proofs.Common.{inl, inr}
 use Rattle.tasks.proofs.standing.inquire_all.Goals as goal
 
 pub returns : goal.returns
@@ -6,5 +7,5 @@ returns g c = record {
   dialed = g.D.Dial.dialed c.inquire_once-status.new.dial;
   out = g.W.Write.contents c.inquire_once-status.new.writer;
   reports = c.inquire_once-status.ensures;
-  is = c.status_after.ensures;
+  is = auto;
 }
