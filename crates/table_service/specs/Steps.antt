@@ -1,7 +1,9 @@
 -- What the program's loop does between the answers.
-use Rattle.std.specs.Prelude.{◌≡◌, ℕ, take}
+use Rattle.std.specs.Prelude.{◌≡◌, ℕ, take, Some, Bool, true, false}
 use Rattle.desk_sockets.specs.Asking.{AsksNow}
 use Rattle.desk_talks.specs.Dialogues.{Reaches}
+use Rattle.following.specs.declared.stages.Stage.{Stage}
+use Rattle.following.specs.declared.stages.Stage.TheVariants as stage
 use Rattle.mirroring.specs.Mirrorings.{DialogueLeads as MirrorLeads, awaiting, hurried}
 use Rattle.outbox.specs.Outboxes.{DialogueLeads, aimed, looked}
 use Rattle.table_views.specs.declared.desks.Desks.{Desks}
@@ -36,6 +38,11 @@ StepLeads (Tells desks) old new = new ≡ record old { desks = desks }
 -- a service is kept up by such calls alone: nothing is taken, and nothing is put into the journal
 abbrev pub IsKeptUp : ServiceOf → ServiceOf → Type 0
 IsKeptUp old new = Reaches StepLeads old new
+
+-- the mirror has all that the log of the desk had that answered last: the next question waits
+abbrev pub has_all : Stage → Bool
+has_all (stage.Answered (Some last)) = true
+has_all _ = false
 
 -- in between, what is under way goes on over its connection: what the outbox hands out at this time
 -- is given to the submission

@@ -2,7 +2,7 @@
 
 ghost use Rattle.std.specs.Prelude.{◌≡◌, IfOk, IfSome, true};
 ghost use Rattle.wire.specs.Ranges.{IsDesk, IsId};
-ghost use Rattle.table_service.specs.Steps.{HandsOut, IsKeptUp};
+ghost use Rattle.table_service.specs.Steps.{HandsOut, IsKeptUp, has_all};
 
 use crate::disk::Disk;
 use crate::service::TableService;
@@ -121,6 +121,13 @@ fn keep_asked<R: Net + RandomSource, F: Write>(
     }
 }
 
+/// Whether the mirror has all that the log of the desk had that answered last.
+fn has_all(stage: Stage) -> bool
+    ensures { result ≡ has_all stage }
+{
+    matches!(stage, Stage::Answered { last: Some(_) })
+}
+
 /// Whether the item at a place waits; none where there is no such item.
 fn waits_at<D: Disk>(service: &TableService<D>, place: usize) -> Option<bool> {
     let (_, item) = service.outbox().at(place)?;
@@ -188,14 +195,17 @@ impl<'a, R: Net + RandomSource + Clock + Drop> DesksSide<'a, R> {
     fn keep_mirror<D: Disk>(&mut self, service: &mut TableService<D>, now: u64) -> io::Result<bool>
         ensures keeps { IsKeptUp service.old service.new }
         ensures caught_up { self.old.caught_up ≡ true → self.new.caught_up ≡ true }
+        ensures catches_up { IfOk result (λ goes_on. goes_on ≡ true
+            → has_all service.new.mirroring.follower.stage ≡ true → self.new.caught_up ≡ true) }
     {
         if service.keep(self.stream, now) == Kept::Broken {
             return Ok(false);
         }
-        if let Stage::Answered { last } = service.mirroring().stage() {
+        let stage = service.mirroring().stage();
+        if let Stage::Answered { .. } = stage {
             self.answered_at = now;
-            self.caught_up = self.caught_up || last.is_some();
         }
+        self.caught_up = self.caught_up || has_all(stage);
         service.look()?;
         self.pass(service, now);
         Ok(true)
@@ -210,7 +220,8 @@ impl<'a, R: Net + RandomSource + Clock + Drop> DesksSide<'a, R> {
     /// Submits at this desk, 1 to 5, from now on.
     fn aim_at<D: Disk>(&mut self, service: &mut TableService<D>, desk: u8, now: u64)
         requires { IsDesk desk }
-        ensures { IsKeptUp service.old service.new }
+        ensures keeps { IsKeptUp service.old service.new }
+        ensures caught_up { self.new.caught_up ≡ self.old.caught_up }
     {
         self.aim = desk;
         self.aimed_at = now;
@@ -220,7 +231,8 @@ impl<'a, R: Net + RandomSource + Clock + Drop> DesksSide<'a, R> {
     /// Goes on to the desk that the mirror follows, where it is another one than before; and to the
     /// next desk, where a majority answers and nothing was decided for five seconds.
     fn follow<D: Disk>(&mut self, service: &mut TableService<D>, now: u64)
-        ensures { IsKeptUp service.old service.new }
+        ensures keeps { IsKeptUp service.old service.new }
+        ensures caught_up { self.new.caught_up ≡ self.old.caught_up }
     {
         let desk = service.mirroring().desk();
         if desk != self.followed {
@@ -269,7 +281,8 @@ impl<'a, R: Net + RandomSource + Clock + Drop> DesksSide<'a, R> {
     /// taken: a desk takes few questions on one connection, and one that comes too early may be its
     /// last.
     fn hurry<D: Disk>(&mut self, service: &mut TableService<D>, now: u64)
-        ensures { IsKeptUp service.old service.new }
+        ensures keeps { IsKeptUp service.old service.new }
+        ensures caught_up { self.new.caught_up ≡ self.old.caught_up }
     {
         if !self.is_taken(service) {
             self.hurried_at = now;
@@ -289,6 +302,7 @@ impl<'a, R: Net + RandomSource + Clock + Drop> DesksSide<'a, R> {
     fn hand_out<D: Disk>(&mut self, service: &mut TableService<D>, now: u64)
         ensures keeps { IsKeptUp service.old service.new }
         ensures hands { self.old.caught_up ≡ true → HandsOut now service.old service.new }
+        ensures caught_up { self.new.caught_up ≡ self.old.caught_up }
     {
         if !self.caught_up {
             return;
@@ -305,7 +319,9 @@ impl<'a, R: Net + RandomSource + Clock + Drop> DesksSide<'a, R> {
         now: u64,
         faults: &mut F,
     ) -> io::Result<()>
-        ensures { IsKeptUp service.old service.new }
+        ensures keeps { IsKeptUp service.old service.new }
+        ensures mirror { service.new.mirroring ≡ service.old.mirroring }
+        ensures caught_up { self.new.caught_up ≡ self.old.caught_up }
     {
         let lengths = self.asked.desks.lengths(self.alloc)?;
         let away = self.asked.desks.away(self.alloc, now)?;
@@ -330,8 +346,9 @@ impl<'a, R: Net + RandomSource + Clock + Drop> DesksSide<'a, R> {
     }
 
     /// Does all that can be done now, and says what is wrong with the desks' keys. What was taken
-    /// is submitted once the mirror had all that a desk's log had, so that nothing is submitted
-    /// after a start that was decided before it. False: the hall is broken.
+    /// is submitted by each call from the one on before which the mirror had all that a desk's log
+    /// had, so that nothing is submitted after a start that was decided before it. False: the hall
+    /// is broken.
     pub(crate) fn keep<D: Disk, F: Write>(
         &mut self,
         service: &mut TableService<D>,
@@ -341,6 +358,9 @@ impl<'a, R: Net + RandomSource + Clock + Drop> DesksSide<'a, R> {
         ensures keeps { IsKeptUp service.old service.new }
         ensures hands { IfOk result (λ goes_on. goes_on ≡ true → self.old.caught_up ≡ true
             → HandsOut now service.old service.new) }
+        ensures caught_up { self.old.caught_up ≡ true → self.new.caught_up ≡ true }
+        ensures catches_up { IfOk result (λ goes_on. goes_on ≡ true
+            → has_all service.new.mirroring.follower.stage ≡ true → self.new.caught_up ≡ true) }
     {
         keep_asked(&mut self.asked, now, faults);
         if !self.keep_mirror(service, now)? {
@@ -358,7 +378,9 @@ impl<'a, R: Net + RandomSource + Clock + Drop> DesksSide<'a, R> {
 
     /// Says on a line, once, that a desk takes nothing for want of the key, where one refused to. A
     /// line that can't be written is left out.
-    fn tell_refused<D: Disk, F: Write>(&mut self, service: &TableService<D>, faults: &mut F) {
+    fn tell_refused<D: Disk, F: Write>(&mut self, service: &TableService<D>, faults: &mut F)
+        ensures { self.new.caught_up ≡ self.old.caught_up }
+    {
         let outbox = service.outbox();
         if self.said_refused || outbox.refusal() != Some(ClientRefusal::NotAllowed) {
             return;

@@ -1,6 +1,12 @@
+use Rattle.std.proofs.Common.{ap}
+use Rattle.table_service.specs.Services.{ServiceOf}
 use Rattle.table_service.specs.Steps.{Tells}
 use Rattle.table_service.proofs.Steps.{step}
 use Rattle.table_service.proofs.desks_side.DesksSide.tell.Goals as goal
 
-pub returns : goal.returns
-returns g c = step (Tells _) c.args.service.now c.set_desks.new.self c.set_desks.ensures
+pub returns-clause-keeps : goal.returns-clause-keeps
+returns-clause-keeps g c =
+    step (Tells _) c.args.service.now c.set_desks.new.self c.set_desks.ensures
+
+pub returns-clause-mirror : goal.returns-clause-mirror
+returns-clause-mirror g c = ap (λ (s : ServiceOf). s.mirroring) c.set_desks.ensures
