@@ -1,7 +1,7 @@
 -- What is printed after a report of what else has to fit before the day: the desks' programs, and
 -- this machine's clock, room and keys.
 use Rattle.std.specs.Prelude.{◌≡◌, ◌⊎◌, ◌+◌, ◌/◌, ◌%◌, ◌++◌, ◌∷◌, [], ℕ, Bool, true, false, max}
-use Rattle.std.specs.Prelude.{List, Option, None, Some, codes, decimal, IfSome}
+use Rattle.std.specs.Prelude.{List, Option, None, Some, codes, decimal}
 use Rattle.std.specs.Borrow.{Bor}
 use Rattle.std.specs.Io.KnownBytes.{Appends}
 use Rattle.std.specs.Path.{path_join}

@@ -1,6 +1,6 @@
 //! What else has to fit before the day: the desks' programs, and this machine.
 
-ghost use Rattle.std.specs.Prelude.{◌≡◌, ◌≤◌, ◌+◌, codes, length, string_bytes, IfOk, OnOk};
+ghost use Rattle.std.specs.Prelude.{◌≡◌, ◌≤◌, ◌+◌, length, string_bytes, IfOk, OnOk};
 ghost use Rattle.errands.specs.Polling.{outside};
 ghost use Rattle.tasks.specs.Machine.{IsKeyBeside, IsKeyLine, PrintsAll, SayPrograms, SaysAll};
 ghost use Rattle.tasks.specs.Machine.{clock_line, program_words, room_line, two_digits};
