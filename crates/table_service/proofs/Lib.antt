@@ -4,6 +4,7 @@ pub mod Pairs
 pub mod Looked
 pub mod Newest
 pub mod Mirrored
+pub mod TakenForms
 pub mod TakenOnes
 pub mod Fitting
 pub mod Undone

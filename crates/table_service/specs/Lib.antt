@@ -20,3 +20,4 @@ pub mod Lists
 pub mod Steps
 pub mod Openings
 pub mod Runs
+pub mod WorkedTaking

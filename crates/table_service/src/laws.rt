@@ -3,6 +3,7 @@
 ghost use Rattle.table_service.specs.Laws.{RefusesForeign, SavedIsTheCard, SecuresAll};
 ghost use Rattle.table_service.specs.Laws.{TakesForForms};
 ghost use Rattle.table_service.specs.Runs.{RunsAreOfTheOutbox, TakenStays};
+ghost use Rattle.table_service.specs.WorkedTaking.{WorksTaking};
 
 use outbox::laws::{loses_nothing, saved_is_entered, submits_what_is_kept, told_by_the_log};
 
@@ -52,3 +53,9 @@ pub fn saved_is_the_card()
     told_by_the_log();
     saved_is_entered();
 }
+
+/// A score table accepts a command from a page of its own, starts again after a crash, and refuses
+/// a request that names another host. So the laws on what is taken say something.
+pub fn a_form_is_taken()
+    ensures { WorksTaking }
+{}

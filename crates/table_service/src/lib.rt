@@ -35,7 +35,7 @@ pub use desks_side::PROGRAM;
 pub use disk::{Disk, SystemFile};
 pub use journal_file::{FileFault, JournalFile, Opened, open_journal};
 pub use laws::{
-    answers_are_secured, foreign_requests_are_refused, forms_alone_are_taken,
+    a_form_is_taken, answers_are_secured, foreign_requests_are_refused, forms_alone_are_taken,
     runs_are_of_the_outbox, saved_is_the_card, what_is_taken_stays,
 };
 pub use remarks::is_table_name;
