@@ -426,7 +426,7 @@ def status(given):
         what = f"{unasked} {'was' if unasked == 1 else 'were'} not asked"
         lines.append(front + (what if unasked else f"nothing is decided until {more}"))
     elif len(answers) < size:
-        lines.append(front + "the hall goes on" + (late and "; " + late))
+        lines.append(front + "the hall works" + (late and "; " + late))
     else:
         lines.append(late or f"all {size} desks have all {most} command{'s' * (most != 1)}")
     given.status = 3 if differs or 2 * count <= size else int(bool(lags))
