@@ -1,4 +1,4 @@
--- What stands in the log.
+-- What is in the log (the project's own).
 use Rattle.std.specs.Prelude.{ℕ, ◌≤◌, ◌<◌, ◌^◌, Bool, ◌&&◌, ◌==◌, List, length}
 use Rattle.std.specs.Str.{bytes_eq}
 

@@ -1,4 +1,4 @@
-//! Entries, which stand in the log.
+//! Entries, which are in the log.
 
 ghost use Rattle.std.specs.Prelude.{◌≡◌, ◌<◌, ◌↔◌, IfOk, IsErrOf};
 ghost use Rattle.acceptor.specs.Entries.{IsId, IsText};
@@ -13,7 +13,7 @@ const MOST_ID: u64 = 9_223_372_036_854_775_807;
 /// The most bytes in the text of an entry.
 const MOST_TEXT: usize = 600;
 
-/// What stands at one position of the log: an id of 1 to 2^63 - 1, and a text of 0 to 600 bytes.
+/// What is at one position of the log: an id of 1 to 2^63 - 1, and a text of 0 to 600 bytes.
 #[derive(Debug, Drop)]
 pub struct Entry {
     id: u64,

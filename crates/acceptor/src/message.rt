@@ -19,7 +19,7 @@ pub struct Report {
 ///
 /// Prepare and Promise are phase 1, Accept and Accepted phase 2 of 'Paxos Made Simple', section
 /// 2.2; Nack is its hint that a proposer had better abandon its ballot. Decided is what learners
-/// are told (section 2.3), and with Behind a desk says how long its log is.
+/// are sent (section 2.3), and with Behind a desk says how long its log is.
 #[derive(PartialEq, Eq, Debug, Drop)]
 pub enum Body {
     /// Asks for a promise to this ballot, at this position.

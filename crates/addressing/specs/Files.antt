@@ -1,4 +1,4 @@
--- Why the file of a hall gives none.
+-- Why the file of a hall gives none (the project's own).
 use Rattle.std.specs.Prelude.{◌≡◌, ◌⊎◌}
 use Rattle.errands.specs.declared.fault.DeskFault.{DeskFault}
 use Rattle.errands.specs.declared.fault.DeskFault.TheVariants as fault

@@ -1,4 +1,4 @@
--- The key under which the desks of a hall are asked.
+-- The key under which the desks of a hall are asked (the project's own).
 use Rattle.std.specs.Prelude.{◌≡◌, ◌⊎◌, ℕ, List, Option, None, Some, IsSome, option_map}
 use Rattle.std.specs.Borrow.{Bor}
 use Rattle.std.specs.Path.{path_join}

@@ -1,4 +1,4 @@
--- A hall's file, printed.
+-- A hall's file, printed (the project's own).
 use Rattle.std.specs.Prelude.{◌≡◌, ◌⊎◌, ◌<◌, ℕ, List, Option, None, length}
 use Rattle.std.specs.Io.KnownBytes.{Appends, Keeps}
 use Rattle.errands.specs.declared.fault.DeskFault.{DeskFault}

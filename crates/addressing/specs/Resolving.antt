@@ -1,4 +1,4 @@
--- The desk that arguments ask for: of an address, or of a hall's file.
+-- The desk that arguments ask for: of an address, or of a hall's file (the project's own).
 use Rattle.std.specs.Prelude.{◌≡◌, ◌≢◌, ◌⊎◌, ◌++◌, ℕ, List, Option, None, Some, Result, Ok, Err}
 use Rattle.std.specs.Prelude.{codes, decimal, option_map, string_bytes, vec_len}
 use Rattle.std.specs.Borrow.{Bor}

@@ -1,4 +1,5 @@
--- Desks that are asked one after the other, from the last one to the first, until one answers.
+-- Desks that are asked one after the other, from the last one to the first, until one answers (the
+-- project's own).
 use Rattle.std.specs.Prelude.{◌≡◌, ◌≢◌, ◌⊎◌, ◌∷◌, [], ℕ, zero, suc, List, Option, None, Some}
 use Rattle.std.specs.Prelude.{Result, Ok, Err}
 use Rattle.batch.specs.Dialing.{Adds, Dialed, Place, asked_so}
@@ -29,7 +30,7 @@ seeking file patience key =
 abbrev pub place_in : Seeking → List ℕ → Place
 place_in s address = record { to = address; patience = s.patience; key = s.key }
 
--- why the answer to a Status says nothing; none where it says how the desk stands
+-- why the answer to a Status says nothing; none where it says how the desk is
 abbrev pub why_not : Result What BatchFault → Option DeskFault
 why_not (Ok (what.Standing standing)) = None
 why_not (Ok _) = Some fault.NoAnswer

@@ -1,4 +1,4 @@
-//! The file of a hall, and what is told where it is none.
+//! The file of a hall, and what is said if it is none.
 
 ghost use Rattle.std.specs.Prelude.{ℕ, List, IfErr, IfOk, OnOk};
 ghost use Rattle.std.specs.Io.KnownBytes.{Keeps};
@@ -16,7 +16,7 @@ use std::rt::Files;
 ///
 /// # Errors
 ///
-/// `BadHallFile` where the line was told; `Run` with `NoMemory` where memory ran out.
+/// `BadHallFile` where the line was written; `Run` with `NoMemory` where memory ran out.
 pub fn hall_of_file<R: Files + AllocGlobal, F: Write>(
     rt: &R,
     path: &str,

@@ -193,15 +193,15 @@ fn at_address<R: Files + AllocGlobal>(
 /// For an address nothing is asked. Where a hall's file is named, the hall and the address are the
 /// file's, and so is the key where no file of one is given. Without a desk's number its desks are
 /// asked for their status from the last one to the first, each over a connection of its own, and
-/// the first that says how it stands is taken; where that is not the last desk, a line on the fault
-/// stream says which one it is.
+/// the first that says so is asked; where that is not the last desk, a line on the fault stream
+/// says which one it is.
 ///
 /// # Errors
 ///
-/// - `BadHallFile` where the file describes no hall or cannot be read: a line was told before.
+/// - `BadHallFile` where the file describes no hall or cannot be read: a line was written before.
 /// - `KeyFile` where the key's file gives none: no desk was asked.
 /// - `BadDesk` where its hall has no desk of the number.
-/// - Without a number the fault of desk 1, where no desk says how it stands.
+/// - Without a number the fault of desk 1, where no desk says how it is.
 /// - `Run` with `NoMemory` where memory runs out.
 pub fn addressed<R: Files + AllocGlobal, D: Dial, F: Write>(
     rt: &R,

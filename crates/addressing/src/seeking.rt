@@ -11,7 +11,7 @@ use lines::RunFault;
 use std::alloc::Global;
 use wire::What;
 
-/// Why the answer to a Status says nothing, or none where it says how the desk stands.
+/// Why the answer to a Status says nothing, or none where it says how the desk is.
 fn why_not(answer: Result<What, BatchFault>) -> Option<DeskFault>
     ensures { result ≡ why_not answer }
 {

@@ -1,4 +1,4 @@
--- Those who advance stand before one place.
+-- Those who advance are before one place.
 use Rattle.std.proofs.Common.{◌≡◌, ℕ, ◌+◌, ◌<◌, ◌≤◌, ◌==◌, nat_le, nat_lt, Bool, true, false, cond}
 use Rattle.std.proofs.Common.{not, ◌||◌, ◌&&◌, List, [], ◌∷◌, length, map, find, count_by}
 use Rattle.std.proofs.Common.{slice_get, is_some, Option, None, Some, ◌⊎◌, inl, inr, suc, refl, sym}
@@ -162,7 +162,7 @@ module _ (t : Table) (e : Entrant) (j : ℕ) (there : slice_get t.entrants j ≡
       (λ x first. better_better (key t x) (key t e) (key t o) first leads) in
       omega (arith, lt)
 
-  -- those not worse stand before a worse one
+  -- those not worse are before a worse one
   level_before : (o : Entrant) → is_better (key t e) (key t o) ≡ true
       → count_by level t.entrants < place t o
   level_before o leads =

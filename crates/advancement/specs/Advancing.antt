@@ -7,11 +7,11 @@ use Rattle.rounds.specs.Tables.{Entrant, Table, entrant, place, started, not_wor
 use Rattle.formats.specs.declared.advance.Advance.{Advance}
 use Rattle.formats.specs.declared.advance.Advance.TheVariants.{Final, Top, Percent}
 
--- the most rounds that may follow one of so many competitors (WCA Regulations, article 9m)
+-- the most rounds that may follow one of this many competitors (WCA Regulations, article 9m)
 abbrev pub later_rounds : ℕ → ℕ
 later_rounds n = if nat_le n 7 then 0 else if nat_le n 15 then 1 else if nat_le n 99 then 2 else 3
 
--- how many of so many competitors are wanted in the next round
+-- how many of this many competitors are wanted in the next round
 abbrev pub wanted : Advance → ℕ → ℕ
 wanted Final n = 0
 wanted (Top number) n = number
@@ -26,7 +26,7 @@ quota advance n = min (wanted advance n) (3 * n / 4)
 abbrev pub has_result : Entrant → Bool
 has_result e = is_some (number_of (best_of e.values))
 
--- of those who have started, at most so many are not worse than an entrant, that one included
+-- of those who have started, at most this many are not worse than an entrant, that one included
 abbrev pub is_reached_by_few : Table → ℕ → Entrant → Bool
 is_reached_by_few t most e = nat_le (not_worse t e) most
 

@@ -29,8 +29,8 @@ AreThoseWhoWait t advance ns =
 abbrev pub next_of : List ℕ → List ℕ → Option ℕ
 next_of waiting taken = find (λ n. not (list_any (λ other. other == n) taken)) waiting
 
--- Whoever takes a place as the first who was not taken in yet: after so many who were, it is the
--- one at that index of those who wait, and after all of them it is nobody.
+-- Who takes a place as the first who was not taken in yet: after this many who were, it is the one
+-- at that index of those who wait, and after all of them it is nobody.
 abbrev pub IsTakenInTurn : List ℕ → Type 0
 IsTakenInTurn waiting =
     (count : ℕ) → next_of waiting (take count waiting) ≡ slice_get waiting count

@@ -17,8 +17,8 @@ use rounds::RoundTable;
 use std::alloc::Global;
 pub use waits::{waiting, waiting_worked};
 
-/// How many rounds may follow one with so many competitors (WCA Regulations, article 9m): at most 7
-/// competitors allow none, at most 15 one, at most 99 two, and more three.
+/// How many rounds may follow one with this many competitors (WCA Regulations, article 9m): at most
+/// 7 competitors allow none, at most 15 one, at most 99 two, and more three.
 pub fn later_rounds(competitors: u16) -> u8
     ensures { result ≡ later_rounds competitors }
 {
@@ -45,7 +45,7 @@ pub fn quota(advance: Advance, competitors: u16) -> u16
 }
 
 /// The place at which nobody advances any more: those advance whose best attempt is a number and
-/// whose place is before it. It goes over the entrants once and takes no memory, so whoever asks
+/// whose place is before it. It goes over the entrants once and takes no memory, so code that asks
 /// for many entrants of a round finds it once and asks `is_through` of each.
 pub fn border(table: &RoundTable, advance: Advance) -> u16
     ensures { IsBorder table.now advance result }

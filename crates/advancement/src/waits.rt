@@ -19,8 +19,8 @@ use std::alloc::Global;
 /// whose best attempt is a number, and who do not advance. It is `NoMemory` only where a growth was
 /// refused.
 ///
-/// Whoever withdraws from the next round gives the place to the first of them who was not taken in
-/// so yet. After so many who were, that is the one at this index.
+/// One who withdraws from the next round gives the place to the first of them who was not taken in
+/// so yet. After this many who were, that is the one at this index.
 pub fn waiting(alloc: Global, table: &RoundTable, advance: Advance) -> Result<Vec<u16>, NoMemory>
     ensures order { IfOk result (λ numbers. numbers.items ≡ waiting table.now advance) }
     // These and no others wait.

@@ -1,4 +1,4 @@
--- What a desk answers from its log: what has become of an id, and the sheets.
+-- What a desk answers from its log: what has become of an id, and the sheets (the project's own).
 use Rattle.std.specs.Prelude.{◌≡◌, ℕ, ◌≤◌, ◌<◌, ◌==◌, Bool, if◌then◌else◌, List, map, length, take}
 use Rattle.std.specs.Prelude.{slice_get, Option, None, Some}
 use Rattle.std.specs.List.{list_any}

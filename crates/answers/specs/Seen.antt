@@ -1,9 +1,9 @@
--- What is seen of a desk by whoever serves it.
+-- What is seen of a desk by the code that serves it (the project's own).
 use Rattle.std.specs.Prelude.{ℕ, Bool, List}
 use Rattle.learner.specs.Desks.{Desk}
 
 -- all that the desk knows, whether its store has failed, and how many entries each desk's log has
--- at least, as that desk told it
+-- at least, as that desk reported it
 pub record Seen : Type 0 where
   pub desk : Desk
   pub is_down : Bool

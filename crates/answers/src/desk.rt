@@ -1,4 +1,4 @@
-//! What whoever serves a desk needs of it.
+//! What the code that serves a desk needs of it.
 
 ghost use Rattle.std.specs.Prelude.{◌≡◌, ◌⊎◌, ◌↔◌, ◌≤◌, List, Result, Err, Some, IfOk, OnOk, IfErr};
 ghost use Rattle.std.specs.Prelude.{true, false, length};
@@ -77,9 +77,10 @@ pub trait Desk {
         ensures promised { result ≡ (seen self.now).desk.stored.promised }
         ensures real { (result ≡ no_ballot) ⊎ IsReal (home_of self.now).desks result };
 
-    /// The greatest length of its log that each desk told this one, that of desk 1 first, at most
-    /// 65,536. It is 0 for a desk that told none, and for one that the hall does not have. A desk
-    /// tells the length of its log by a Behind, and that it is above a position by a Decided.
+    /// The greatest length of its log that each desk reported to this one, that of desk 1 first, at
+    /// most 65,536. It is 0 for a desk that reported none, and for one that the hall does not have.
+    /// A desk tells the length of its log by a Behind, and that it is above a position by a
+    /// Decided.
     fn told(&self) -> [u32; 5]
         ensures told { result ≡ (seen self.now).told }
         ensures most { AllByRecursion (λ len. len ≤ 65536) result };

@@ -1,5 +1,5 @@
 //! What a desk answers from its log: what has become of a command, and the result sheets. And what
-//! whoever serves a desk needs of it.
+//! the code that serves a desk needs of it.
 #![tactic(auto)]
 
 pub mod answers;

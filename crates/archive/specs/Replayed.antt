@@ -1,4 +1,4 @@
--- What a replay gives of an archive.
+-- What a replay gives of an archive (the project's own).
 use Rattle.std.specs.Prelude.{◌≡◌, ℕ, ◌+◌, ◌≤◌, Bool, true, if◌then◌else◌, List, ◌∷◌, ◌++◌, length}
 use Rattle.std.specs.List.{All}
 use Rattle.acceptor.specs.Entries.{IsText}

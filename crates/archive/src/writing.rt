@@ -26,7 +26,7 @@ fn is_line(text: &[u8]) -> bool
     !text.contains(&b'\n')
 }
 
-/// Whether an id stands at a position, and nowhere in front of it.
+/// Whether an id is at a position, and nowhere in front of it.
 fn is_first(log: &Log, pos: u32, id: u64) -> bool
     ensures { result ≡ is_at pos (position_of log.now.entries id) }
 {
@@ -90,7 +90,7 @@ fn push_from(
 }
 
 /// Writes a line for each position of a log from `from` on: the text of the entry there, where its
-/// id stands there for the first time in the whole log and the text has no line feed, else an empty
+/// id is there for the first time in the whole log and the text has no line feed, else an empty
 /// one. A line feed ends each. Where the log ends at `from` or before, nothing is written.
 ///
 /// After the lines of the positions in front of `from` these are the lines of [`write_log`].
@@ -124,8 +124,8 @@ pub fn write_log_from<W: Write>(
     write_out(writer, &mut out)
 }
 
-/// Writes a line for each position of a log: the text of the entry there, where its id stands there
-/// for the first time and the text has no line feed, else an empty one. A line feed ends each.
+/// Writes a line for each position of a log: the text of the entry there, where its id is there for
+/// the first time and the text has no line feed, else an empty one. A line feed ends each.
 ///
 /// So `replay` of what was written gives each sheet of the log at its length. A plain copy of the
 /// texts would not: a repeated entry is refused in the log, and would be done again in a replay,

@@ -4,7 +4,7 @@ use Rattle.std.proofs.Common.{get_or, length, map, sym, take}
 use Rattle.std.proofs.lemmas.List.{take_all}
 use Rattle.clap.specs.Words.{Text}
 
--- the id stands before all that are left
+-- the id is before all that are left
 pub id_before : (words : List (Bor Text)) (d : Bor Text) (id : ℕ) → 1 ≤ length words
     → (get_or words 0 d).now ≡ decimal id
     → map (λ w. w.now) words

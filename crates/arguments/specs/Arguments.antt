@@ -1,4 +1,5 @@
--- The arguments of subcommands, as the parser knows them, and what a number is.
+-- The arguments of subcommands, as the parser knows them, and what a number is (in the words of the
+-- crate `clap`).
 use Rattle.std.specs.Borrow.{Bor}
 use Rattle.std.specs.Prelude.{◌≡◌, ◌⊎◌, true, false, ℕ, List, codes, decimal, option_map}
 use Rattle.std.specs.Prelude.{Option, None, Some}
@@ -44,11 +45,11 @@ optional_value_rule id parser = record (option_rule id parser) { required = fals
 abbrev pub optional_rule : Text → ℕ → ℕ → Rule
 optional_rule id low high = optional_value_rule id (numbers low high)
 
--- it cannot stand beside certain other arguments, or not without them
+-- it cannot be given beside certain other arguments, or not without them
 abbrev pub bound : Rule → Rule
 bound r = record r { is_free = false }
 
--- so many values, from one number to another, after one use
+-- this many values, from one number to another, after one use
 abbrev pub several : ℕ → ℕ → Rule → Rule
 several low high r =
     record r { range = Some (record { start_inclusive = low; end_inclusive = high }) }

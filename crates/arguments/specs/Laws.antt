@@ -1,4 +1,4 @@
--- The law of the two programs that have the subcommand `replay`.
+-- The law of the two programs that have the subcommand `replay` (the project's own).
 use Rattle.std.specs.Prelude.{◌∷◌, List, codes}
 use Rattle.clap.specs.Words.{Text}
 use Rattle.arguments.specs.Asking.{Asks}

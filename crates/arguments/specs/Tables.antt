@@ -1,4 +1,5 @@
--- What the tables of arguments describe: the rules of arguments, and the subcommands.
+-- What the tables of arguments describe: the rules of arguments, and the subcommands (the project's
+-- own).
 use Rattle.std.specs.List.{fold}
 use Rattle.std.specs.Prelude.{◌&&◌, Bool, List, Option, Some, if◌then◌else◌}
 use Rattle.clap.specs.Walk.{is_empty}

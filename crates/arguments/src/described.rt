@@ -38,9 +38,9 @@ pub struct Argument<'a> {
     /// Whether it is known by its place. Else it is given after two hyphens and its id.
     pub by_place: bool,
     pub required: bool,
-    /// The arguments beside which it cannot stand.
+    /// The arguments beside which it cannot be given.
     pub without: &'a [&'a str],
-    /// The arguments without which it cannot stand.
+    /// The arguments without which it cannot be given.
     pub needs: &'a [&'a str],
 }
 
@@ -50,7 +50,7 @@ pub struct Subcommand<'a> {
     pub name: &'a str,
     /// What it does, on a line.
     pub about: &'a str,
-    /// What stands below the arguments in its help.
+    /// What is below the arguments in its help.
     pub after: &'a str,
     /// The arguments that it shares with other subcommands.
     pub common: &'a [Argument<'a>],

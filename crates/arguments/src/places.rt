@@ -127,7 +127,7 @@ pub fn hall_at(found: &ArgMatches<'_>) -> Option<u32>
     four_bytes_at(found, "hall")
 }
 
-/// The file of a hall, where no number and no address stand beside it.
+/// The file of a hall, where no number and no address are given beside it.
 pub fn hall_file_at<'a>(found: &ArgMatches<'a>, address: &str) -> Option<&'a str>
     ensures { IfSome result (λ file.
         IsHallFile file.now address.now (rows_of (found_of found.now))) }

@@ -53,7 +53,7 @@ pub struct Lines {
     pub first_id: Option<u64>,
     /// Whether each command is waited for until it is decided.
     pub waits: bool,
-    /// Whether the progress is told.
+    /// Whether the progress is shown.
     pub progress: bool,
     /// Whether the first refused command ends it.
     pub stops_at_refusal: bool,
@@ -103,7 +103,7 @@ pub struct HallService<'a> {
     pub entry_key: Option<&'a str>,
     /// The path of the file with the key that was the hall's.
     pub old_key: Option<&'a str>,
-    /// Whether whoever has no key may ask for sheets.
+    /// Whether callers without a key may ask for sheets.
     pub open_sheets: bool,
 }
 
@@ -129,7 +129,7 @@ pub enum Task<'a> {
     },
     /// The results of all rounds of a log, as JSON.
     Results,
-    /// A hall of so many desks, run from a script.
+    /// A hall of this many desks, run from a script.
     Hall {
         desks: u8,
     },
@@ -157,7 +157,7 @@ pub enum Task<'a> {
         round: u8,
         style: SheetStyle,
     },
-    /// To enter a command at a desk, whose words stand between single spaces; without an id one is
+    /// To enter a command at a desk, whose words are between single spaces; without an id one is
     /// chosen.
     Enter {
         place: Place<'a>,
@@ -183,7 +183,7 @@ pub enum Task<'a> {
         from: u32,
         form: LogForm,
     },
-    /// How the desks of a hall stand, and this machine too where `all` is wanted.
+    /// How the desks of a hall are, and this machine too where `all` is wanted.
     Status {
         desks: Desks<'a>,
         patience: u32,
@@ -284,7 +284,7 @@ fn task_named<'m, 'a: 'm>(name: &str, found: &'m ArgMatches<'a>) -> Option<Task<
 }
 
 /// What parsed arguments ask for. Nothing where a number has a sign or leading zeros or is out of
-/// its range, or where arguments stand side by side that cannot; the parser refuses the latter.
+/// its range, or where arguments are given together that cannot be; the parser refuses the latter.
 pub fn task_of<'m, 'a: 'm>(matches: &'m ArgMatches<'a>) -> Option<Asked<'m>>
     ensures task { IfSome result (λ asked. Finds (subcommand_rows_of matches.now) asked.task) }
     ensures explains { IfSome result

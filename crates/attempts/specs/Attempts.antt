@@ -27,7 +27,7 @@ abbrev pub solution_value : Fm → Value
 solution_value (fm.Moves n) = value.Number n
 solution_value fm.Dnf = value.Dnf
 
--- Multi-blind: so many cubes solved of those attempted, in so many seconds (WCA Regulations,
+-- Multi-blind: this many cubes solved of those attempted, in this many seconds (WCA Regulations,
 -- article 9f)
 
 abbrev pub unsolved : ℕ → ℕ → ℕ

@@ -1,4 +1,5 @@
--- What holds of every result of multi-blind: how the numbers are ordered, and what is read back.
+-- What holds of every result of multi-blind: how the numbers are ordered, and what is read back
+-- (the project's own).
 use Rattle.std.specs.Prelude.{◌≡◌, ◌↔◌, ℕ, ◌/◌, ◌%◌, ◌<◌, Bool, true, ◌==◌, ◌||◌, ◌&&◌, nat_lt}
 use Rattle.std.specs.Prelude.{List, [], ◌∷◌, map, Option}
 use Rattle.std.specs.List.{slice_split}
@@ -9,7 +10,7 @@ use Rattle.attempts.specs.declared.Value.TheVariants as value
 use Rattle.attempts.specs.Attempts.{points, unsolved, value_of, IsOutcome}
 use Rattle.attempts.specs.Texts.{value_text}
 
--- so many cubes solved of those attempted, in so many seconds
+-- this many cubes solved of those attempted, in this many seconds
 pub record Multi : Type 0 where
   pub solved : ℕ
   pub attempted : ℕ

@@ -153,7 +153,7 @@ fn rounded(sum: u32) -> u32
     }
 }
 
-/// The value of so many cubes solved of those attempted, in so many seconds.
+/// The value of this many cubes solved of those attempted, in this many seconds.
 fn multi_value(solved: u8, attempted: u8, seconds: u16) -> Value
     requires few { attempted ≤ 99 }
     requires solved { solved ≤ attempted }

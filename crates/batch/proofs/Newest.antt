@@ -1,4 +1,4 @@
--- A request for how a desk stands, and one for a sheet after it.
+-- A request for how a desk is, and one for a sheet after it.
 use Rattle.std.proofs.Common.{◌≡◌, ◌∷◌, [], true, false, ap, inr, refl, subst, Result, Ok}
 use Rattle.std.proofs.Common.{Err, IfErr, IfOk, None, Some, ◌==◌, ◌∙◌}
 use Rattle.client.specs.Answers.{answers, fits, is_standing}
@@ -30,7 +30,7 @@ only_standing r answer h =
     last_of (given.hall == r.hall) (given.from == r.desk) (fits what.Status given.what) is.1 in
     is_so answer (subst (λ w. is_standing w ≡ true) is.0 fitting)
 
--- so it says how the desk stands
+-- so it says how the desk is
 pub not_none : (r : Receiver) (answer : What) → IsAnswer (standing_asked r) answer
     → None ≡ standing_said answer → ⊥
 not_none r answer h none =

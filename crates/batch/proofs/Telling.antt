@@ -27,7 +27,7 @@ use Rattle.batch.proofs.Trying.{tries_of, turned_down_for, turned_off, waits_on}
 
 -- ---- of a request that enters a text
 
--- so many tries, and one request more that is no reason for a further one
+-- this many tries, and one request more that is no reason for a further one
 full_tries : (r : Receiver) (submit : Frame) (entry : Entry) (m n : ℕ) (front : List Asked)
     (last : Result What BatchFault) → submit.what ≡ what.Submit entry
     → Counts (IsFull submit) (IsTicked r) m n front
@@ -146,7 +146,7 @@ tick_off_told r submit m n a b c d w f g few h add busy tick heard =
 
 -- ---- of a question for an id
 
--- so many times it was not decided, and one question more that is no reason for a further one
+-- this many times it was not decided, and one question more that is no reason for a further one
 pending_tries : (r : Receiver) (id m n : ℕ) (front : List Asked) (last : Result What BatchFault)
     → Counts (IsWaiting (ask_of r id)) (IsTicked r) m n front
     → undecided_in last ≡ 0

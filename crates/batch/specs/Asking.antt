@@ -1,4 +1,4 @@
--- Requests to a desk, and what came of each.
+-- Requests to a desk, and what came of each (the project's own).
 use Rattle.std.specs.Prelude.{◌≡◌, ◌⊎◌, ◌+◌, ◌++◌, ◌∷◌, [], ℕ, List, Ok, Err, IsOk, IsOkAnd}
 use Rattle.std.specs.Prelude.{Bool, true, false, if◌then◌else◌}
 use Rattle.std.specs.List.{AllByRecursion}
@@ -45,7 +45,7 @@ ask_of r id =
 abbrev pub tick_of : Receiver → Frame
 tick_of r = request_to r what.Tick
 
--- the request for what stands in the desk's log from a position on
+-- the request for what is in the desk's log from a position on
 abbrev pub log_of : Receiver → ℕ → Frame
 log_of r position = log_request r.hall r.desk position
 
@@ -53,7 +53,7 @@ log_of r position = log_request r.hall r.desk position
 abbrev pub IsAnswer : Frame → What → Type 0
 IsAnswer asked answer = (given : Frame) × IsFrame given × (judged asked given ≡ Ok answer)
 
--- it says that the command stands in the log
+-- it says that the command is in the log
 abbrev pub IsDecided : What → Type 0
 IsDecided answer = (id pos : ℕ) × (said : _) × (answer ≡ what.Told id (Done pos said))
 
@@ -103,7 +103,7 @@ IsKnown ask a = a.request ≡ ask → (told : What) → a.answer ≡ Ok told →
 abbrev pub IsPutOff : Receiver → Frame → Asked → Type 0
 IsPutOff r ask a = IsWaiting ask a ⊎ IsTicked r a
 
--- of so many of the requests the one is said, and of so many, all that are left, the other
+-- of this many of the requests the one is said, and of this many, all that are left, the other
 abbrev pub Counts : (Asked → Type 0) → (Asked → Type 0) → ℕ → ℕ → List Asked → Type 0
 Counts Is IsElse m n [] = (m ≡ 0) × (n ≡ 0)
 Counts Is IsElse m n (a ∷ asked) =

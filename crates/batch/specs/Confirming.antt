@@ -1,4 +1,5 @@
--- The entry that a desk has decided: whether it is the command that was entered.
+-- The entry that a desk has decided: whether it is the command that was entered (the project's
+-- own).
 use Rattle.std.specs.Prelude.{◌≡◌, ◌≢◌, ◌⊎◌, ◌∷◌, [], ℕ, List, Result, Ok, Err}
 use Rattle.acceptor.specs.declared.entry.Entry.{Entry}
 use Rattle.client.specs.declared.fault.ClientFault.TheVariants.{NoAnswer}
@@ -15,7 +16,7 @@ use Rattle.batch.specs.declared.fault.BatchFault.TheVariants as fault
 abbrev pub entry_of : ℕ → List ℕ → Entry
 entry_of id text = record { id = id; text = text }
 
--- the answer says that the command stands in the log at this position
+-- the answer says that the command is in the log at this position
 abbrev pub IsDecidedAt : ℕ → What → Type 0
 IsDecidedAt pos answer = (id : ℕ) × (said : _) × (answer ≡ what.Told id (Done pos said))
 
@@ -29,8 +30,8 @@ HasFirst answer entry =
 abbrev pub IsEntryAt : Receiver → ℕ → Entry → What → Type 0
 IsEntryAt r pos entry answer = IsAnswer (log_of r pos) answer × HasFirst answer entry
 
--- the desk was asked for its log at the position at which it has told the command to stand, and the
--- entry there is this id and this text
+-- the desk was asked for its log at the position at which it has reported the command to be, and
+-- the entry there is this id and this text
 pub record IsConfirmed (r : Receiver) (id : ℕ) (text : List ℕ) (told : What) (asked : List Asked)
     : Type 0 where
   pub pos : ℕ
@@ -56,7 +57,7 @@ pub record IsUnconfirmed (f : BatchFault) (r : Receiver) (id : ℕ) (text : List
   pub why : IsNotOwn f r pos (entry_of id text) result
   pub parts : asked ≡ asked_so (log_of r pos) result ∷ []
 
--- the entry at the position at which the desk has told the command to stand is another one
+-- the entry at the position at which the desk has reported the command to be is another one
 abbrev pub IsAnother : BatchFault → Receiver → ℕ → List ℕ → What → Type 0
 IsAnother f r id text told =
     (f ≡ fault.AnotherCommand) × (pos : ℕ) × IsDecidedAt pos told

@@ -1,4 +1,5 @@
--- What becomes of connections to desks, where that is told, and how requests are made over them.
+-- What becomes of connections to desks, where that is known, and how requests are made over them
+-- (the project's own).
 use Rattle.std.specs.Prelude.{◌≡◌, ◌⊎◌, ◌++◌, ◌+◌, ◌<◌, ◌≤◌, ◌∷◌, [], ℕ, List, Option, None, Some}
 use Rattle.std.specs.Prelude.{Result, Ok, Err, ⊤}
 use Rattle.client.specs.Exchange.{Exchanges, Sides}
@@ -31,7 +32,7 @@ pub data Dialed : Type 0 where
   Again : Dialed
   Ended : (left new : Option (List ℕ)) → Ending → Dialed
 
--- what is told grows by these, in order, where it is told; who tells may stop, and never begins
+-- what is told grows by these, in order, where it is known; who tells may stop, and never begins
 abbrev pub Grows : {A : Type 0} → Option (List A) → Option (List A) → List A → Type 0
 Grows None None more = ⊤
 Grows (Some xs) None more = ⊤
@@ -119,7 +120,7 @@ IsHungUp (Err (client.Refused refusal)) ending = ⊥
 IsHungUp (Err client.NoMemory) ending = ⊥
 IsHungUp (Ok answer) ending = ⊥
 
--- what came of it stands, unless it was made over a connection that was kept and is cut off
+-- what came of it holds, unless it was made over a connection that was kept and is cut off
 abbrev pub Stands : Option Line → Result What ClientFault → Ending → Type 0
 Stands None result ending = Unit {0}
 Stands (Some l) result ending = ¬ IsHungUp result ending
@@ -204,7 +205,7 @@ AreMade p (a ∷ asked) before after dialed =
     (done : Option Line) × (one rest : List Dialed) × IsMade p before a done one
     × AreMade p asked done after rest × (dialed ≡ one ++ rest)
 
--- what became of connections, where that is told, and the one that is kept
+-- what became of connections, where that is known, and the one that is kept
 pub record Standing : Type 0 where
   pub dialed : Option (List Dialed)
   pub line : Option Line
@@ -240,7 +241,7 @@ pub record Adds (p : Place) (old new : Option (List Dialed)) (asked : List Asked
   pub goes : Goes p (closed old) last asked
   pub ends : LetsGo last new
 
--- the place of requests, and how connections to it stand before a call and afterwards
+-- the place of requests, and how connections to it are before a call and afterwards
 pub record Way : Type 0 where
   pub place : Place
   pub old : Standing
@@ -252,7 +253,7 @@ GoesBy w asked = Goes w.place w.old w.new asked
 abbrev pub AsksBy : Way → (List Asked → Type 0) → Type 0
 AsksBy w Is = Asks w.place w.old w.new Is
 
--- what became of connections to the place before a call and afterwards, where that is told
+-- what became of connections to the place before a call and afterwards, where that is known
 pub record Told : Type 0 where
   pub place : Place
   pub old : Option (List Dialed)

@@ -1,4 +1,4 @@
--- What entering lines sends and prints.
+-- What entering lines sends and prints (the project's own).
 use Rattle.std.specs.Prelude.{◌≡◌, ◌≢◌, ◌⊎◌, ◌+◌, ◌^◌, ◌≤◌, ◌++◌, ◌∷◌, [], ℕ, Bool, true, false}
 use Rattle.std.specs.Prelude.{◌&&◌, List, length, map, Option, Some, None, Result, Ok, Err}
 use Rattle.std.specs.Io.KnownBytes.{Appends}
@@ -30,7 +30,7 @@ use Rattle.batch.specs.declared.lines_entered.Batch.{Batch}
 abbrev pub texts_of : List Numbered → List (List ℕ)
 texts_of commands = map (λ c. c.text) commands
 
--- the desk has told the command to stand in its log, and the entry there to be this id and this
+-- the desk has reported the command to be in its log, and the entry there to be this id and this
 -- text
 abbrev pub IsOwn : Receiver → ℕ → List ℕ → What → Type 0
 IsOwn r id text last =
@@ -78,7 +78,7 @@ pub record EntersSome (b : Batch) (lines : List (List ℕ)) (old new : Option (L
 
 -- ---- refusals
 
--- how a command was answered, where that was told
+-- how a command was answered, where that is known
 abbrev pub told_answer : What → Option Answer
 told_answer (what.Told id (Done pos answer)) = Some answer
 told_answer _ = None
@@ -159,8 +159,8 @@ EnteredBy true r id text last asked =
 EnteredBy false r id text last asked = IsTaken r id text last asked
 
 -- These requests entered the lines, one line after the other, of which the first has this id, and
--- each further one the next; this is what is printed of the last answers, and what the observer is
--- told; and none of them ends the run.
+-- each further one the next; this is what is printed of the last answers, and what the observer
+-- hears; and none of them ends the run.
 abbrev pub SaidBy : Batch → ℕ → List (List ℕ) → List ℕ → List Asked → List Notice → Type 0
 SaidBy b id [] said asked told = (said ≡ []) × (asked ≡ []) × (told ≡ [])
 SaidBy b id (line ∷ lines) said asked told =
@@ -229,7 +229,7 @@ StopsAsking f r id text asked =
     × ((AreKnown r id asked × EndsAsking f r id text asked)
     ⊎ ((f ≡ fault.Lost) × IsLost r id text asked))
 
--- What the observer is told of the line at which entering ends, with this id and these requests:
+-- What the observer hears of the line at which entering ends, with this id and these requests:
 -- nothing, where there is no such number of 64 bits; else that it begins, and what is told of its
 -- requests; and where it is the refused line at which the run ends, how it was answered.
 abbrev pub TellsStop : BatchFault → Batch → ℕ → List ℕ → List Asked → List Notice → Type 0
@@ -240,14 +240,14 @@ TellsStop f b id line asked told =
     × (last : What) × EnteredBy b.waits b.receiver id line last asked × (ends_run b last ≡ true)
     × (told ≡ line_notices id line asked (told_answer last))))
 
--- so asking for the line stopped, and so the observer is told
+-- so asking for the line stopped, and so the observer hears
 abbrev pub StopsTelling : Watched → BatchFault → Batch → ℕ → List ℕ → List Asked → Type 0
 StopsTelling v f b id line asked =
     StopsAsking f b.receiver id line asked
     × (told : List Notice) × Tells v told × TellsStop f b id line asked told
 
 -- line n, counted from 0, was entered by the requests that were made, its last answer is printed,
--- the observer was told of it, and it does not end the run
+-- the observer heard of it, and it does not end the run
 pub record EntersLine (b : Batch) (n : ℕ) (line : List ℕ) (w : Way) (v : Watched)
     (old new : Option (List ℕ)) : Type 0 where
   pub last : What
@@ -268,7 +268,7 @@ pub record FailsLine (Fails : BatchFault → Type 0) (f : BatchFault) (b : Batch
   pub stops : StopsLine Fails f b id line said
 
 -- each line was entered by the requests that were made, of all of which this is said, and so the
--- observer is told
+-- observer hears
 pub record AsksLines (Are : List Asked → Type 0) (v : Watched) (b : Batch) (lines : List (List ℕ))
     (old new : Option (List ℕ)) : Type 0 where
   pub enters : EntersAll b lines old new
@@ -279,7 +279,7 @@ pub record AsksLines (Are : List Asked → Type 0) (v : Watched) (b : Batch) (li
   pub each : SaidBy b b.first_id lines enters.said asked notices
 
 -- So were the lines of the front part. What was asked after them was for the next line, with the
--- next id, and so was what the observer was told after them.
+-- next id, and so was what the observer heard after them.
 pub record AsksFront (Are : List Asked → Type 0) (v : Watched) (Fails : BatchFault → Type 0)
     (f : BatchFault) (b : Batch) (lines : List (List ℕ)) (old new : Option (List ℕ)) : Type 0 where
   pub stops : StopsBy Fails f b lines old new

@@ -1,4 +1,4 @@
--- The log of a desk, asked for part after part.
+-- The log of a desk, asked for part after part (the project's own).
 use Rattle.std.specs.Prelude.{◌≡◌, ◌⊎◌, ◌+◌, ◌<◌, ◌≤◌, ◌++◌, ◌∷◌, [], ℕ, List, length, Result}
 use Rattle.std.specs.Prelude.{Ok, Err}
 use Rattle.acceptor.specs.declared.entry.Entry.{Entry}
@@ -13,8 +13,8 @@ use Rattle.batch.specs.declared.fault.BatchFault.{BatchFault}
 use Rattle.batch.specs.declared.fault.BatchFault.TheVariants as fault
 
 -- The answer has these entries of a log of this length, from the position on. The log has not
--- become shorter than it was told to be, the entries end within it, and there is one, unless the
--- log ends at the position.
+-- become shorter than it was reported to be, the entries end within it, and there is one, unless
+-- the log ends at the position.
 pub record IsPart (position least len : ℕ) (entries : List Entry) (answer : What) : Type 0 where
   pub has : answer ≡ what.Entries position len entries
   pub grows : least ≤ len
@@ -30,9 +30,9 @@ pub record IsPartBy (r : Receiver) (position least len : ℕ) (entries : List En
   pub comes : IsAnswer (log_of r position) answer
   pub part : IsPart position least len entries answer
 
--- Behind this position of a log that was told to be so long, these entries came by these requests,
--- and the log was told to be so long at last. Each was asked for where the log goes on, from where
--- the entries end that had come.
+-- Behind this position of a log that was reported to be this long, these entries came by these
+-- requests, and the log was reported to be this long at last. Each was asked for where the log goes
+-- on, from where the entries end that had come.
 abbrev pub AreFurther : Receiver → (position told : ℕ) → List Asked → List Entry → ℕ → Type 0
 AreFurther r position told [] entries last = (entries ≡ []) × (last ≡ told)
 AreFurther r position told (a ∷ asked) entries last =
@@ -40,8 +40,8 @@ AreFurther r position told (a ∷ asked) entries last =
     × IsPartBy r position told len first a
     × AreFurther r (position + length first) len asked rest last × (entries ≡ first ++ rest)
 
--- These entries, from the log's beginning on, came by these requests, and the log was told to be so
--- long at last. Nothing was asked, or first for the log's beginning.
+-- These entries, from the log's beginning on, came by these requests, and the log was reported to
+-- be this long at last. Nothing was asked, or first for the log's beginning.
 abbrev pub HaveCome : Receiver → List Asked → List Entry → ℕ → Type 0
 HaveCome r [] log told = (log ≡ []) × (told ≡ 0)
 HaveCome r (a ∷ asked) log told =

@@ -1,5 +1,5 @@
--- The newest sheet of a round: a desk is asked how it stands, and then for the sheet at the length
--- that it says its log has.
+-- The newest sheet of a round: a desk is asked how it is, and then for the sheet at the length that
+-- it says its log has (the project's own).
 use Rattle.std.specs.Prelude.{◌≡◌, ◌⊎◌, ◌∷◌, [], ℕ, List, Option, None, Some, Ok, Err}
 use Rattle.client.specs.Standings.{status_request}
 use Rattle.client.specs.Versions.{sheet_version}
@@ -13,7 +13,7 @@ use Rattle.batch.specs.declared.asking.Receiver.{Receiver}
 use Rattle.batch.specs.declared.fault.BatchFault.{BatchFault}
 use Rattle.batch.specs.declared.newest_asked.RoundSheet.{RoundSheet}
 
--- the request for how the desk stands
+-- the request for how the desk is
 abbrev pub standing_asked : Receiver → Frame
 standing_asked r = status_request r.hall r.desk
 
@@ -28,16 +28,16 @@ sheet_at r s position =
       what = what.Sheet s.event s.round position s.style;
     }
 
--- how a desk stands, where an answer says it
+-- how a desk is, where an answer says it
 abbrev pub standing_said : What → Option Standing
 standing_said (what.Standing standing) = Some standing
 standing_said _ = None
 
--- the desk said that it stands so
+-- the desk said that it is so
 abbrev pub said : Receiver → Standing → Asked
 said r standing = asked_so (standing_asked r) (Ok (what.Standing standing))
 
--- The desk was asked how it stands, and then for the sheet at the length that it said. This is its
+-- The desk was asked how it is, and then for the sheet at the length that it said. This is its
 -- answer to that.
 pub record GivesNewest (r : Receiver) (s : RoundSheet) (answer : What) (asked : List Asked)
     : Type 0 where

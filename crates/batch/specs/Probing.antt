@@ -1,4 +1,4 @@
--- Whether a desk is asked by an Await.
+-- Whether a desk is asked by an Await (the project's own).
 use Rattle.std.specs.Prelude.{◌≡◌, ◌⊎◌, ◌≤◌, ◌∷◌, [], ℕ, Bool, true, false, Result, Ok, Err}
 use Rattle.client.specs.Standings.{await_request}
 use Rattle.client.specs.declared.fault.ClientFault.TheVariants.{Refused}

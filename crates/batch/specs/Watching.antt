@@ -1,4 +1,4 @@
--- What an observer is told while commands are entered, where that is known.
+-- What an observer hears while commands are entered, where that is known (the project's own).
 use Rattle.std.specs.Prelude.{◌+◌, ◌++◌, ◌∷◌, [], ℕ, List, Option, None, Result, Ok}
 use Rattle.std.specs.Prelude.{Bool, true, false, Err, map, min, if◌then◌else◌}
 use Rattle.std.specs.List.{range_with_len}
@@ -13,16 +13,16 @@ use Rattle.batch.specs.Dialing.{Asked, Grows}
 use Rattle.batch.specs.declared.fault.BatchFault.{BatchFault}
 use Rattle.batch.specs.declared.fault.BatchFault.TheVariants as fault
 
--- A command with this id and this text is about to be entered. It is tried again, after so many
+-- A command with this id and this text is about to be entered. It is tried again, after this many
 -- tries in front of this one. It was entered, and its line is printed; where it was waited for, it
--- was answered so. This other entry stands in the log under its id.
+-- was answered so. This other entry is in the log under its id.
 pub data Notice : Type 0 where
   Begins : (id : ℕ) → (text : List ℕ) → Notice
   Waits : (tries : ℕ) → Notice
   Entered : Option Answer → Notice
   Another : Entry → Notice
 
--- what the observer was told before a call and afterwards
+-- what the observer heard before a call and afterwards
 pub record Watched : Type 0 where
   pub old : Option (List Notice)
   pub new : Option (List Notice)
@@ -59,7 +59,7 @@ undecided_in (Err f) = 0
 abbrev pub pending_in : What → Result What BatchFault → ℕ
 pending_in w answer = if asks_for w then undecided_in answer else 0
 
--- the entry that stands first in the answer to a request for the log
+-- the entry that is first in the answer to a request for the log
 abbrev pub entry_in : What → Result What BatchFault → List Notice
 entry_in (what.Log position) (Ok (what.Entries from len (entry ∷ more))) = Another entry ∷ []
 entry_in _ _ = []
@@ -78,7 +78,7 @@ abbrev pub entries_of : List Asked → List Notice
 entries_of [] = []
 entries_of (a ∷ asked) = entry_in a.request.what a.answer ++ entries_of asked
 
--- so many times it is told that the same is tried again: after no try, after one, and so on
+-- this many times it is told that the same is tried again: after no try, after one, and so on
 abbrev pub waits_of : ℕ → List Notice
 waits_of tries = map Waits (range_with_len 0 tries)
 

@@ -18,10 +18,10 @@ use std::alloc::Global;
 use wire::What;
 
 /// Enters a text with an id at a desk, and gives the last answer: that it was taken, or, where it
-/// is waited for, what it was answered at which position of the log. It is told to be decided only
+/// is waited for, what it was answered at which position of the log. It is reported decided only
 /// where the entry at that position is this id and this text. Requests are made as by
-/// [`enter_lines`](crate::enter_lines), and the observer is told of each try after which it is
-/// tried again.
+/// [`enter_lines`](crate::enter_lines), and the observer hears of each try after which it is tried
+/// again.
 ///
 /// # Errors
 ///

@@ -21,7 +21,7 @@ use client::{ClientFault, log_request};
 use std::alloc::Global;
 use wire::{CommandState, What};
 
-/// The position at which a command is told to stand.
+/// The position at which a command is reported to be.
 fn position_of(told: &What) -> u32
     requires { IsDecided told.now }
     ensures at { IsDecidedAt result told.now }
@@ -55,13 +55,13 @@ fn is_this(entry: &Entry, id: u64, text: &[u8]) -> bool
     entry.id() == id && entry.text() == text
 }
 
-/// Asks for the entry at the position at which a command is told to stand, and sees that it has
+/// Asks for the entry at the position at which a command is reported to be, and sees that it has
 /// this id and this text.
 ///
 /// # Errors
 ///
 /// Those of [`ask_over`](crate::ask_over). `AnotherCommand` where the entry is another one, of
-/// which the observer is told; `Asking` with `NoAnswer` where the answer has no entry.
+/// which the observer hears; `Asking` with `NoAnswer` where the answer has no entry.
 pub(crate) fn confirm<D: Dial, V: Watch>(
     alloc: Global,
     dial: &mut D,

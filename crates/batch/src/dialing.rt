@@ -41,7 +41,7 @@ pub trait Dial {
 
     type Writer: Write + Drop;
 
-    /// What became of the connections, in order, where that is told.
+    /// What became of the connections, in order, where that is known.
     ghost dialed: { Self → Option (List Dialed) };
 
     /// Opens a connection for a request, under the contact's key: what the desk says, and where
@@ -65,7 +65,7 @@ pub trait Dial {
         ensures { Dials (dialed self.old) (dialed self.new)
             (Ended (Self.Reader.remaining reader) (Self.Writer.contents writer) result ∷ []) };
 
-    /// Rests, before the same is asked once more, after so many tries, counted from 0. Nothing is
+    /// Rests, before the same is asked once more, after this many tries, counted from 0. Nothing is
     /// done with connections.
     fn pause(&mut self, tries: u32)
         ensures { Dials (dialed self.old) (dialed self.new) [] };

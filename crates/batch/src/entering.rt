@@ -32,14 +32,14 @@ const MOST_TRIES: u32 = 10_000;
 /// How many times a desk is asked that waits a second with its answer, and is ticked then.
 const MOST_WAITS: u32 = 300;
 
-/// Behind so many of them the desk is ticked.
+/// After this many of them the desk is ticked.
 const TRIES_TO_TICK: u32 = 32;
 
 /// The greatest id.
 const GREATEST: u64 = 9_223_372_036_854_775_807;
 
-/// Rests after a try, counted from 0, of which the observer is told, and gives the desk a tick
-/// after every 32nd one.
+/// Rests after a try, counted from 0, of which the observer hears, and gives the desk a tick after
+/// every 32nd one.
 fn rest_behind<D: Dial, V: Watch>(
     alloc: Global,
     dial: &mut D,
@@ -210,8 +210,8 @@ enum Fate {
     Unknown,
 }
 
-/// What a desk's answer says of a command: that it stands in the log, that the desk knows nothing
-/// of it, or neither.
+/// What a desk's answer says of a command: that it is in the log, that the desk knows nothing of
+/// it, or neither.
 fn fate_of(told: &What) -> Fate
     ensures decided { result ≡ fate.Decided → IsDecided told.now }
     ensures waits { result ≡ fate.Waits → IsPending told.now }

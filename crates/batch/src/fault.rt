@@ -36,7 +36,7 @@ pub enum BatchFault {
     /// The desk took the command and has lost it: it was started again in between.
     #[error("lost")]
     Lost,
-    /// Under this id another command stands in the log.
+    /// Under this id another command is in the log.
     #[error("another command's id")]
     AnotherCommand,
     /// A command was refused, and the run was to end there.

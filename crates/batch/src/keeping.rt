@@ -16,7 +16,7 @@ use std::io;
 use std::io::{ErrorKind, Read, Write};
 use wire::{Frame, What};
 
-/// The most requests over one connection: a desk ends it after so many frames.
+/// The most requests over one connection: a desk ends it after this many frames.
 const MOST_REQUESTS: u32 = 64;
 
 /// A connection that is kept for the next request, and how many were made over it.

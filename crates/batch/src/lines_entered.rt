@@ -167,7 +167,7 @@ fn enter_lines_over<D: Dial, W: Write, V: Watch>(
 /// Command `n`, counted from 1, has the id `first_id + n - 1`. It is entered again where the desk's
 /// queue is full. For each command one line is written: `taken <id>`, or, where it is waited for,
 /// `done <id> <pos> <Done or Code>`. A desk that doesn't decide is ticked now and then. Where a
-/// command is told to stand in the log, the entry there is asked for, and it is called done only
+/// command is reported to be in the log, the entry there is asked for, and it is called done only
 /// where that is this id and this text: another client may have entered another text with the id.
 ///
 /// Requests are made over one connection, until 64 were made over it or one was not answered; the
@@ -175,7 +175,7 @@ fn enter_lines_over<D: Dial, W: Write, V: Watch>(
 /// not answer a request, that request is made once more, over a new one. At the end the connection
 /// that is kept is ended.
 ///
-/// The observer is told of each command that it begins, of each try after which it is tried again,
+/// The observer hears of each command that it begins, of each try after which it is tried again,
 /// and, once its line is written, how it was answered.
 ///
 /// # Errors
@@ -184,7 +184,7 @@ fn enter_lines_over<D: Dial, W: Write, V: Watch>(
 /// sent. The command itself may have been taken: enter it again with its id, the one after the last
 /// that was written, and nothing is entered twice. `Lost` comes at the first answer that the desk
 /// knows nothing of a command that it took, `AnotherCommand` where its id is another command's, of
-/// which the observer is told, and `AtRefusal` after a command that was refused, whose line is
+/// which the observer hears, and `AtRefusal` after a command that was refused, whose line is
 /// written, where the run is to end at that.
 pub fn enter_lines<D: Dial, W: Write, V: Watch>(
     alloc: Global,

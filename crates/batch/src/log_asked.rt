@@ -37,7 +37,7 @@ fn append_all(log: &mut Log, entries: Entries) -> Result<(), NoMemory>
 }
 
 /// The length of a log and its entries from a position on, as an answer says, where it is a part of
-/// a log that was told to have so many entries.
+/// a log that was reported to have this many entries.
 fn part_of(answer: What, position: u32, told: u32) -> Option<(u32, Entries)>
     requires behind { position ≤ told }
     ensures some { (r : Desk) → IsAnswer (log_of r position) answer
@@ -61,8 +61,8 @@ fn part_of(answer: What, position: u32, told: u32) -> Option<(u32, Entries)>
     }
 }
 
-/// Asks for what stands in a desk's log behind the entries that have come, and puts it behind them.
-/// The length of the log that was told before is `told`; the one that is told now is returned.
+/// Asks for what is in a desk's log behind the entries that have come, and puts it behind them. The
+/// length of the log that was reported before is `told`; the one that is reported now is returned.
 fn ask_part<D: Dial>(
     alloc: Global,
     dial: &mut D,
@@ -130,7 +130,7 @@ fn ask_log_over<D: Dial>(
 /// # Errors
 ///
 /// Those of [`ask_over`](crate::ask_over). `Asking` with `NoAnswer` comes, too, where an answer
-/// says that the log is shorter than it was told to be, or has no entry though the log goes on.
+/// says that the log is shorter than it was reported to be, or has no entry though the log goes on.
 pub fn ask_log<D: Dial>(
     alloc: Global,
     dial: &mut D,

@@ -48,7 +48,7 @@ fn sheet_request(receiver: Receiver, sheet: RoundSheet, position: u32) -> Frame
     }
 }
 
-/// How a desk stands, as an answer says.
+/// How a desk is, as an answer says.
 fn standing_said(answer: What) -> Option<Standing>
     ensures { result ≡ standing_said answer }
 {
@@ -88,8 +88,8 @@ fn ask_newest_over<D: Dial>(
     ask(alloc, dial, held, contact, &request)
 }
 
-/// Asks a desk how it stands, and then for the sheet of a round at the length that it says its log
-/// has. The answer to the second request is given: it is the text of the newest sheet.
+/// Asks a desk how it is, and then for the sheet of a round at the length that it says its log has.
+/// The answer to the second request is given: it is the text of the newest sheet.
 ///
 /// Both requests are made over one connection, and over a new one as those of
 /// [`enter_lines`](crate::enter_lines).

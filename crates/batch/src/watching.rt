@@ -1,4 +1,4 @@
-//! Who is told how commands are entered.
+//! Who hears how commands are entered.
 
 ghost use Rattle.std.specs.Prelude.{◌∷◌, [], List, Option};
 ghost use Rattle.batch.specs.Watching.{Another, Begins, Entered, Notice, Tells, Waits, watched};
@@ -7,16 +7,16 @@ use acceptor::entry::Entry;
 use lines::command_file::CommandText;
 use texts::Answer;
 
-/// Is told how commands are entered, one after the other. Nothing depends on what it does.
+/// Hears how commands are entered, one after the other. Nothing depends on what it does.
 pub trait Watch {
-    /// What it was told, in order, where that is known.
+    /// What it heard, in order, where that is known.
     ghost heard: { Self → Option (List Notice) };
 
     /// A command is about to be entered with an id.
     fn begins(&mut self, command: &CommandText, id: u64)
         ensures { Tells (watched heard self.old self.new) (Begins id command.now.text ∷ []) };
 
-    /// The desk's queue was full, or the command is not decided yet, after so many tries, counted
+    /// The desk's queue was full, or the command is not decided yet, after this many tries, counted
     /// from 0. It is tried again.
     fn waits(&mut self, tries: u32)
         ensures { Tells (watched heard self.old self.new) (Waits tries ∷ []) };
@@ -26,7 +26,7 @@ pub trait Watch {
     fn entered(&mut self, answer: Option<Answer>)
         ensures { Tells (watched heard self.old self.new) (Entered answer ∷ []) };
 
-    /// Another command stands in the log under its id.
+    /// Another command is in the log under its id.
     fn finds_another(&mut self, entry: &Entry)
         ensures { Tells (watched heard self.old self.new) (Another entry.now ∷ []) };
 }

@@ -21,7 +21,7 @@ use Rattle.board_rounds.specs.Rows.{result_cells}
 use Rattle.round_words.specs.Words.{round_name, round_words, state_words}
 use Rattle.board_rounds.specs.declared.persons.TheConstants.{PEOPLE}
 
--- the round, whose own page stands behind it
+-- the round, whose own page is behind it
 unfoldable pub round_cell : List ℕ → List ℕ → List ℕ
 round_cell name words =
     codes "<tr><th scope=\"row\"><a href=\"/" ++ name ++ codes "\">" ++ words
@@ -79,7 +79,7 @@ person_of cs position n ids = unwrap_or (option_map (person cs position n ids) (
 
 -- ---- all competitors
 
--- number and name, behind which the competitor's own page stands
+-- number and name, behind which the competitor's own page is
 abbrev pub competitor : ℕ → List ℕ → List ℕ
 competitor n name = codes "<tr>" ++ cell (decimal n) ++ name_cell n name ++ line_end
 

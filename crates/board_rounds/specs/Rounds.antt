@@ -32,7 +32,7 @@ said id settings closed =
     round_words id settings.advance ++ codes ": " ++ settings_words id.event settings ++ codes ", "
     ++ state_words closed settings.advance
 
--- the name of the first column; above it this line stands on each page of paper
+-- the name of the first column; above it this line is on each page of paper
 unfoldable pub place_heading : List ℕ → List ℕ
 place_heading text = codes "<th scope=\"col\" data-title=\"" ++ text ++ codes "\">place</th>"
 
@@ -58,7 +58,7 @@ unfoldable pub table_start : List ℕ → ℕ → List ℕ
 table_start text count =
     codes "<thead><tr>" ++ headings text count ++ codes "</tr></thead><tbody>\n"
 
--- the position that it stands at, as people read it
+-- the position that it is at, as people read it
 unfoldable pub below : ℕ → List ℕ
 below position =
     codes "</tbody></table>\n<p class=\"at\">as of result " ++ decimal position

@@ -1,6 +1,6 @@
--- What stands of an entrant in a round: the texts of its sheet (`sheets`), but for what people read
+-- What counts of an entrant in a round: the texts of its sheet (`sheets`), but for what people read
 -- otherwise: no place where there is no attempt, the attempts that do not count in parentheses, and
--- who would advance where the round is open.
+-- who would advance where the round is open (the project's own).
 use Rattle.std.specs.Prelude.{ℕ, Bool, true, false, not, ◌&&◌, nat_le, if◌then◌else◌, List, []}
 use Rattle.std.specs.Prelude.{◌∷◌, ◌++◌, codes, decimal, flat_map, slice_get, option_map, unwrap_or}
 use Rattle.std.specs.Prelude.{is_some, Option, None, Some}
@@ -41,7 +41,7 @@ abbrev pub attempt_words : Measure → Format → List Value → ℕ → List �
 attempt_words unit format vs k = result_words unit format vs k (slice_get vs k)
 
 -- whether an entrant advances: of a final nothing is said, and of an open round who would advance
--- as it stands
+-- as it is
 abbrev pub mark_words : Bool → Advance → Bool → List ℕ
 mark_words true advance true = codes "yes"
 mark_words true advance false = codes "would advance"
@@ -55,7 +55,7 @@ mark_words false (Percent percent) true = codes "no"
 unfoldable pub cell : List ℕ → List ℕ
 cell text = codes "<td>" ++ text ++ codes "</td>"
 
--- the name of a competitor, whose own page stands behind it
+-- the name of a competitor, whose own page is behind it
 unfoldable pub name_cell : ℕ → List ℕ → List ℕ
 name_cell number name =
     codes "<th scope=\"row\" dir=\"auto\"><a href=\"/person/" ++ decimal number ++ codes "\">"
@@ -89,7 +89,7 @@ line_end = codes "</tr>\n"
 abbrev pub mark_end : Bool → Advance → Bool → List ℕ
 mark_end through advance closed = cell (mark_words through advance closed) ++ line_end
 
--- what stands of the entrant of this number: `through` says whether it is one of those who advance
+-- what counts of the entrant of this number: `through` says whether it is one of those who advance
 abbrev pub line_with : Measure → Settings → Bool → Bool → ℕ → List ℕ → ℕ → Averaged → List Value
     → List ℕ
 line_with unit settings closed through number name place average vs =

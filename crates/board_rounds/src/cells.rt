@@ -1,4 +1,4 @@
-//! What stands of an entrant, cell by cell.
+//! What counts of an entrant, cell by cell.
 
 ghost use Rattle.std.specs.Prelude.{◌≡◌, ◌++◌, IfOk, OnOk, decimal};
 ghost use Rattle.formats.specs.Results.{best_of};

@@ -21,7 +21,7 @@ use texts::RoundId;
 /// The greatest number of a competitor.
 const LAST_NUMBER: u16 = 9_999;
 
-/// What stands above the lines of all competitors.
+/// What is above the lines of all competitors.
 const PEOPLE: &[u8] = b"\
 <section class=\"people\"><table><caption><h2>Competitors</h2></caption>
 <thead><tr><th scope=\"col\">number</th><th scope=\"col\">name</th></tr></thead><tbody>
@@ -140,7 +140,7 @@ fn push_person_headings(out: &mut Vec<u8>) -> Result<(), NoMemory>
     out.extend_from_slice(b"</tr></thead><tbody>\n")
 }
 
-/// Adds a competitor of a meet in HTML, as it stands after so many commands: name and number, and
+/// Adds a competitor of a meet in HTML, as it is after this many commands: name and number, and
 /// each of these rounds that the competitor is in, with the place, the results and how far the
 /// round is. It adds nothing where the number is not registered.
 ///
@@ -201,7 +201,7 @@ fn push_competitors(out: &mut Vec<u8>, meet: &Meet, last: u16) -> Result<(), NoM
     Ok(())
 }
 
-/// Adds all competitors of a meet in HTML, as it stands after so many commands, in order of their
+/// Adds all competitors of a meet in HTML, as it is after this many commands, in order of their
 /// numbers: each number and name, which is a link to the competitor's own page, `/person/17`.
 ///
 /// # Errors

@@ -63,7 +63,7 @@ fn push_said(
     Ok(())
 }
 
-/// Adds the name of the first column, with the line that stands above it on each page of paper.
+/// Adds the name of the first column, with the line that is above it on each page of paper.
 fn push_place_heading(
     out: &mut Vec<u8>,
     id: RoundId,
@@ -141,7 +141,7 @@ fn push_conditions(
     Ok(())
 }
 
-/// Adds what stands above the lines of a round.
+/// Adds what is above the lines of a round.
 fn push_above(out: &mut Vec<u8>, shown: Shown<'_>) -> Result<(), NoMemory>
     ensures { OnOk result (out.new.items ≡ out.old.items
         ++ above shown.entry.id (shown.entry.settings, shown.entry.table.now)) }
@@ -153,7 +153,7 @@ fn push_above(out: &mut Vec<u8>, shown: Shown<'_>) -> Result<(), NoMemory>
     push_table_start(out, shown.id, settings, closed)
 }
 
-/// Adds what stands below the lines of a round, or of a competitor.
+/// Adds what is below the lines of a round, or of a competitor.
 #[tactic(auto, unfolding(crate::specs::Rounds::below))]
 pub(crate) fn push_below(out: &mut Vec<u8>, position: u32) -> Result<(), NoMemory>
     ensures { OnOk result (out.new.items ≡ out.old.items ++ below position) }
@@ -180,14 +180,14 @@ fn push_shown(
     push_below(out, position)
 }
 
-/// Adds a round of a meet in HTML, as it stands after so many commands, or nothing where the round
+/// Adds a round of a meet in HTML, as it is after this many commands, or nothing where the round
 /// was not opened.
 ///
-/// Above it stand its title, as `3x3x3 Cube, Round 1`, its settings and how far it is. Each entrant
+/// Above it are its title, as `3x3x3 Cube, Round 1`, its settings and how far it is. Each entrant
 /// has a line, in the order of the sheet, with the texts of the sheet, but for these. Who has no
-/// attempt has no place. Of five attempts the best and the worst stand in parentheses. In an open
-/// round those are told who would advance as it stands, and of a final nobody is told not to
-/// advance. The position stands below.
+/// attempt has no place. Of five attempts the best and the worst are in parentheses. In an open
+/// round the page says who would advance as it is, and of a final it says of nobody that they don't
+/// advance. The position is below.
 ///
 /// # Errors
 ///

@@ -1,4 +1,4 @@
--- What the board answers.
+-- What the board answers (the project's own).
 use Rattle.std.specs.Prelude.{◌≡◌, ℕ, ◌&&◌, Bool, true, false, List, [], ◌∷◌, Option, codes, min}
 use Rattle.std.specs.Str.{bytes_eq}
 use Rattle.following.specs.Following.{wait_of}
@@ -44,7 +44,7 @@ asks_for path request = bytes_eq (path_of request) path && is_read (head_of requ
 abbrev pub asks_status : Request (List ℕ) → Bool
 asks_status request = asks_for (codes "/status.json") request
 
--- when each desk said last how it stands
+-- when each desk said last how it is
 abbrev pub asks_ages : Request (List ℕ) → Bool
 asks_ages request = asks_for (codes "/heard.txt") request
 
@@ -63,14 +63,14 @@ ShowsAges s response =
 
 -- ---- pages
 
--- the reply for the page that stands at the request's path in the mirror as it is, or for none
+-- the reply for the page that is at the request's path in the mirror as it is, or for none
 pub record ShowsPage (s : ServiceOf) (request : Request (List ℕ)) (response : Response)
     : Type 0 where
   pub page : Option Page
   pub stands : IsPageAt s.title s.mirroring.entries (path_of request) page
   pub replies : Replies request page response
 
--- how the desks stand, or when they were heard, where that is asked, else such a reply
+-- how the desks are, or when they were heard, where that is asked, else such a reply
 abbrev pub ShowsBy : (status ages : Bool) → ServiceOf → Request (List ℕ) → Response → Type 0
 ShowsBy true ages s request response = ShowsStatus s response
 ShowsBy false true s request response = ShowsAges s response

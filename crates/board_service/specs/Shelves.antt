@@ -1,4 +1,4 @@
--- Pages that are kept by their paths.
+-- Pages that are kept by their paths (the project's own).
 use Rattle.std.specs.Prelude.{◌≡◌, ◌⊎◌, ℕ, List, Option, None, Some}
 use Rattle.acceptor.specs.declared.entry.Entry.{Entry}
 use Rattle.indexmap.specs.IndexMap.{get_by_text}

@@ -1,5 +1,5 @@
 //! What the board answers to browsers: the pages of a mirror of a hall's log, which is kept up
-//! between the answers, and how the desks of the hall stand.
+//! between the answers, and how the desks of the hall are.
 #![tactic(auto)]
 
 mod service;

@@ -23,14 +23,14 @@ use std::net::Net;
 use std::random::RandomSource;
 use wire::Difference;
 
-/// Whether a request asks how the desks stand.
+/// Whether a request asks how the desks are.
 fn asks_status(request: &Request<Bytes>) -> bool
     ensures { result ≡ asks_status request.now }
 {
     request.uri().path() == "/status.json" && is_read(request.method())
 }
 
-/// Whether a request asks when the desks said last how they stand.
+/// Whether a request asks when the desks said last how they are.
 fn asks_ages(request: &Request<Bytes>) -> bool
     ensures { result ≡ asks_ages request.now }
 {
@@ -38,13 +38,13 @@ fn asks_ages(request: &Request<Bytes>) -> bool
 }
 
 /// Answers browsers with the pages of a mirror of a hall's log, and programs that ask how the desks
-/// of the hall stand.
+/// of the hall are.
 ///
 /// A page is made once for all browsers that ask for it until the mirror grows: at most 64 pages
 /// are kept until then.
 ///
 /// A contract sees the title of the competition, the mirror with what keeps it up, the desks that
-/// are asked how they stand, and the time. Which pages are kept makes no difference to an answer.
+/// are asked how they are, and the time. Which pages are kept makes no difference to an answer.
 #[derive(Drop)]
 pub struct BoardService {
     alloc: Global,
@@ -139,7 +139,7 @@ impl BoardService {
         self.desks.wait(now).min(wait)
     }
 
-    /// The page at a path, if one stands there.
+    /// The page at a path, if one is there.
     fn made(&self, path: &str) -> Result<Option<Page>, AllocError>
         ensures { IfOk result
             (λ page. IsPageAt self.now.title self.now.mirroring.entries path.now page) }
@@ -152,7 +152,7 @@ impl BoardService {
         )
     }
 
-    /// Keeps the page at a path, if one stands there.
+    /// Keeps the page at a path, if one is there.
     fn remember(&mut self, path: &str, made: Option<Page>)
         requires { IsPageAt self.old.title self.old.mirroring.entries path.now made }
         ensures { self.new ≡ self.old }
@@ -169,7 +169,7 @@ impl BoardService {
         self.desks.differs(self.alloc)
     }
 
-    /// How the desks stand.
+    /// How the desks are.
     fn tell_status(&self, response: &mut Response) -> Result<(), AllocError>
         requires { IsBlank response.old }
         ensures { OnOk result (ShowsStatus self.now response.new) }
@@ -178,7 +178,7 @@ impl BoardService {
         send_status(HeaderValue::from_static("application/json"), text, response)
     }
 
-    /// How long ago each desk said how it stands.
+    /// How long ago each desk said how it is.
     fn tell_ages(&self, response: &mut Response) -> Result<(), AllocError>
         requires { IsBlank response.old }
         ensures { OnOk result (ShowsAges self.now response.new) }
@@ -208,8 +208,8 @@ impl BoardService {
 impl Service for BoardService {
     ghost use Rattle.board_service.specs.Services.{Answers};
 
-    // The response is that of `markup::replies::reply` for the page that stands at the request's
-    // path as the mirror is, or says how the desks stand or when they said so, and nothing changes.
+    // The response is that of `markup::replies::reply` for the page that is at the request's path
+    // as the mirror is, or says how the desks are or when they said so, and nothing changes.
     ghost answers = { Answers };
 
     fn call(

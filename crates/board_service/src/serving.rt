@@ -24,7 +24,7 @@ const LONGEST_WAIT: u64 = 250;
 pub enum End {
     /// The system doesn't tell what is ready any more.
     Failed,
-    /// Two desks of the hall told different entries for one position.
+    /// Two desks of the hall reported different entries for one position.
     Broken,
 }
 
@@ -40,7 +40,7 @@ fn tell_if_differs<F: Write>(service: &BoardService, faults: &mut F) -> bool {
 }
 
 /// Serves until it can't go on, over the connection to the desk that is asked for its log, and
-/// those to the desks that are asked how they stand. Says what is wrong with their keys.
+/// those to the desks that are asked how they are. Says what is wrong with their keys.
 fn serve_on<R: Net + RandomSource + Clock + Drop, F: Write>(
     browsers: &mut Browsers<BrowserSockets<'_, R>>,
     service: &mut BoardService,

@@ -52,7 +52,7 @@ digits_lack (b ∷ bytes) h =
     step true is digit =
         absurd (false≢true (ap is_ascii_digit (sym (eqb-true b 47 is)) ∙ digit))
 
--- what stands before and after the first of a byte, in a text that has it there
+-- what is before and after the first of a byte, in a text that has it there
 pub parts_of : (by : ℕ) (text front back : List ℕ) (x : List ℕ × Option (List ℕ))
     → x ≡ cut by text → lacks by front ≡ true → text ≡ (front ++ by ∷ []) ++ back
     → (x.0 ≡ front) × (x.1 ≡ Some back)

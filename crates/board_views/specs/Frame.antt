@@ -1,11 +1,11 @@
--- The frame of a page of HTML: what stands before, between and after its rounds.
+-- The frame of a page of HTML: what is before, between and after its rounds.
 use Rattle.std.specs.Prelude.{ℕ, List, [], ◌∷◌, ◌++◌, codes}
 use Rattle.board_views.specs.declared.frame.TheConstants.{HEAD, HEAD_END, LINKS}
 use Rattle.board_views.specs.declared.frame.TheConstants.{LINKS_END, END}
 use Rattle.markup.specs.board_page.Escaped.{escaped}
 use Rattle.markup.specs.Pieces.{joined}
 
--- what the page shows stands in its title before the competition
+-- what the page shows is in its title before the competition
 abbrev pub head : List ℕ → List ℕ → List ℕ
 head shows title = joined (HEAD.now ∷ shows ∷ codes " - " ∷ escaped title ∷ HEAD_END.now ∷ [])
 

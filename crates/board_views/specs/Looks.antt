@@ -1,4 +1,4 @@
--- How the pages look, and how they keep up: the texts of the code.
+-- How the pages look, and how they keep up: the texts of the code (the project's own).
 use Rattle.std.specs.Prelude.{ℕ, List}
 use Rattle.board_views.specs.declared.looks.TheConstants.{STYLE, SCRIPT}
 

@@ -1,4 +1,4 @@
--- What stands at the paths of the board.
+-- What is at the paths of the board (the project's own).
 use Rattle.std.specs.Prelude.{◌≡◌, ℕ, ◌≤◌, List, ◌++◌, codes, decimal}
 use Rattle.formats.specs.Events.{last_round}
 use Rattle.texts.specs.declared.command.RoundId.{RoundId}
@@ -12,7 +12,7 @@ use Rattle.board_views.specs.declared.paths.View.TheVariants.{Podiums, People, L
 abbrev pub table_name : RoundId → List ℕ
 table_name id = round_name id ++ codes ".csv"
 
--- where a view stands
+-- where a view is
 abbrev pub path_of : View → List ℕ
 path_of Overview = codes "/"
 path_of Hall = codes "/hall"
@@ -55,11 +55,11 @@ IsNameOf id text = IsRound id × (text ≡ round_name id)
 abbrev pub IsTableNameOf : RoundId → List ℕ → Type 0
 IsTableNameOf id text = IsRound id × (text ≡ table_name id)
 
--- a view stands at this path
+-- a view is at this path
 abbrev pub StandsAt : View → List ℕ → Type 0
 StandsAt view path = IsView view × (path ≡ path_of view)
 
--- a path with a position, as `/at/17/`, and what stands after it
+-- a path with a position, as `/at/17/`, and what is after it
 abbrev pub IsPastOf : ℕ → List ℕ → List ℕ → Type 0
 IsPastOf position name path =
     (position ≤ 65536) × (path ≡ codes "/at/" ++ decimal position ++ codes "/" ++ name)

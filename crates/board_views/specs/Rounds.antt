@@ -1,4 +1,4 @@
--- Rounds at a position of a log.
+-- Rounds at a position of a log (the project's own).
 use Rattle.std.specs.Prelude.{ℕ, List, map, flat_map, length, take, nat_le, Option, None}
 use Rattle.std.specs.Prelude.{if◌then◌else◌}
 use Rattle.std.specs.List.{range_with_len}
@@ -19,8 +19,8 @@ accepted_in log = (history (texts log)).accepted
 abbrev pub accepted_at : List Entry → ℕ → List Command
 accepted_at log position = accepted_in (take position log)
 
--- the table of a round after the first entries of a log, where there are so many and the round was
--- opened in them: the Regulations' sheet for the accepted commands up to there
+-- the table of a round after the first entries of a log, where there are this many and the round
+-- was opened in them: the Regulations' sheet for the accepted commands up to there
 unfoldable pub table_at : List Entry → ℕ → RoundId → Option (List ℕ)
 table_at log position id =
     if nat_le position (length log) then sheet_at style.Table log position id.event id.round

@@ -1,4 +1,4 @@
--- The pages of the views.
+-- The pages of the views (the project's own).
 use Rattle.std.specs.Prelude.{◌≡◌, ◌⊎◌, ℕ, List, [], ◌++◌, length, flat_map, codes, nat_le}
 use Rattle.std.specs.Prelude.{option_map, if◌then◌else◌, Option, None, Some}
 use Rattle.acceptor.specs.declared.entry.Entry.{Entry}
@@ -37,7 +37,7 @@ round_page_of class title cs position id =
     (λ r. framed class (round_words id r.0.advance) title [] (section cs position id))
     (round_of cs id.event id.round)
 
--- a round after the first entries of a log, where there are so many and it was opened in them
+-- a round after the first entries of a log, where there are this many and it was opened in them
 unfoldable pub round_page : List ℕ → List ℕ → List Entry → ℕ → RoundId → Option (List ℕ)
 round_page class title log position id =
     if nat_le position (length log)
@@ -101,8 +101,8 @@ kind_of Log = codes "text/plain; charset=utf-8"
 kind_of Style = codes "text/css; charset=utf-8"
 kind_of Script = codes "text/javascript; charset=utf-8"
 
--- what stands at a position of the log never changes; of all else a browser asks each time
--- whether it has changed
+-- what is at a position of the log never changes; of all else a browser asks each time whether it
+-- has changed
 abbrev pub keeping_of : View → List ℕ
 keeping_of (RoundAt position id) = codes "public, max-age=31536000, immutable"
 keeping_of (TableAt position id) = codes "public, max-age=31536000, immutable"
@@ -125,7 +125,7 @@ IsPageOf title log path view (Some p) =
     × (p.tag ≡ plain_value (tag_text (position_of log view) path))
     × (body title log view ≡ Some p.body)
 
--- the page at a path: that of the view that stands there, and none where no view stands there
+-- the page at a path: that of the view that is there, and none where no view is there
 abbrev pub IsPageAt : List ℕ → List Entry → List ℕ → Option Page → Type 0
 IsPageAt title log path page =
     ((view : View) × StandsAt view path × IsPageOf title log path view page)

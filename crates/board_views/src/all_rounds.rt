@@ -56,7 +56,7 @@ pub(crate) fn links_of(alloc: Global, meet: &Meet, rounds: &[RoundId]) -> Result
     Ok(text)
 }
 
-/// Those of these rounds that were opened, as they stand after so many commands.
+/// Those of these rounds that were opened, as they are after this many commands.
 pub(crate) fn sections_of(
     alloc: Global,
     meet: &Meet,
@@ -73,7 +73,7 @@ pub(crate) fn sections_of(
     Ok(text)
 }
 
-/// The podiums of those of these rounds that are finals, as they stand after so many commands, and
+/// The podiums of those of these rounds that are finals, as they are after this many commands, and
 /// a line that says so.
 #[tactic(auto, unfolding(crate::specs::Views::podiums))]
 pub(crate) fn podiums_of(

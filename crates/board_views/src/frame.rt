@@ -1,4 +1,4 @@
-//! The frame of a page of HTML: what stands before, between and after its rounds.
+//! The frame of a page of HTML: what is before, between and after its rounds.
 
 ghost use Rattle.std.specs.Prelude.{◌≡◌, ◌++◌, OnOk, IfOk};
 ghost use Rattle.board_views.specs.Frame.{framed, head, inside, links, opening};
@@ -31,7 +31,7 @@ const LINKS_END: &[u8] = b"<a href=\"/hall\">projector</a></nav>\n";
 
 const END: &[u8] = b"</main></body></html>\n";
 
-/// Adds the head of a page, up to its body. What it shows stands in its title, as HTML, before the
+/// Adds the head of a page, up to its body. What it shows is in its title, as HTML, before the
 /// competition.
 fn push_head<'a>(out: &mut Vec<u8>, shows: &'a [u8], title: &'a [u8]) -> Result<(), NoMemory>
     ensures { OnOk result (out.new.items ≡ out.old.items ++ head shows.now title.now) }

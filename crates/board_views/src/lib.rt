@@ -1,4 +1,4 @@
-//! What stands at the paths of the board, made from a mirror of a hall's log.
+//! What is at the paths of the board, made from a mirror of a hall's log.
 //!
 //! [`page_at`] gives the page at a path: rounds and competitors in HTML, a sheet's table, the
 //! archive of the log. It has neither sockets nor time.

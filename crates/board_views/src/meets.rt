@@ -27,8 +27,8 @@ pub(crate) fn meet_at(alloc: Global, mirror: &Mirror, position: u32) -> Result<M
     Ok(meet)
 }
 
-/// The table of a round after the first entries of the log, `position` of them, where there are so
-/// many and the round was opened in them.
+/// The table of a round after the first entries of the log, `position` of them, where there are
+/// this many and the round was opened in them.
 pub(crate) fn table_at(
     alloc: Global,
     mirror: &Mirror,

@@ -15,7 +15,7 @@ use markup::replies::{Page, entity_tag};
 use mirror::Mirror;
 use std::alloc::{AllocError, Global};
 
-/// What the body of a view is, as a browser is told.
+/// What the body of a view is, as it is said to a browser.
 fn kind_of(view: View) -> HeaderValue
     ensures { result ≡ plain_value (kind_of view) }
 {
@@ -59,7 +59,7 @@ fn position_of(mirror: &Mirror, view: View) -> u32
     }
 }
 
-/// The entity tag of what stands at a path at a position. A path of the board has only bytes that a
+/// The entity tag of what is at a path at a position. A path of the board has only bytes that a
 /// header field can have, so that it is refused only for memory.
 fn tag_of(alloc: Global, position: u32, path: &[u8]) -> Result<HeaderValue, NoMemory>
     ensures { IfOk result (λ tag. tag ≡ plain_value (tag_text position path.now)) }
@@ -92,10 +92,10 @@ fn page_of(
     }))
 }
 
-/// The page at a path of the board, made from the mirror as it is; none where no view stands at the
+/// The page at a path of the board, made from the mirror as it is; none where no view is at the
 /// path, where its round is not open, or where the log has not come so far as the path says.
 ///
-/// What stands at a position of the log may be kept for ever. Of all else a browser has to ask each
+/// What is at a position of the log may be kept for ever. Of all else a browser has to ask each
 /// time; its entity tag is another one where the mirror has grown. NoMemory is for memory alone.
 pub fn page_at(
     alloc: Global,

@@ -27,7 +27,7 @@ pub enum View {
     Round(RoundId),
     /// `/333-1.csv`: a round's sheet as a table.
     Table(RoundId),
-    /// `/at/17/333-1`: a round as it stood after so many entries of the log.
+    /// `/at/17/333-1`: a round as it was after this many entries of the log.
     RoundAt { position: u32, id: RoundId },
     /// `/at/17/333-1.csv`: its sheet as a table.
     TableAt { position: u32, id: RoundId },
@@ -68,7 +68,7 @@ fn table_of(name: &[u8]) -> Option<RoundId>
     round_of(name)
 }
 
-/// What stands at a path that has no number.
+/// What is at a path that has no number.
 fn fixed(path: &[u8]) -> Option<View>
     ensures some { IfSome result (λ view. StandsAt view path.now) }
     ensures none { result ≡ None
@@ -110,7 +110,7 @@ fn phone_round(path: &[u8]) -> Option<RoundId>
     round_of(path.strip_prefix(b"/".as_slice())?)
 }
 
-/// The round whose table stands at a path.
+/// The round whose table is at a path.
 fn table_round(path: &[u8]) -> Option<RoundId>
     ensures some { IfSome result (λ id. StandsAt (View.Table id) path.now) }
     ensures none { result ≡ None → (id : RoundId) → ¬ (StandsAt (View.Table id) path.now) }
@@ -118,7 +118,7 @@ fn table_round(path: &[u8]) -> Option<RoundId>
     table_of(path.strip_prefix(b"/".as_slice())?)
 }
 
-/// The competitor whose rounds stand at a path.
+/// The competitor whose rounds are at a path.
 fn person(path: &[u8]) -> Option<u16>
     ensures some { IfSome result (λ number. StandsAt (View.Person number) path.now) }
     ensures none { result ≡ None
@@ -129,7 +129,7 @@ fn person(path: &[u8]) -> Option<u16>
     Some(number as u16)
 }
 
-/// What stands after `/at/` in a path.
+/// What is after `/at/` in a path.
 fn after_at(path: &[u8]) -> Option<&[u8]>
     ensures some { IfSome result (λ rest. path.now ≡ codes "/at/" ++ rest.now) }
     ensures none { result ≡ None → (rest : List ℕ) → path.now ≢ codes "/at/" ++ rest }
@@ -137,7 +137,7 @@ fn after_at(path: &[u8]) -> Option<&[u8]>
     path.strip_prefix(b"/at/".as_slice())
 }
 
-/// The position that a path names, and what stands after it.
+/// The position that a path names, and what is after it.
 fn past(path: &[u8]) -> Option<(u32, &[u8])>
     ensures some { IfSome result (λ at. IsPastOf at.0 at.1.now path.now) }
     ensures other { (position : ℕ) (name : List ℕ) → IsPastOf position name path.now
@@ -151,7 +151,7 @@ fn past(path: &[u8]) -> Option<(u32, &[u8])>
     Some((position as u32, name?))
 }
 
-/// The round that stands at a path as it stood at a position.
+/// The round that is at a path as it stood at a position.
 fn past_round(path: &[u8]) -> Option<View>
     ensures some { IfSome result (λ view. StandsAt view path.now) }
     ensures round { result ≡ None → (position : ℕ) (id : RoundId)
@@ -167,7 +167,7 @@ fn past_round(path: &[u8]) -> Option<View>
     Some(View::TableAt { position, id })
 }
 
-/// What stands at a path that names a round or a competitor.
+/// What is at a path that names a round or a competitor.
 fn numbered(path: &[u8]) -> Option<View>
     ensures some { IfSome result (λ view. StandsAt view path.now) }
     ensures none { result ≡ None

@@ -70,7 +70,7 @@ takes_of c remark =
     ap (λ (w : List ℕ). takes_remark_in (row_named w)) (word_of c remark)
     ∙ ap takes_remark_in (it.named ∙ sym it.is)
 
--- what stands before the remark of a command that may have one
+-- what is before the remark of a command that may have one
 pub before_is : (c : Command) (remark : Option (List ℕ))
     → takes_remark_in (row_of (parts c).0) ≡ true → lacks 35 (spelling c) ≡ true
     → before_remark (with_remark_text (spelling c) remark) ≡ spelling c

@@ -1,4 +1,4 @@
--- The card of a form, as it was typed.
+-- The card of a form, as it was typed (the project's own).
 use Rattle.std.specs.Prelude.{ℕ, ◌-◌, ◌^◌, List, [], ◌∷◌, codes, Option, None, Some}
 use Rattle.std.specs.Prelude.{Result, Ok, Err}
 use Rattle.std.specs.Option.{option_map, option_and_then}

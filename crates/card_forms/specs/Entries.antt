@@ -1,4 +1,4 @@
--- The entries of what a form asks for.
+-- The entries of what a form asks for (the project's own).
 use Rattle.std.specs.Prelude.{◌≡◌, ◌↔◌, ℕ, ◌+◌, true, if◌then◌else◌, nat_le, length}
 use Rattle.std.specs.Prelude.{List, [], ◌∷◌, Option, None, Some, Result, Ok, Err}
 use Rattle.acceptor.specs.declared.entry.Entry.{Entry}

@@ -1,4 +1,4 @@
--- What is wrong with a command's form, where it asks for no command.
+-- What is wrong with a command's form, where it asks for no command (the project's own).
 use Rattle.std.specs.Prelude.{◌≡◌, ◌⊎◌, ℕ, ◌==◌, ◌++◌, Bool, true, false, if◌then◌else◌, bytes_eq}
 use Rattle.std.specs.Prelude.{codes, decimal, length, nat_le, nat_lt, ◌&&◌, List, [], ◌∷◌}
 use Rattle.std.specs.Prelude.{IsTrue, Option, None, Some, Result, Ok}

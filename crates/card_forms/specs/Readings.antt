@@ -1,4 +1,4 @@
--- The fields of a card, read.
+-- The fields of a card, read (the project's own).
 use Rattle.std.specs.Prelude.{◌≡◌, ℕ, suc, ◌+◌, ◌==◌, ◌&&◌, if◌then◌else◌, List, [], ◌∷◌}
 use Rattle.std.specs.Prelude.{length, Bool, true, false, not, bytes_eq, drop, flat_map, map, nat_lt}
 use Rattle.std.specs.Prelude.{position, slice_get, unwrap_or}
@@ -39,7 +39,7 @@ number_of text = number_in (trimmed text)
 
 -- ---- a field
 
--- what the page of a card shows of the attempt at a place, counted from 0, where these stand
+-- what the page of a card shows of the attempt at a place, counted from 0, where these count
 abbrev pub shown_at : Measure → List Value → ℕ → List ℕ
 shown_at unit was place = unwrap_or (option_map (value_text unit) (slice_get was place)) []
 
@@ -47,7 +47,7 @@ shown_at unit was place = unwrap_or (option_map (value_text unit) (slice_get was
 abbrev pub text_at : List (List ℕ) → ℕ → List ℕ
 text_at filled place = unwrap_or (slice_get filled place) []
 
--- what the field of an attempt is filled in with: nothing where none stands; such a text, where
+-- what the field of an attempt is filled in with: nothing where none counts; such a text, where
 -- there is one; and else what the attempt counts
 abbrev pub filled_by : Measure → Option Value → List ℕ → List ℕ
 filled_by unit None text = []
@@ -63,7 +63,7 @@ abbrev pub is_untouched : Measure → List Value → List (List ℕ) → ℕ →
 is_untouched unit was filled place text =
     bytes_eq (trimmed text) (filled_at unit was filled place)
 
--- a field that was not touched leaves what stands
+-- a field that was not touched leaves what counts
 abbrev pub left_at : List Value → ℕ → Said
 left_at was place = if nat_lt place (length was) then said.Stays else said.Nothing
 
@@ -77,13 +77,13 @@ abbrev pub SaysBy : Bool → Measure → List Value → ℕ → List ℕ → Sai
 SaysBy true unit was place text it = it ≡ left_at was place
 SaysBy false unit was place text it = SaysTyped unit text it
 
--- what the field at a place says, where the page showed that these stand, and filled its fields in
+-- what the field at a place says, where the page showed that these count, and filled its fields in
 -- with these texts
 abbrev pub Says : Measure → List Value → List (List ℕ) → ℕ → List ℕ → Said → Type 0
 Says unit was filled place text it =
     SaysBy (is_untouched unit was filled place text) unit was place text it
 
--- each field, from this place on, says what stands at its place
+-- each field, from this place on, says what is at its place
 abbrev pub AllSay : Measure → List Value → List (List ℕ) → ℕ → List (List ℕ) → List Said → Type 0
 AllSay unit was filled place [] [] = Unit {0}
 AllSay unit was filled place (text ∷ texts) (it ∷ them) =
@@ -105,7 +105,7 @@ gap_at filled place =
 abbrev pub gap_in : List Bool → Option ℕ
 gap_in filled = option_and_then (gap_at filled) (position not filled)
 
--- what is to stand by a field: nothing, what stands, or what is entered
+-- what is to count by a field: nothing, what counts, or what is entered
 abbrev pub stands_by : Said → List (Option Entered)
 stands_by said.Nothing = []
 stands_by said.Stays = None ∷ []
@@ -115,7 +115,7 @@ abbrev pub stays : Option Entered → Bool
 stays None = true
 stays (Some x) = false
 
--- all that stands stays, and nothing is entered
+-- all that counts stays, and nothing is entered
 abbrev pub changes_nothing : List Value → List (Option Entered) → Bool
 changes_nothing was now = length now == length was && list_all stays now
 

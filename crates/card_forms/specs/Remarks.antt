@@ -1,4 +1,4 @@
--- Remarks of the commands that forms ask for.
+-- Remarks of the commands that forms ask for (the project's own).
 use Rattle.std.specs.Prelude.{◌≡◌, ℕ, ◌+◌, ◌==◌, ◌&&◌, Bool, true, not, if◌then◌else◌, bytes_eq}
 use Rattle.std.specs.Prelude.{codes, length, nat_le, List, ◌++◌, Ok}
 use Rattle.std.specs.List.{list_all}
@@ -12,7 +12,7 @@ use Rattle.texts.specs.Table.{row_named, takes_remark_in}
 abbrev pub takes_remark : List ℕ → Bool
 takes_remark text = takes_remark_in (row_named (cut 32 text).0)
 
--- what stands in a text before its remark
+-- what is in a text before its remark
 abbrev pub before_remark : List ℕ → List ℕ
 before_remark text = if takes_remark text then (cut_remark text).0 else text
 

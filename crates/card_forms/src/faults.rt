@@ -58,7 +58,7 @@ pub enum CardFault {
     /// The field of this attempt, from 1 on, is empty, and a later one is not.
     #[error("attempt {field} is empty")]
     Gap { field: u8 },
-    /// Nothing was typed: all stays as it stands.
+    /// Nothing was typed: all stays as it is.
     #[error("nothing is typed")]
     Nothing,
     /// The command would have more than 600 bytes, as that of three long solutions.

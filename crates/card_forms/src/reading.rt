@@ -26,7 +26,7 @@ use texts::{CardEntry, Entered, Now, Was, number_between};
 pub(crate) enum Said {
     /// Nothing: it is empty.
     Nothing,
-    /// What stands: it is as the page showed it.
+    /// What counts: it is as the page showed it.
     Stays,
     /// This is entered.
     Enters(Entered),
@@ -140,7 +140,7 @@ fn typed_of(alloc: Global, event: Event, text: &[u8]) -> Result<Said, scorecard:
     }
 }
 
-/// What the field at a place says, counted from 0, where the page showed that these stand, and it
+/// What the field at a place says, counted from 0, where the page showed that these count, and it
 /// carries these texts.
 fn said_at(
     alloc: Global,
@@ -191,7 +191,7 @@ fn says_something(said: &Said) -> bool
     }
 }
 
-/// Where the first field stands that says nothing.
+/// Where the first field is that says nothing.
 fn first_empty(filled: &[bool]) -> Option<usize>
     ensures value { result ≡ position not filled.now }
     ensures within { IfSome result (λ place. place < length filled.now) }
@@ -219,7 +219,7 @@ fn gap_in(filled: &[bool]) -> Option<u8>
     }
 }
 
-/// Adds what is to stand by a field.
+/// Adds what is to count by a field.
 fn push_said(now: &mut Vec<Option<Entered>>, said: Said) -> Result<(), AllocError>
     ensures { OnOk result (now.new.items ≡ now.old.items ++ stands_by said) }
 {
@@ -236,21 +236,21 @@ fn push_said(now: &mut Vec<Option<Entered>>, said: Said) -> Result<(), AllocErro
     }
 }
 
-/// Whether what stands stays for an attempt.
+/// Whether what counts stays for an attempt.
 fn stays(outcome: &Option<Entered>) -> bool
     ensures { result ≡ stays outcome.now }
 {
     outcome.is_none()
 }
 
-/// Whether what stands stays for each of these attempts.
+/// Whether what counts stays for each of these attempts.
 fn all_stay(now: &[Option<Entered>]) -> bool
     ensures { result ≡ list_all stays now.now }
 {
     now.iter().all(|outcome| stays(outcome))
 }
 
-/// Whether all that stands stays, and nothing is entered.
+/// Whether all that counts stays, and nothing is entered.
 fn changes_nothing(was: &[Value], now: &[Option<Entered>]) -> bool
     ensures { result ≡ changes_nothing was.now now.now }
 {
@@ -285,7 +285,7 @@ fn refused(faults: Unread) -> CardReading
     }
 }
 
-/// What is to stand by five fields, where they are a card over these attempts.
+/// What is to count by five fields, where they are a card over these attempts.
 fn now_of(
     alloc: Global,
     was: &[Value],
@@ -330,8 +330,8 @@ fn was_again(alloc: Global, was: &Was) -> Result<Was, AllocError>
 }
 
 /// The card that a form says, over what its page showed; or what is wrong with each of its fields,
-/// or with all of them together. A field that is as its page filled it in stays as it stands. One
-/// of white space alone says nothing; what the others may say, `scorecard::read` says. `NoMemory`
+/// or with all of them together. A field that is as its page filled it in stays as it is. One of
+/// white space alone says nothing; what the others may say, `scorecard::read` says. `NoMemory`
 /// comes in place of any answer.
 pub fn card_of(alloc: Global, form: &CardForm) -> Result<CardEntry, CardReading>
     ensures read { IfOk result (IsReadAs form.now) }

@@ -25,7 +25,7 @@ fn takes_remark(text: &[u8]) -> bool
     }
 }
 
-/// What stands in a text before its remark.
+/// What is in a text before its remark.
 fn before_remark(text: &[u8]) -> &[u8]
     ensures { result.now ≡ before_remark text.now }
 {

@@ -168,7 +168,7 @@ any_found n p (d ∷ ds) one h is = step (has_number n d) h (any_found n p ds on
         ∙ ap (λ (b : Bool). b || list_any p ds) is
     step false h later = ap (λ (b : Bool). p d || b) (later h is) ∙ or_true (p d)
 
--- what is found of one of whom nothing stands
+-- what is found of one of whom nothing counts
 pub found_bare : (n : ℕ) (es : List Entrant) (e : Entrant)
     → AllByRecursion (λ d. has_number n d ≡ true → d.values ≡ []) es
     → find (has_number n) es ≡ Some e → e.values ≡ []

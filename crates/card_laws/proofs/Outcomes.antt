@@ -30,7 +30,7 @@ abbrev pub outcomes : (ℕ → Entered → Value) → ℕ → List Entered → L
 outcomes counts k [] = []
 outcomes counts k (x ∷ xs) = counts k x ∷ outcomes counts (suc k) xs
 
--- a round with these outcomes after what stands
+-- a round with these outcomes after what counts
 abbrev with_appended : (ℕ → Option (List Move)) → ℕ → ℕ → List Entered → Settings × Table
     → Settings × Table
 with_appended scrambles n k xs round =
@@ -185,7 +185,7 @@ bare_same n counts xs (e ∷ es) h = rw (one (has_number n e) h.0, bare_same n c
         ∙ sym (ap (values_now counts 1 (map Some xs)) (bare refl)))
     one false bare = refl
 
--- of a round in which nothing stands of a number
+-- of a round in which nothing counts of a number
 bare_round : (scrambles : ℕ → Option (List Move)) (id : RoundId) (n : ℕ) (xs : List Entered)
     (o : Option (Settings × Table)) → StandsBare n o
     → option_map (with_appended scrambles n 1 xs) o

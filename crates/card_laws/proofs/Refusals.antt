@@ -297,7 +297,7 @@ module _ (e : Event) (scrambles : ℕ → Option (List Move)) (n : ℕ) (x : Ent
       option_or
       (option_map put_code (next_fault round.1.format round.1.cutoff 1 o)) rest) nobody)
 
-  -- what the table says of a card by one who saw that nothing stands
+  -- what the table says of a card by one who saw that nothing counts
   bare_left : (one : Entrant) (b : Bool) → one.values ≡ []
       → fits round.1.format round.1.cutoff left ≡ b
       → card_left false (Some one) ≡ cond b None (Some code.NoMoreAttempts)

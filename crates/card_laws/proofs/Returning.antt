@@ -117,7 +117,7 @@ fixed_only_where_given_back cs between card before h =
 
 -- Two cards over the same
 
--- a card over the same says that the same stands
+-- a card over the same says that the same counts
 shown_same : (cs : List Command) (first second : CardEntry) → AreOverTheSame first second
     → is_shown cs second ≡ is_shown cs first
 shown_same cs first second same =

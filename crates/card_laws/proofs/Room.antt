@@ -33,7 +33,7 @@ least : (format : Format) (k : ℕ) (met : Bool) → k < attempts_of format → 
 least format k true h = omega arith
 least format k false h = omega arith
 
--- where more than these fit, fewer stand than these allot
+-- where more than these fit, fewer count than these allot
 pub room_before : (format : Format) (cutoff : Option (ℕ × ℕ)) (vs : List Value) (v : Value)
     (ws : List Value) → IsCutoff format cutoff
     → length (vs ++ v ∷ ws) ≤ allotted format cutoff (vs ++ v ∷ ws)
@@ -64,7 +64,7 @@ same_tests true false f g = sym (f refl)
 same_tests false true f g = g refl
 same_tests false false f g = refl
 
--- one more value fits exactly where fewer stand than these allot
+-- one more value fits exactly where fewer count than these allot
 pub next_check : (format : Format) (cutoff : Option (ℕ × ℕ)) (vs : List Value) (v : Value)
     → IsCutoff format cutoff
     → fits format cutoff (vs ++ v ∷ []) ≡ not (nat_le (allotted format cutoff vs) (length vs))

@@ -1,4 +1,4 @@
--- What a card that is accepted says stands, and what stands after it.
+-- What a card that is accepted says counts, and what counts after it.
 use Rattle.std.proofs.Common.{◌≡◌, ◌≢◌, ℕ, suc, ◌+◌, Bool, true, false, not, ◌==◌, ◌&&◌, cond}
 use Rattle.std.proofs.Common.{nat_le, List, [], ◌∷◌, ◌++◌, find, length, Option, Some, None}
 use Rattle.std.proofs.Common.{option_map, is_some, refl, sym, ap, ◌∙◌, arith, append_assoc}
@@ -104,7 +104,7 @@ fix_sees scrambles card competitors next (Some round) h =
     (passed (not round.1.is_closed) code.NotClosed _
     (none_second (unfit_card_refusal card.id.event scrambles card.now) _ h)))
 
--- a card that is accepted says what stands
+-- a card that is accepted says what counts
 pub card_shown : (cs : List Command) (card : CardEntry) → refusal cs (Card card) ≡ None
     → is_shown cs card ≡ true
 card_shown cs card h =
@@ -119,7 +119,7 @@ fix_shown cs card h =
     (is_some (round_of cs card.id.event (card.id.round + 1))) (round_by cs card.id)
     (passed (not (is_registered cs card.number)) code.UnknownCompetitor _ h)
 
--- What stands after it
+-- What is after it
 
 same_event_self : (e : Event) → same_event e e ≡ true
 same_event_self e = eq-eqb (event_number e) (event_number e) refl
@@ -128,7 +128,7 @@ same_event_self e = eq-eqb (event_number e) (event_number e) refl
 pub own_round : (id : RoundId) → is_of id.event id.round id ≡ true
 own_round id = rw (same_event_self id.event, eq-eqb id.round id.round refl) refl
 
--- a round in which a card is entered over what stands
+-- a round in which a card is entered over what counts
 entered : (scrambles : ℕ → Option (List Move)) (card : CardEntry) (round : Settings × Table)
     → has_values card.was (held card.number (Some round)) ≡ true
     → held card.number (Some (with_outcomes scrambles card round))
@@ -151,7 +151,7 @@ entered scrambles card round shown =
         ∙ ap (λ (vs : List Value). Some (entrant_with card.number (change vs)))
         (sym (values_equal card.was one.values h))
 
--- after a command that enters a card over what stands
+-- after a command that enters a card over what counts
 entered_by : (cs : List Command) (c : Command) (card : CardEntry) → IsOfCard c card
     → (round : Settings × Table)
     → round_by cs card.id ≡ Some round → is_shown cs card ≡ true
@@ -219,7 +219,7 @@ stays_open cs (Cancel id) e r n one h some accepted = step (is_of e r id) refl
         some accepted)
 stays_open cs _ e r n one h some accepted = refl
 
--- of an entrant with an attempt what stands stays, while no accepted command names it
+-- of an entrant with an attempt what counts stays, while no accepted command names it
 stands : (cs later : List Command) (e : Event) (r n : ℕ) (one : Entrant)
     → held n (round_of cs e r) ≡ Some one → one.values ≢ []
     → AllByRecursion (λ c. names e r n c ≡ false) later → AreAccepted cs later

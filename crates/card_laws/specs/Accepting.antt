@@ -1,4 +1,4 @@
--- Commands that are accepted one after the other.
+-- Commands that are accepted one after the other (the project's own).
 use Rattle.std.specs.Prelude.{◌≡◌, ℕ, List, [], ◌∷◌, ◌++◌, Option, None}
 use Rattle.std.specs.Option.{option_or}
 use Rattle.texts.specs.declared.command.Command.{Command}

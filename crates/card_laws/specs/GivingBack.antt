@@ -1,4 +1,5 @@
--- A card over what no longer stands is accepted only where a command between gave that back.
+-- A card over what no longer counts is accepted only where a command between gave that back (the
+-- project's own).
 use Rattle.std.specs.Prelude.{◌≡◌, ℕ, Bool, true, false, List, [], ◌∷◌, ◌++◌, Option, None, Some}
 use Rattle.attempts.specs.declared.Value.{Value}
 use Rattle.formats.specs.declared.events.Event.{Event}
@@ -19,11 +20,11 @@ has_values was (Some one) = are_values was one.values
 abbrev pub shows : List Command → Event → ℕ → ℕ → List Value → Bool
 shows cs e r n was = has_values was (held n (round_of cs e r))
 
--- what a card says that stands is what stands after these commands
+-- what a card says that counts is what counts after these commands
 abbrev pub is_shown : List Command → CardEntry → Bool
 is_shown cs card = shows cs card.id.event card.id.round card.number card.was
 
--- One of the commands after `cs` gives values back to a number in a round: before it others stand,
+-- One of the commands after `cs` gives values back to a number in a round: before it others count,
 -- or the number is not in the round, and after it these. Where the number was in the round, the
 -- command names it there; else the command lets it in, as an entry or a withdrawal of another does.
 pub record GivesBack (cs after : List Command) (e : Event) (r n : ℕ)
@@ -37,7 +38,7 @@ pub record GivesBack (cs after : List Command) (e : Event) (r n : ℕ)
   pub names : (stood : Entrant) → held n (round_of (cs ++ front) e r) ≡ Some stood
       → names e r n one ≡ true
 
--- where something else stands than a command with a card says, it is accepted later only where one
+-- where something else counts than a command with a card says, it is accepted later only where one
 -- of the commands between gave back what it says
 abbrev pub OnlyWhereGivenBack : (CardEntry → Command) → Type 0
 OnlyWhereGivenBack command =
@@ -53,7 +54,7 @@ AcceptedOnlyWhereGivenBack = OnlyWhereGivenBack Card
 abbrev pub FixedOnlyWhereGivenBack : Type 0
 FixedOnlyWhereGivenBack = OnlyWhereGivenBack Fix
 
--- two cards are of one entrant in one round, and say that the same stands
+-- two cards are of one entrant in one round, and say that the same counts
 pub record AreOverTheSame (first second : CardEntry) : Type 0 where
   pub id : first.id ≡ second.id
   pub number : first.number ≡ second.number
@@ -66,7 +67,7 @@ IsGivenBack cs after card =
     × (refusal (cs ++ given.front) given.one ≡ None)
 
 -- Two cards are over the same, and both are accepted, with all commands between them. Where the
--- first changes what stands, one of the commands between gave it back. So where two tables take the
+-- first changes what counts, one of the commands between gave it back. So where two tables take the
 -- same card, and nothing between gave that back, the second is refused.
 abbrev pub SecondOnlyWhereGivenBack : Type 0
 SecondOnlyWhereGivenBack =

@@ -1,4 +1,4 @@
--- What a round holds of an entrant stays until a command names that one there.
+-- What a round holds of an entrant stays until a command names that one there (the project's own).
 use Rattle.std.specs.Prelude.{◌≡◌, ◌≢◌, ℕ, Bool, false, ◌==◌, ◌&&◌, List, [], ◌∷◌, ◌++◌, All}
 use Rattle.std.specs.Prelude.{Option}
 use Rattle.std.specs.Prelude.{None, Some}
@@ -59,7 +59,7 @@ StandsUntilNamed command =
     → held card.number (round_by (cs ++ command card ∷ later) card.id)
     ≡ Some (entrant_with card.number (values_left cs card round))
 
--- after a card that is accepted its attempts stand, until another accepted command names the
+-- after a card that is accepted its attempts count, until another accepted command names the
 -- entrant
 abbrev pub CardStands : Type 0
 CardStands = StandsUntilNamed Card

@@ -1,5 +1,5 @@
--- A card of somebody of whom nothing stands in the round comes to the attempts of the same
--- outcomes, one after the other.
+-- A card of somebody of whom nothing counts in the round comes to the attempts of the same
+-- outcomes, one after the other (the project's own).
 use Rattle.std.specs.Prelude.{◌≡◌, ◌↔◌, ℕ, suc, true, List, [], ◌∷◌, ◌++◌, map, All, Option, None}
 use Rattle.std.specs.Prelude.{Some}
 use Rattle.formats.specs.declared.events.Event.{Event}
@@ -22,11 +22,11 @@ attempts_from id n k [] = []
 attempts_from id n k (x ∷ xs) =
     Attempt (attempt_entry id k n x) ∷ attempts_from id n (suc k) xs
 
--- the card of these outcomes, whose writer saw that nothing stands
+-- the card of these outcomes, whose writer saw that nothing counts
 abbrev pub first_card : RoundId → ℕ → List Entered → CardEntry
 first_card id n xs = card_entry id n [] (map Some xs)
 
--- nothing stands of a number in a round: whoever has the number there has no values
+-- nothing counts of a number in a round: an entrant with the number there has no values
 abbrev pub StandsBare : ℕ → Option (Settings × Table) → Type 0
 StandsBare n None = Unit {0}
 StandsBare n (Some round) = All (λ e. has_number n e ≡ true → e.values ≡ []) round.1.entrants

@@ -1,4 +1,4 @@
--- What the laws ask of a round is so of the rounds of every meet.
+-- What the laws ask of a round is so of the rounds of every meet (the project's own).
 use Rattle.std.specs.Prelude.{◌≡◌, ℕ, [], Option, None, Some}
 use Rattle.texts.specs.Fields.{was_of}
 use Rattle.texts.specs.Spelling.{was_text}
@@ -7,8 +7,8 @@ use Rattle.rounds.specs.Tables.{Entrant, Table}
 use Rattle.card_laws.specs.Holding.{held}
 use Rattle.card_laws.specs.OverNothing.{HasRules, StandsBare}
 
--- of a number in a round: whoever is found to have it, if anybody, is the only one, so nothing
--- stands of the number where nothing stands of that one; and what stands of it is read back from
+-- of a number in a round: the entrant who is found to have it, if any, is the only one, so nothing
+-- counts of the number where nothing counts of that one; and what counts of it is read back from
 -- the field of a card
 pub record MeetsPremises (n : ℕ) (round : Option (Settings × Table)) : Type 0 where
   pub rules : HasRules round

@@ -1,4 +1,5 @@
--- What is told beside a command counts for nothing, and what stands is told in one way.
+-- What is written beside a command counts for nothing, and what counts is written in one way (the
+-- project's own).
 use Rattle.std.specs.Prelude.{◌≡◌, ◌≤◌, ◌⊎◌, ℕ, List, [], ◌∷◌, ◌++◌, Option, Some, Ok}
 use Rattle.attempts.specs.declared.Value.{Value}
 use Rattle.formats.specs.declared.events.Event.{Event}
@@ -12,7 +13,7 @@ use Rattle.commands.specs.History.{History, after_in, answer_in, history_in}
 use Rattle.sheets.specs.declared.Style.{Style}
 use Rattle.sheets.specs.Sheet.{sheet}
 
--- up to five values that can stand are read back from the field of a card that says that they do
+-- up to five values that can count are read back from the field of a card that says that they do
 abbrev pub ReadsBack : Type 0
 ReadsBack = (vs : List Value) → AreCounted vs → was_of (was_text vs) ≡ Some vs
 

@@ -30,7 +30,7 @@ use Rattle.card_laws.specs.OverNothing.{HasRules, StandsBare, attempts_from, fir
 abbrev pub id : RoundId
 id = round_id Cube3 1
 
--- whoever is not below 11.00 in two attempts has no more
+-- an entrant who is not below 11.00 in two attempts has no more
 abbrev pub settings : Settings
 settings =
     record { format = Ao5; cutoff = Some (2, 1100); limit = Some 60000; advance = Final }

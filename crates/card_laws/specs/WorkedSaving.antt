@@ -1,5 +1,5 @@
--- Worked by hand: two cards of one entrant in a hall's log. The first is told saved; the second,
--- over what stood in front of the first, is told changed.
+-- Worked by hand: two cards of one entrant in a hall's log. The first is reported saved; the
+-- second, over what stood in front of the first, is reported changed.
 use Rattle.std.specs.Prelude.{◌≡◌, List, [], ◌∷◌, codes, Some, None}
 use Rattle.acceptor.specs.declared.entry.Entry.{Entry}
 use Rattle.attempts.specs.declared.Value.TheVariants as value
@@ -19,7 +19,7 @@ first = entry 6 (codes "CARD 333 1 1 1043 =/T:998:1")
 abbrev pub second : Entry
 second = entry 7 (codes "CARD 333 1 1 1043 =/T:1200:0")
 
--- 10.43 stands, and a second attempt of 9.98 with a penalty is written beside it
+-- 10.43 counts, and a second attempt of 9.98 with a penalty is written beside it
 abbrev pub card : CardEntry
 card =
     card_entry (round_id Cube3 1) 1 (value.Number 1043 ∷ [])

@@ -1,9 +1,9 @@
-//! Laws of cards over what no longer stands.
+//! Laws of cards over what no longer counts.
 
 ghost use Rattle.card_laws.specs.GivingBack.{AcceptedOnlyWhereGivenBack, FixedOnlyWhereGivenBack};
 ghost use Rattle.card_laws.specs.GivingBack.{SecondOnlyWhereGivenBack};
 
-/// A law: where something else stands than a card says, it is accepted later only where a command
+/// A law: where something else counts than a card says, it is accepted later only where a command
 /// between gave back what it says. That command names the entrant, where he was in the round then.
 pub fn accepted_only_where_given_back()
     ensures { AcceptedOnlyWhereGivenBack }
@@ -14,7 +14,7 @@ pub fn fixed_only_where_given_back()
     ensures { FixedOnlyWhereGivenBack }
 {}
 
-/// A law: of two accepted cards of one entrant that say that the same stands, the first of which
+/// A law: of two accepted cards of one entrant that say that the same counts, the first of which
 /// changes it, the second comes after an accepted command that gave back what both say.
 pub fn second_only_where_given_back()
     ensures { SecondOnlyWhereGivenBack }

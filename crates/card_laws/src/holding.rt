@@ -1,4 +1,4 @@
-//! Laws of how long attempts stand.
+//! Laws of how long attempts count.
 
 ghost use Rattle.card_laws.specs.Holding.{CardStands, FixStands, HoldsUntilNamed};
 

@@ -1,5 +1,5 @@
 //! Laws of scorecards: what a card comes to beside attempts one by one, how long its attempts
-//! stand, over what a second one is accepted, and that remarks count for nothing. Each law is the
+//! count, over what a second one is accepted, and that remarks count for nothing. Each law is the
 //! contract of a function that does nothing.
 #![tactic(auto)]
 

@@ -7,7 +7,7 @@ use commands::Meet;
 use formats::Event;
 
 /// In every meet, of every round and number: the cutoff is one of the format, nobody has a number
-/// twice, and what stands of a number is read back from the field of a card.
+/// twice, and what counts of a number is read back from the field of a card.
 pub fn rounds_meet_premises(meet: &Meet, event: Event, round: u8, number: u16)
     ensures { MeetsPremises number (round_of meet.now.accepted event round) }
 {

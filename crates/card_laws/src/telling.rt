@@ -1,9 +1,9 @@
-//! Laws of what is told beside what counts.
+//! Laws of what is shown beside what counts.
 
 ghost use Rattle.card_laws.specs.Telling.{NothingStandsOnRemarks, ReadsBack, RemarksAreTold};
 
 /// A law: up to five values, each in the range of a field, are read back from the field of a card
-/// that says that they stand.
+/// that says that they count.
 pub fn what_stands_reads_back()
     ensures { ReadsBack }
 {}

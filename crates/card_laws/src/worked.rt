@@ -4,7 +4,7 @@ ghost use Rattle.card_laws.specs.WorkedCards.{SetsEdition, WorksGivingBack, Work
 ghost use Rattle.card_laws.specs.WorkedCards.{WorksStanding, WorksTakenBack};
 ghost use Rattle.card_laws.specs.WorkedSaving.{WorksSaved};
 
-/// Of two in a round nothing stands: a card of five outcomes is accepted, as its attempts are, and
+/// Of two in a round nothing counts: a card of five outcomes is accepted, as its attempts are, and
 /// one of three that miss the cutoff is refused, as the third of them is. In a closed round the
 /// codes differ, where the event does not take an outcome.
 pub fn works_over_nothing()
@@ -34,8 +34,8 @@ pub fn sets_edition()
     ensures { SetsEdition }
 {}
 
-/// Of two cards over the same in a hall's log the first is told to be saved, and the second that
-/// its attempts were changed meanwhile.
+/// Of two cards over the same in a hall's log the first is reported saved, and the second that its
+/// attempts were changed meanwhile.
 pub fn works_saved()
     ensures { WorksSaved }
 {}

@@ -1,4 +1,4 @@
--- Which frame answers a client's, and what the client makes of a frame.
+-- Which frame answers a client's, and what the client makes of a frame (the project's own).
 use Rattle.std.specs.Prelude.{ℕ, Bool, false, true, ◌==◌, ◌&&◌, if◌then◌else◌, Result, Ok, Err}
 use Rattle.wire.specs.declared.frame.Frame.{Frame}
 use Rattle.wire.specs.declared.frame.What.{What}

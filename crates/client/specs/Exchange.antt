@@ -1,4 +1,4 @@
--- What a client writes and reads, and how it comes to its answer.
+-- What a client writes and reads, and how it comes to its answer (the project's own).
 use Rattle.std.specs.Prelude.{◌≡◌, ◌⊎◌, ℕ, List, [], ◌++◌, MatchOption, Option, Result, Ok, Err}
 use Rattle.std.specs.Io.KnownBytes.{Appends, Consumes, Keeps}
 use Rattle.std.specs.declared.io.Read as read
@@ -14,18 +14,18 @@ use Rattle.client.specs.declared.fault.ClientFault.{ClientFault}
 use Rattle.client.specs.declared.fault.ClientFault.TheVariants as fault
 use Rattle.client.specs.Answers.{judged}
 
--- this frame stands first in the bytes
+-- this frame is first in the bytes
 pub record StandsFirst (f : Frame) (bytes : List ℕ) : Type 0 where
   pub rest : List ℕ
   pub spelled : IsFrame f
   pub first : bytes ≡ spelling f ++ rest
 
--- no frame stands first in the bytes: they are fewer than a frame's, or break its format
+-- no frame is first in the bytes: they are fewer than a frame's, or break its format
 abbrev pub LacksFrame : List ℕ → Type 0
 LacksFrame bytes =
     (front bytes ≡ Waits) ⊎ ((e : WireFault) × (front bytes ≡ Breaks e) × IsOfStream e)
 
--- these bytes were read, and this frame stands first in them
+-- these bytes were read, and this frame is first in them
 abbrev pub Heard : (had left : Option (List ℕ)) → Frame → Type 0
 Heard had left f = (bytes : List ℕ) × Consumes had left bytes × StandsFirst f bytes
 
@@ -33,7 +33,7 @@ Heard had left f = (bytes : List ℕ) × Consumes had left bytes × StandsFirst 
 abbrev pub IsWaiting : Reader → List ℕ → Type 0
 IsWaiting reader bytes = (reader ≡ holding bytes) × (front bytes ≡ Waits)
 
--- a reader that holds these bytes has given the frame that stands first in them, or waits for more
+-- a reader that holds these bytes has given the frame that is first in them, or waits for more
 abbrev pub GivesFirst : Reader → List ℕ → Option Frame → Type 0
 GivesFirst reader bytes given =
     MatchOption given (IsWaiting reader bytes) (λ f. StandsFirst f bytes)

@@ -1,4 +1,4 @@
--- What a client prints of an answer, and of a fault.
+-- What a client prints of an answer, and of a fault (the project's own).
 use Rattle.std.specs.Prelude.{ℕ, List, [], ◌++◌, codes, decimal}
 use Rattle.texts.specs.Codes.{code_name}
 use Rattle.texts.specs.declared.answer.Answer.{Answer}

@@ -1,4 +1,5 @@
--- How a client asks a desk where it stands, for its log, and what becomes of a command.
+-- How a client asks a desk how it is, for its log, and what becomes of a command (the project's
+-- own).
 use Rattle.std.specs.Prelude.{◌≡◌, ℕ, true}
 use Rattle.wire.specs.Numbers.{IsFromThree}
 use Rattle.wire.specs.Ranges.{IsFrame}
@@ -13,7 +14,7 @@ abbrev pub request_in_three : (hall desk : ℕ) → What → Frame
 request_in_three hall desk asked =
     record { version = Three; hall = hall; from = 0; to = desk; what = asked }
 
--- where does the desk stand?
+-- how is the desk?
 abbrev pub status_request : (hall desk : ℕ) → Frame
 status_request hall desk = request_in_three hall desk what.Status
 
@@ -22,19 +23,19 @@ abbrev pub request_in_five : (hall desk : ℕ) → What → Frame
 request_in_five hall desk asked =
     record { version = Five; hall = hall; from = 0; to = desk; what = asked }
 
--- where does the desk stand, and does another one differ?
+-- how is the desk, and does another one differ?
 abbrev pub status_request_in_five : (hall desk : ℕ) → Frame
 status_request_in_five hall desk = request_in_five hall desk what.Status
 
--- what becomes of this id, once that is known, or after so many seconds?
+-- what becomes of this id, once that is known, or after this many seconds?
 abbrev pub await_request : (hall desk id seconds : ℕ) → Frame
 await_request hall desk id seconds = request_in_five hall desk (what.Await id seconds)
 
--- what stands in its log from this position on?
+-- what is in its log from this position on?
 abbrev pub log_request : (hall desk position : ℕ) → Frame
 log_request hall desk position = request_in_three hall desk (what.Log position)
 
--- it asks where the desk stands, or for its log
+-- it asks how the desk is, or for its log
 abbrev pub IsOfThree : What → Type 0
 IsOfThree what.Status = Unit {0}
 IsOfThree (what.Log position) = Unit {0}

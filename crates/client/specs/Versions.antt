@@ -1,4 +1,4 @@
--- Which version of the wire a request needs.
+-- Which version of the wire a request needs (the project's own).
 use Rattle.std.specs.Prelude.{nat_le, if◌then◌else◌}
 use Rattle.formats.specs.declared.events.Event.{Event}
 use Rattle.formats.specs.Events.{event_number}

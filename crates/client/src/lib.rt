@@ -2,8 +2,8 @@
 //!
 //! [`exchange`] writes the frame of a request and reads the frame that answers it; [`reply_text`]
 //! is the answer as the program prints it; [`sheet_version`] is the version of the wire that has
-//! the sheets of an event; [`status_request`] and [`log_request`] are the requests for where a desk
-//! stands and for its log.
+//! the sheets of an event; [`status_request`] and [`log_request`] are the requests for how a desk
+//! is and for its log.
 #![tactic(auto)]
 
 mod exchanging;

@@ -1,4 +1,4 @@
-//! The requests for where a desk stands, for its log, and for what becomes of a command.
+//! The requests for how a desk is, for its log, and for what becomes of a command.
 
 ghost use Rattle.std.specs.Prelude.{◌≡◌, ◌≤◌};
 ghost use Rattle.wire.specs.Ranges.{IsDesk, IsFrame, IsId};
@@ -7,8 +7,8 @@ ghost use Rattle.client.specs.Standings.{status_request, status_request_in_five}
 
 use wire::{Frame, Version, What};
 
-/// The request that asks a desk, 1 to 5, where it stands: a Status of a client, which is 0, in
-/// version 3 of the wire.
+/// The request that asks a desk, 1 to 5, how it is: a Status of a client, which is 0, in version 3
+/// of the wire.
 pub fn status_request(hall: u32, desk: u8) -> Frame
     ensures request { result ≡ status_request hall desk }
     ensures spelled { IsDesk desk → IsFrame result }
@@ -38,8 +38,8 @@ pub fn status_request_in_five(hall: u32, desk: u8) -> Frame
 }
 
 /// The request of a client, which is 0, for what becomes of the command with an id: a desk, 1 to 5,
-/// answers it once the command stands in its log, or after so many seconds. It is of version 5 of
-/// the wire; a desk of an earlier program ends the connection at it.
+/// answers it once the command is in its log, or after this many seconds. It is of version 5 of the
+/// wire; a desk of an earlier program ends the connection at it.
 pub fn await_request(hall: u32, desk: u8, id: u64, seconds: u8) -> Frame
     ensures request { result ≡ await_request hall desk id seconds }
     ensures spelled { IsDesk desk → IsId id → IsFrame result }
@@ -53,8 +53,8 @@ pub fn await_request(hall: u32, desk: u8, id: u64, seconds: u8) -> Frame
     }
 }
 
-/// The request for what stands in the log of a desk, 1 to 5, from a position on, at most 65,536: a
-/// Log of a client, which is 0, in version 3 of the wire.
+/// The request for what is in the log of a desk, 1 to 5, from a position on, at most 65,536: a Log
+/// of a client, which is 0, in version 3 of the wire.
 pub fn log_request(hall: u32, desk: u8, position: u32) -> Frame
     ensures request { result ≡ log_request hall desk position }
     ensures spelled { IsDesk desk → position ≤ 65536 → IsFrame result }

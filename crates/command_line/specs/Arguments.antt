@@ -1,4 +1,4 @@
--- The arguments of a program.
+-- The arguments of a program (the project's own).
 use Rattle.std.specs.Prelude.{List, map}
 use Rattle.std.specs.Borrow.{Bor}
 use Rattle.clap.specs.Words.{Text}

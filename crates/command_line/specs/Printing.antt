@@ -1,4 +1,4 @@
--- What is printed of what a parser says.
+-- What is printed of what a parser says (in the words of the crate `clap`).
 use Rattle.std.specs.Prelude.{ℕ, List, Option}
 use Rattle.std.specs.Io.KnownBytes.{Appends, Keeps}
 use Rattle.lines.specs.Bytes.{AppendsPart}

@@ -1,4 +1,4 @@
--- What is answered to commands that are sent together.
+-- What is answered to commands that are sent together (the project's own).
 use Rattle.std.specs.Prelude.{ℕ, suc, Bool, true, false, codes, decimal, if◌then◌else◌}
 use Rattle.std.specs.Prelude.{List, [], ◌∷◌, ◌++◌, Option, None, Some, slice_get}
 use Rattle.std.specs.Str.{is_utf8}

@@ -1,4 +1,4 @@
--- Commands from a competition's file.
+-- Commands from a competition's file (the project's own).
 use Rattle.std.specs.Prelude.{◌≡◌, ℕ, List}
 use Rattle.texts.specs.declared.command.Command.{Command}
 use Rattle.wcif.specs.declared.options.Options.{Options}

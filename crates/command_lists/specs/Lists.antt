@@ -1,4 +1,4 @@
--- Commands that are sent together, from lines.
+-- Commands that are sent together, from lines (the project's own).
 use Rattle.std.specs.Prelude.{◌≡◌, ℕ, nat_le, if◌then◌else◌, List, [], ◌∷◌, ◌++◌, length}
 use Rattle.std.specs.Prelude.{Option, None, Some}
 use Rattle.lines.specs.command_file.Commands.{Numbered, commands_of}

@@ -144,7 +144,7 @@ pub read_twice : {X : Type 0} (xs : List X) (i : ℕ) (a b : X) → i < length x
     → b ≡ get_or xs i b → a ≡ b
 read_twice xs i a b within one other = one ∙ any_default xs i a b within ∙ sym other
 
--- what is let stand is there
+-- what is kept is there
 abbrev Stand : List (Option Entered) → List Value → Type 0
 Stand xs vs = (i : ℕ) → i < length xs → get_or xs i None ≡ None → i < length vs
 
@@ -223,7 +223,7 @@ values_alike f g each k (None ∷ xs) [] = values_alike f g each (suc k) xs []
 values_alike f g each k (None ∷ xs) (v ∷ vs) =
     ap (λ (ws : List Value). v ∷ ws) (values_alike f g each (suc k) xs vs)
 
--- what holds of each value that is entered, and of each that stands, holds of each
+-- what holds of each value that is entered, and of each that counts, holds of each
 pub values_hold : (P : Value → Type 0) (Q : Entered → Type 0) (counts : ℕ → Entered → Value)
     → ((k : ℕ) (x : Entered) → Q x → P (counts k x)) → (k : ℕ) (xs : List (Option Entered))
     (vs : List Value)
@@ -359,7 +359,7 @@ noted_still xs number n k old new is none few =
         ∙ ap (λ (o : Option (List Bool)). unwrap_or (solving_at k 1 xs) (is_set_in k o))
         (sym (none (sym (eqb-true n number same))))
 
--- What stands
+-- What counts
 
 same_value : (v w : Value) → is_value v w ≡ true → v ≡ w
 same_value (value.Number n) (value.Number m) h = ap value.Number (eqb-true n m h)

@@ -168,7 +168,7 @@ round_strike e f r s m cs =
     values_changed e r before (Strike (round_id f s) m) o m without_last (same_event e f && r == s)
     (λ s. refl) refl (λ waiting earlier. refl) (λ n. refl) (λ y. refl))
 
--- an advance that is given stands in its round, and in no other
+-- an advance that is given is in its round, and in no other
 pub round_advance : (e f : Event) (r s : ℕ) (advance : Advance) (cs : List Command)
     → round_of (cs ++ SetAdvance (round_id f s) advance ∷ []) e r
     ≡ cond (same_event e f && r == s) (option_map (with_advance advance) (round_of cs e r))
@@ -201,7 +201,7 @@ round_advance e f r s advance cs =
         (λ settings earlier x. refl))
         ∙ step o before (same_event e f && r == s)
 
--- other settings stand in their round, and in no other
+-- other settings are in their round, and in no other
 pub round_settings : (e f : Event) (r s : ℕ) (format : Format) (cutoff : Option (ℕ × ℕ))
     (limit : Option ℕ) (cs : List Command)
     → round_of (cs ++ SetRound (round_id f s) format cutoff limit ∷ []) e r

@@ -25,13 +25,13 @@ use Rattle.commands.proofs.OneMore.{round_with, map_same, filter_all}
 
 -- Lists
 
--- without so many and one more
+-- without this many and one more
 drop_later : (k : ℕ) (ns : List ℕ) → drop (suc k) ns ≡ drop 1 (drop k ns)
 drop_later zero ns = refl
 drop_later (suc k) [] = refl
 drop_later (suc k) (n ∷ ns) = drop_later k ns
 
--- the first after so many
+-- the first after this many
 pub first_later : (k : ℕ) (ns : List ℕ) → first_of_all (drop k ns) ≡ slice_get ns k
 first_later zero ns = refl
 first_later (suc k) [] = refl

@@ -775,7 +775,7 @@ scrambled_before e k scramble solved (Some round) h =
     step None true closed attempted h = absurd (false≢true (sym (ap is_some h)))
     step None false closed attempted h = absurd (false≢true (sym (ap is_some h)))
 
--- a command that gives one attempt a scramble, which stands then
+-- a command that gives one attempt a scramble, which is then
 pub record Scrambles (cs : List Command) (c : Command) (e : Event) (r k : ℕ)
     (moves : List Move) : Type 0 where
   pub gives : (f : Event) (s j : ℕ) → (same_event f e && s == r && j == k) ≡ true

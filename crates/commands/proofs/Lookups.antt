@@ -46,8 +46,8 @@ last_push f [] c = sym (or_none (f c))
 last_push f (d ∷ ds) c =
     ap (λ o. option_or o (f d)) (last_push f ds c) ∙ sym (or_assoc (f c) (last_of f ds) (f d))
 
--- what stands after one more command: what it puts in the place of what stood, or what it gives
--- where nothing did
+-- what is after one more command: what it puts in the place of what stood, or what it gives where
+-- nothing did
 abbrev pub stands : {X : Type 0} → Option X → Option X → Option X → Option X
 stands given other None = given
 stands given other (Some x) = Some (unwrap_or other x)
@@ -78,7 +78,7 @@ standing_push {X} given other (d ∷ ds) c =
     step None p h = h
     step (Some x) p h = ap Some (later p (last_of other ds) x)
 
--- a command that says neither leaves what stands
+-- a command that says neither leaves what counts
 pub standing_kept : {X : Type 0} (given other : Command → Option X) (cs : List Command)
     (c : Command)
     → given c ≡ None → other c ≡ None

@@ -66,7 +66,7 @@ scramble_refusal e k scramble (Some round) =
     else if is_some scramble then Some code.ScrambleThere
     else None
 
--- attempt k of the entrant with a number stands, and a solution was entered for it
+-- attempt k of the entrant with a number counts, and a solution was entered for it
 abbrev pub has_solved : (ℕ → Bool) → Table → ℕ → ℕ → Bool
 has_solved solved t k n = holds_of (has_done k) (entrant t n) && solved n
 

@@ -51,7 +51,7 @@ are_values [] (w ∷ ws) = false
 are_values (v ∷ vs) [] = false
 are_values (v ∷ vs) (w ∷ ws) = is_value v w && are_values vs ws
 
--- the values that stand of an entrant are not those that the writer of a card saw
+-- the values that count of an entrant are not those that the writer of a card saw
 abbrev pub seen_refusal : List Value → Option Entrant → Option Code
 seen_refusal was None = Some code.NotEntered
 seen_refusal was (Some e) = if are_values was e.values then None else Some code.Changed
@@ -60,7 +60,7 @@ seen_refusal was (Some e) = if are_values was e.values then None else Some code.
 abbrev pub counts_in : Settings → (ℕ → Option (List Move)) → ℕ → Entered → Value
 counts_in settings scrambles k x = settled settings (scrambles k) x
 
--- the values that a card leaves, where what stands is what its writer saw
+-- the values that a card leaves, where what counts is what its writer saw
 abbrev pub card_values : (ℕ → Option (List Move)) → CardEntry → Settings → List Value
 card_values scrambles card settings =
     values_now (counts_in settings scrambles) 1 card.now card.was
@@ -80,7 +80,7 @@ card_refusal e scrambles card (Some round) =
     else option_or (seen_refusal card.was (entrant round.1 card.number))
     (option_map set_code (set_fault round.1 card.number (card_values scrambles card round.0))))
 
--- the numbers of competitors of an event's rounds, with so many in round r
+-- the numbers of competitors of an event's rounds, with this many in round r
 abbrev pub but_for : (ℕ → ℕ) → ℕ → ℕ → ℕ → ℕ
 but_for competitors r count j = if j == r then count else competitors j
 

@@ -1,4 +1,4 @@
--- Who is registered, and under which name.
+-- Who is registered, and under which name (the project's own).
 use Rattle.std.specs.Prelude.{ℕ, Bool, false, not, ◌==◌, ◌&&◌, if◌then◌else◌, List, bytes_eq}
 use Rattle.std.specs.Prelude.{is_some, Option, None, Some}
 use Rattle.std.specs.List.{list_any}

@@ -1,4 +1,4 @@
--- The edition that holds.
+-- The edition that holds (the project's own).
 use Rattle.std.specs.Prelude.{ℕ, List, [], ◌∷◌, unwrap_or, Option, None, Some}
 use Rattle.texts.specs.declared.command.Command.{Command}
 use Rattle.texts.specs.declared.command.Command.TheVariants.{SetEdition}

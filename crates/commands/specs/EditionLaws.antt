@@ -1,8 +1,8 @@
--- The law of the editions: a later one changes no answer before it is set. Whoever knows more
--- editions answers a list that sets none of these as whoever does not. The law holds whatever a
--- command means, since how many editions are known is asked at one place alone; so it does not say
--- what an edition means, nor that it means what it did. The worked days and sheets of each edition
--- say that, and the stored rows of answers.
+-- The law of the editions: a later one changes no answer before it is set. A program that knows
+-- more editions answers a list that sets none of these as one that does not. The law holds whatever
+-- a command means, since how many editions are known is asked at one place alone; so it does not
+-- say what an edition means, nor that it means what it did. The worked days and sheets of each
+-- edition say that, and the stored rows of answers.
 use Rattle.std.specs.Prelude.{◌≡◌, ◌<◌, ◌≤◌, ℕ, List, All}
 use Rattle.texts.specs.declared.command.Command.TheVariants.{SetEdition}
 use Rattle.texts.specs.Spelling.{spelling}

@@ -1,4 +1,4 @@
--- The codes for what a table refuses.
+-- The codes for what a table refuses (the project's own).
 use Rattle.std.specs.Prelude.{Option, None, Some}
 use Rattle.texts.specs.declared.answer.Code.{Code}
 use Rattle.texts.specs.declared.answer.Code.TheVariants as code

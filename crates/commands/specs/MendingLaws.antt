@@ -1,4 +1,4 @@
--- What the commands that mend mistakes leave as it was.
+-- What the commands that mend mistakes leave as it was (the project's own).
 use Rattle.std.specs.Prelude.{◌≡◌, ℕ, List, [], ◌∷◌, ◌++◌, None}
 use Rattle.formats.specs.declared.events.Event.{Event}
 use Rattle.texts.specs.declared.command.Command.{Command}

@@ -1,4 +1,4 @@
--- Laws of openings.
+-- Laws of openings (the project's own).
 use Rattle.std.specs.Prelude.{◌≡◌, ℕ, false, List, [], ◌∷◌, ◌++◌, Option, None}
 use Rattle.std.specs.List.{list_any}
 use Rattle.std.specs.Option.{option_or, option_map}
@@ -27,8 +27,7 @@ FirstOpeningHolds =
     (e : Event) (r : ℕ) (earlier cs : List Command) → list_any (is_cancelled e r) cs ≡ false
     → opened e r earlier cs ≡ first_opened e r earlier cs
 
--- whoever takes back that a round was opened, with nothing between, finds each round as it was
--- before
+-- if a round is opened and that is taken back, with nothing between, each round is as it was before
 abbrev pub CancelsAsBefore : Type 0
 CancelsAsBefore =
     (cs : List Command) (id : RoundId) (settings : Settings) (e : Event) (r : ℕ)

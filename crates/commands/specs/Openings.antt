@@ -1,4 +1,4 @@
--- The opening of a round that holds, and its settings as they stand since.
+-- The opening of a round that holds, and its settings as they are since (the project's own).
 use Rattle.std.specs.Prelude.{ℕ, Bool, false, ◌==◌, ◌&&◌, if◌then◌else◌, List, [], ◌∷◌, ◌++◌}
 use Rattle.std.specs.Prelude.{Option, None}
 use Rattle.std.specs.Prelude.{Some}
@@ -40,8 +40,8 @@ just_opened earlier settings = record { before = earlier; settings = settings; s
 abbrev pub plus_command : Command → Opened → Opened
 plus_command c o = record o { since = o.since ++ c ∷ [] }
 
--- a round after one more command, which stands after `earlier`: one that is not opened is, where
--- the command opens it; one that is opened has one more command, or is not opened any more
+-- a round after one more command, which is after `earlier`: one that is not opened is, where the
+-- command opens it; one that is opened has one more command, or is not opened any more
 abbrev pub opened_by : Event → ℕ → List Command → Option Opened → Command → Option Opened
 opened_by e r earlier None c = option_map (just_opened earlier) (opening e r c)
 opened_by e r earlier (Some o) c = if is_cancelled e r c then None else Some (plus_command c o)
@@ -71,6 +71,6 @@ abbrev pub settings_after : Event → ℕ → Settings → List Command → Sett
 settings_after e r settings [] = settings
 settings_after e r settings (c ∷ cs) = settings_after e r (settings_by e r c settings) cs
 
--- the settings of a round that was opened, as they stand now
+-- the settings of a round that was opened, as they are now
 abbrev pub settings_now : Event → ℕ → Opened → Settings
 settings_now e r o = settings_after e r o.settings o.since

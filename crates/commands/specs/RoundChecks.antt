@@ -66,8 +66,8 @@ abbrev pub competitors_of : Option (Settings × Table) → ℕ
 competitors_of None = 0
 competitors_of (Some round) = started round.1
 
--- the competitors of round j, of whom there are so many, do not allow the r + 1 - j later rounds up
--- to round r + 1 (WCA Regulations, article 9m)
+-- the competitors of round j, of whom there are this many, do not allow the r + 1 - j later rounds
+-- up to round r + 1 (WCA Regulations, article 9m)
 abbrev pub has_too_few : (ℕ → ℕ) → ℕ → ℕ → Bool
 has_too_few competitors r j = nat_lt (later_rounds (competitors j)) (r + 1 - j)
 

@@ -1,5 +1,5 @@
 -- A round as the accepted commands make it: its settings, its entrants with their values, and
--- whether it is closed.
+-- whether it is closed (the project's own).
 use Rattle.std.specs.Prelude.{ℕ, zero, suc, Bool, true, false, not, ◌==◌, ◌&&◌, if◌then◌else◌, List}
 use Rattle.std.specs.Prelude.{[], ◌∷◌, ◌++◌, map, unwrap_or, option_to_list, Option, None, Some}
 use Rattle.std.specs.Prelude.{filter, count_by, slice_get}
@@ -29,7 +29,7 @@ takes_out e r n (Withdraw id m) = is_of e r id && m == n
 takes_out e r n _ = false
 
 -- the number that a command enters in a round as its last entrant: entries are for first rounds,
--- and whoever withdraws from a round gives the place to those who wait for one, each in turn: to
+-- and one who withdraws from a round gives the place to those who wait for one, each in turn: to
 -- the first of them who was not taken in before (`IsTakenInTurn` of `advancement`). `earlier` are
 -- the commands between the opening and this one.
 abbrev pub entering : Event → ℕ → List ℕ → List Command → Command → Option ℕ
@@ -103,10 +103,10 @@ abbrev pub round_at : Event → ℕ → Option (Settings × Table) → Opened �
 round_at e r before o =
     (settings_now e r o, table_of e r (who_advance before) (who_wait before) o)
 
--- a round: its settings as they stand now, and its table. The entrants of a later round are those
--- who advance from the one before, as the commands before the opening make that one, and those who
--- took a place since. The one before was closed then, and stays so: it cannot be opened again once
--- the next one is open, though its attempts may be fixed. Rounds are counted from 1.
+-- a round: its settings as they are now, and its table. The entrants of a later round are those who
+-- advance from the one before, as the commands before the opening make that one, and those who took
+-- a place since. The one before was closed then, and stays so: it cannot be opened again once the
+-- next one is open, though its attempts may be fixed. Rounds are counted from 1.
 unfoldable pub round_in : Event → ℕ → List Command → Option (Settings × Table)
 round_in e zero cs = None
 round_in e (suc r) cs =

@@ -1,4 +1,4 @@
--- The scrambles of a round's attempts.
+-- The scrambles of a round's attempts (the project's own).
 use Rattle.std.specs.Prelude.{ℕ, ◌==◌, ◌&&◌, if◌then◌else◌, List, [], Option, None, Some}
 use Rattle.std.specs.Option.{option_and_then}
 use Rattle.cube.specs.declared.moves.Move.{Move}

@@ -1,4 +1,4 @@
--- Whether what was entered last for an attempt is a solution.
+-- Whether what was entered last for an attempt is a solution (the project's own).
 use Rattle.std.specs.Prelude.{ℕ, suc, Bool, true, false, ◌==◌, ◌&&◌, if◌then◌else◌, List, [], ◌∷◌}
 use Rattle.std.specs.Prelude.{unwrap_or}
 use Rattle.std.specs.Prelude.{Option, None, Some}

@@ -1,4 +1,4 @@
--- The values of what was entered for an entrant's attempts.
+-- The values of what was entered for an entrant's attempts (the project's own).
 use Rattle.std.specs.Prelude.{ℕ, suc, ◌==◌, ◌&&◌, if◌then◌else◌, List, [], ◌∷◌, ◌++◌, Option, None}
 use Rattle.std.specs.Prelude.{Some}
 use Rattle.cube.specs.declared.moves.Move.{Move}

@@ -1,4 +1,4 @@
-//! Scorecards: all attempts of an entrant at once, where what stands is what the writer of the card
+//! Scorecards: all attempts of an entrant at once, where what counts is what the writer of the card
 //! saw.
 
 ghost use Rattle.std.specs.Prelude.{◌≡◌, ◌<◌, ◌≤◌, ◌+◌, ◌++◌, ◌&&◌, IfOk, IfNone, OnErr};
@@ -29,14 +29,14 @@ use rounds::RoundTable;
 use std::alloc::Global;
 use texts::{CardEntry, Code, Command, Entered, RoundId, Settings};
 
-/// Whether these values are those that stand.
+/// Whether these values are those that count.
 fn are_values(was: &[Value], stand: &[Value]) -> bool
     ensures { result ≡ are_values was.now stand.now }
 {
     was == stand
 }
 
-/// Why what stands of an entrant is not what the writer of a card saw.
+/// Why what counts of an entrant is not what the writer of a card saw.
 fn seen_refusal(table: &RoundTable, card: &CardEntry) -> Option<Code>
     ensures code { result
         ≡ seen_refusal card.entry.now.was (entrant table.now card.entry.now.number) }
@@ -84,8 +84,8 @@ fn has_wrong(unit: Unit, now: &[Option<Entered>]) -> bool
 }
 
 impl KeptRounds {
-    /// Whether the next round is not open, and the rounds rule is broken where so many competitors
-    /// have an attempt in this one that is not DNS.
+    /// Whether the next round is not open, and the rounds rule is broken where this many
+    /// competitors have an attempt in this one that is not DNS.
     fn breaks_with(&self, id: RoundId, competitors: u16, advance: Advance) -> bool
         requires { id.round ≤ LAST_ROUND }
         ensures { result

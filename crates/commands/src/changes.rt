@@ -57,7 +57,7 @@ impl KeptRounds {
         }
     }
 
-    /// Notes where the scramble of an attempt will stand, or says why not. The attempt has the
+    /// Notes where the scramble of an attempt will be, or says why not. The attempt has the
     /// scramble `there` already.
     pub(crate) fn add_scramble(
         &mut self,

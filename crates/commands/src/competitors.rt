@@ -11,8 +11,8 @@ use std::alloc::Global;
 use std::collections::HashMap;
 use texts::{Code, Command, Name};
 
-/// Where the name of each number stands among the accepted commands, and the number to which each
-/// name was given last.
+/// Where the name of each number is among the accepted commands, and the number to which each name
+/// was given last.
 #[derive(Drop)]
 pub(crate) struct Competitors {
     places: HashMap<u16, usize>,

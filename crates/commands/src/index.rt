@@ -156,8 +156,8 @@ impl Index {
         scramble_at(accepted, id, attempt, place)
     }
 
-    /// Does a command that will stand after the accepted ones, or says why not, where edition
-    /// `holds` does.
+    /// Does a command that will be after the accepted ones, or says why not, where edition `holds`
+    /// does.
     #[tactic(auto, using(crate::proofs::Units::units), unfolding(texts::specs::Table::rows))]
     pub(crate) fn apply(
         &mut self,

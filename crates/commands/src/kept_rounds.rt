@@ -19,7 +19,7 @@ pub(crate) struct KeptRound {
     pub(crate) id: RoundId,
     pub(crate) settings: Settings,
     pub(crate) table: RoundTable,
-    /// Where the scramble of each attempt stands among the accepted commands.
+    /// Where the scramble of each attempt is among the accepted commands.
     pub(crate) scrambles: [Option<usize>; 5],
     /// For which attempts a solution was entered.
     pub(crate) solutions: Solutions,
@@ -61,7 +61,7 @@ pub(crate) fn is_final(advance: Advance) -> bool
     }
 }
 
-/// Where the round of an id stands among these.
+/// Where the round of an id is among these.
 fn place_in(rounds: &[KeptRound], id: RoundId) -> Option<usize>
     ensures { result ≡ position (is_round id.event id.round) rounds.now }
 {
@@ -78,7 +78,7 @@ impl KeptRounds {
         }
     }
 
-    /// Where a round stands, if it was opened.
+    /// Where a round is, if it was opened.
     pub(crate) fn place_of(&self, id: RoundId) -> Option<usize>
         ensures value { result ≡ position (is_round id.event id.round) self.now.opened.items }
         ensures kept { MatchOption result (kept_by id self.now ≡ None)
@@ -117,7 +117,7 @@ impl KeptRounds {
         Some(self.get(id)?.settings)
     }
 
-    /// Where the scramble of an attempt stands among the accepted commands.
+    /// Where the scramble of an attempt is among the accepted commands.
     pub(crate) fn scramble(&self, id: RoundId, attempt: u8) -> Option<usize>
         requires { 1 ≤ attempt }
         ensures { result ≡ kept_scramble id.event id.round attempt self.now.opened.items }

@@ -12,8 +12,8 @@ pub fn every_id_is_seen()
 {}
 
 /// A law: a later edition changes no answer before it is set. For every number of editions, a list
-/// that sets none of the further ones is answered by whoever knows more editions as by whoever
-/// knows these alone.
+/// that sets none of the further ones is answered by a program that knows more editions as by one
+/// that knows these alone.
 pub fn later_editions_change_no_answer()
     ensures { AnswersAsEarlier }
 {}
@@ -35,7 +35,7 @@ pub fn first_opening_holds()
     ensures { FirstOpeningHolds }
 {}
 
-/// A law: whoever takes back that a round was opened, with nothing between, finds each round as it
+/// A law: if a round is opened and that is taken back, with nothing between, each round is as it
 /// was before it was opened.
 pub fn cancels_as_before()
     ensures { CancelsAsBefore }

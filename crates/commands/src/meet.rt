@@ -121,7 +121,7 @@ impl Meet {
         self.accepted.round(RoundId { event, round })
     }
 
-    /// The settings of a round as they stand now, where it was opened.
+    /// The settings of a round as they are now, where it was opened.
     pub fn settings(&self, event: Event, round: u8) -> Option<Settings>
         ensures { result ≡ option_map (λ r. r.0) (round_of self.now.accepted event round) }
     {

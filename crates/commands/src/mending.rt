@@ -42,7 +42,7 @@ fn take_first(waiting: &mut Vec<u16>)
     }
 }
 
-/// Whether an attempt of the entrant with a number stands.
+/// Whether an attempt of the entrant with a number counts.
 fn has_done(table: &RoundTable, attempt: u8, number: u16) -> bool
     ensures { result ≡ holds_of (has_done attempt) (entrant table.now number) }
 {
@@ -52,7 +52,7 @@ fn has_done(table: &RoundTable, attempt: u8, number: u16) -> bool
     }
 }
 
-/// Whether an attempt of the entrant with a number stands, and a solution was entered for it.
+/// Whether an attempt of the entrant with a number counts, and a solution was entered for it.
 fn has_solved(kept: &KeptRound, attempt: u8, number: u16) -> bool
     requires { 1 ≤ attempt }
     ensures { result ≡ has_solved (λ n. is_noted kept.now.solutions n attempt) kept.now.table
@@ -61,7 +61,7 @@ fn has_solved(kept: &KeptRound, attempt: u8, number: u16) -> bool
     has_done(&kept.table, attempt, number) && kept.solutions.is_noted(number, attempt)
 }
 
-/// Whether an attempt of some entrant stands for which a solution was entered.
+/// Whether an attempt of some entrant counts for which a solution was entered.
 fn is_solved(kept: &KeptRound, attempt: u8) -> Result<bool, NoMemory>
     requires { 1 ≤ attempt }
     ensures { IfOk result (λ found. found
@@ -117,7 +117,7 @@ impl KeptRounds {
         }
     }
 
-    /// Notes where another scramble of an attempt will stand, or says why not. The attempt has the
+    /// Notes where another scramble of an attempt will be, or says why not. The attempt has the
     /// scramble `there` already.
     pub(crate) fn rescramble(
         &mut self,

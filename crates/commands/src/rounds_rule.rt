@@ -10,8 +10,8 @@ use advancement::{Advance, later_rounds};
 use formats::LAST_ROUND;
 use texts::RoundId;
 
-/// How many competitors a round of the event has, as the next one sees it, where this round has so
-/// many.
+/// How many competitors a round of the event has, as the next one sees it, where this round has
+/// this many.
 fn competitors_with(rounds: &KeptRounds, id: RoundId, competitors: u16, earlier: u8) -> u16
     ensures { result ≡ but_for (kept_competitors id.event rounds.now.opened.items) id.round
         competitors earlier }
@@ -26,7 +26,7 @@ fn competitors_with(rounds: &KeptRounds, id: RoundId, competitors: u16, earlier:
 }
 
 /// Whether the competitors of the round numbered `earlier` do not allow the later rounds up to the
-/// one after this round, which has so many.
+/// one after this round, which has this many.
 fn has_too_few(rounds: &KeptRounds, id: RoundId, competitors: u16, earlier: u8) -> bool
     requires { id.round ≤ LAST_ROUND }
     ensures { result
@@ -37,7 +37,7 @@ fn has_too_few(rounds: &KeptRounds, id: RoundId, competitors: u16, earlier: u8) 
         < (id.round + 1).saturating_sub(earlier)
 }
 
-/// Whether so many competitors of a round, or those of one before it, do not allow that one
+/// Whether this many competitors of a round, or those of one before it, do not allow that one
 /// follows.
 fn allows_no_further(rounds: &KeptRounds, id: RoundId, competitors: u16) -> bool
     requires { id.round ≤ LAST_ROUND }
@@ -54,7 +54,7 @@ fn allows_no_further(rounds: &KeptRounds, id: RoundId, competitors: u16) -> bool
     false
 }
 
-/// Whether another round shall follow this one, and its competitors, so many, or those of the
+/// Whether another round shall follow this one, and its competitors, this many, or those of the
 /// rounds before do not allow it.
 pub(crate) fn breaks_rounds_rule(
     rounds: &KeptRounds,

@@ -94,7 +94,7 @@ fn note_row(row: &mut [bool; 5], now: &[Option<Entered>])
     }
 }
 
-/// Whether an attempt has a solution once a card enters something for it, or lets it stand.
+/// Whether an attempt has a solution once a card enters something for it, or keeps it.
 fn noted(outcome: &Option<Entered>, before: bool) -> bool
     ensures { result ≡ unwrap_or (option_map is_solution outcome.now) before }
 {

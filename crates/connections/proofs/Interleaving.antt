@@ -231,7 +231,7 @@ began_to home k came taken rest all one old new h next =
 
 -- ---- no frame was begun
 
--- a fault that stands after the frames ends it
+-- a fault that is after the frames ends it
 breaks_now : (fault : Option WireFault) (all : List Served) (rest : List ℕ) (reader : Reader)
     → reader.fault ≡ fault → IsKept fault → reader ≡ keeps (front rest) rest
     → (IsBegun (front rest) → ⊥) → StayOpen all → EndsBy (broken_by fault) all rest

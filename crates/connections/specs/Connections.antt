@@ -1,4 +1,5 @@
--- Many connections of one desk, each served by turns, in whatever order the turns come.
+-- Many connections of one desk, each served by turns, in whatever order the turns come (the
+-- project's own).
 use Rattle.std.specs.Prelude.{◌≡◌, ◌≢◌, ◌⊎◌, ◌≤◌, ℕ, ◌+◌, ◌==◌, if◌then◌else◌, List, [], ◌∷◌, ◌++◌}
 use Rattle.std.specs.Prelude.{length, Option, None, Some}
 use Rattle.std.specs.List.{flat_map}
@@ -109,7 +110,7 @@ pub record LastEnds (why : End) (all earlier : List Served) (last : Served) : Ty
   pub open_before : StayOpen earlier
   pub ends : last.leaves ≡ Some why
 
--- it ended after all its frames: by a fault that stands after them, or for want of memory
+-- it ended after all its frames: by a fault that is after them, or for want of memory
 abbrev pub EndsAfter : End → List ℕ → Type 0
 EndsAfter (end.Fault e) rest = (front rest ≡ Breaks e) × IsOfStream e
 EndsAfter end.NoMemory rest = Unit {0}

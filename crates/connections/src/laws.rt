@@ -1,4 +1,4 @@
-//! What follows of the turns of many connections, whoever takes them.
+//! What follows of the turns of many connections, in any order.
 
 ghost use Rattle.connections.specs.Connections.{EachIsServed, SilenceChangesNothing};
 
@@ -8,7 +8,7 @@ use answers::Desk;
 /// answers taken: the frames that were begun are served one after the other, each by the node as
 /// the one before it left the node, and the calls of all lead from the node before the first turn
 /// to the node after the last. What each connection is handed, and what is pending for it, are the
-/// answers to its own frames, in order, and these frames stand first in what came from it. So no
+/// answers to its own frames, in order, and these frames are first in what came from it. So no
 /// connection is given another one's bytes.
 ///
 /// `Turns` of `serving` says of each turn what the contracts of `receive`, `advance` and `sent` of

@@ -53,7 +53,7 @@ along D v = negative v.y
 along L v = negative v.x
 along B v = negative v.z
 
--- a sticker stands on a side: its normal points out of it, and its place is in the side's layer
+-- a sticker is on a side: its normal points out of it, and its place is in the side's layer
 pub record StandsOn (side : Side) (sticker : Sticker) : Type 0 where
   pub points : sticker.normal ≡ outward side
   pub touches : along side sticker.place ≡ Plus

@@ -144,7 +144,7 @@ IsSolved arrangement =
     (s t : Sticker) → IsSticker s → IsSticker t → s.normal ≡ t.normal
     → colour_at arrangement s ≡ colour_at arrangement t
 
--- after a move each sticker's colour stands where the move takes the sticker
+-- after a move each sticker's colour is where the move takes the sticker
 abbrev pub CarriesStickers : Move → List Colour → List Colour → Type 0
 CarriesStickers move old new =
     (s : Sticker) → IsSticker s → colour_at new (moved move s) ≡ colour_at old s

@@ -5,7 +5,7 @@ ghost use Rattle.cube.specs.Stickers.{Sticker, IsSticker, stickers, number};
 ghost use Rattle.cube.specs.declared.moves.Kind.{Kind};
 ghost use Rattle.cube.specs.Turns.{IsNoneFourTimes};
 
-/// There are 54 stickers, and each stands in their list at its number.
+/// There are 54 stickers, and each is in their list at its number.
 pub fn fifty_four_stickers()
     ensures count { length stickers ≡ 54 }
     ensures each { All IsSticker stickers }

@@ -55,8 +55,8 @@ pub struct Move {
     pub quarter: Quarter,
 }
 
-/// The colour of a sticker, named by the side at which it stands on the cube that the first
-/// arrangement shows.
+/// The colour of a sticker, named by the side at which it is on the cube that the first arrangement
+/// shows.
 #[derive(Clone, Copy, PartialEq, Eq, Debug)]
 pub enum Colour {
     U,

@@ -1,5 +1,5 @@
-//! The cube as it is kept: which corner stands at each corner's place and how it is twisted, which
-//! edge stands at each edge's place and whether it is flipped, and how the centres face.
+//! The cube as it is kept: which corner is at each corner's place and how it is twisted, which edge
+//! is at each edge's place and whether it is flipped, and how the centres face.
 
 ghost use Rattle.std.specs.Prelude.{◌≡◌};
 ghost use Rattle.cube.specs.model.Pieces.{corner_piece_colours, edge_piece_colours, corner_colours};

@@ -1,4 +1,4 @@
--- What an exit status says of a key that was to be made.
+-- What an exit status says of a key that was to be made (the project's own).
 use Rattle.std.specs.Prelude.{◌≡◌, ◌⊎◌, ℕ, List, Option, None, Some}
 use Rattle.std.specs.Io.KnownBytes.{Keeps}
 use Rattle.errands.specs.Statuses.{status_of}

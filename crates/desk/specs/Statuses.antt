@@ -1,4 +1,4 @@
--- What an exit status says of the run.
+-- What an exit status says of the run (the project's own).
 use Rattle.std.specs.Prelude.{◌≡◌, ◌⊎◌, ℕ, Bool, true, false, List, Option, None, map}
 use Rattle.std.specs.Prelude.{option_map}
 use Rattle.std.specs.Borrow.{Bor}
@@ -120,7 +120,7 @@ EndsHallFile false status hall texts old new =
     ((status ≡ 0) × PrintsHall hall texts old new)
     ⊎ ((f : DeskFault) × (status ≡ status_of f) × FailsToPrint f hall texts old new)
 
--- what became of connections to desks before a run and afterwards, where that is told
+-- what became of connections to desks before a run and afterwards, where that is known
 pub record Calls : Type 0 where
   pub old : Option (List Dialed)
   pub new : Option (List Dialed)

@@ -43,7 +43,7 @@ fn fault_of_log(fault: LogFault) -> DeskFault
     }
 }
 
-/// In which form the desks of a hall are told of.
+/// In which form the desks of a hall are reported.
 fn form_of(json: bool) -> Form
     ensures { result ≡ form_of json }
 {
@@ -189,7 +189,7 @@ fn run_task<D: Dial, R: Read, W: Write, F: Write>(
 /// returns the exit status.
 ///
 /// The status is 0 where it was done; 1 where a part of a hall's desks lags or does not answer,
-/// something is told of a file that is exported, or a command that was waited for was refused; 2
+/// something is said of a file that is exported, or a command that was waited for was refused; 2
 /// where the parser refused the arguments, with its text on `faults`, or where they ask for help or
 /// the version, with its text on `writer`; 3 for a named refusal, and where no majority of a hall's
 /// desks answers; 4 for a device that failed, 5 for `no memory`. The texts of the last three are

@@ -69,8 +69,8 @@ fn path_of(file: &Option<String>) -> Option<&str>
 }
 
 /// Whether the desk that is wanted may serve: where its store is to be made, and no file is there,
-/// the desks of the hall are asked first, and it may not where one has a command, or was told of
-/// one by this desk, or where none answers in a hall that is not new. Where the hall's key can't be
+/// the desks of the hall are asked first, and it may not where one has a command, or heard of one
+/// by this desk, or where none answers in a hall that is not new. Where the hall's key can't be
 /// read none is asked: the desk will not serve.
 fn may_serve<D: Dial, F: Write>(
     rt: &HostRuntime,

@@ -71,7 +71,7 @@ is_log n log of_use long signed whole = (of_use, taken, whole)
 
 -- ---- the four bytes of a number
 
--- the file has these four, where its number stands
+-- the file has these four, where its number is
 pub record Field (db : List ℕ) (w x y z : ℕ) : Type 0 where
   pub within : 64 ≤ length db
   pub first : slice_index db 60 ≡ w
@@ -257,7 +257,7 @@ both_unmarked (inr f) none = is_unmarked f none
 pub first_of : (n : ℕ) → 0x100_0000 ≤ n → n / 0x100_0000 ≢ 0
 first_of n big zero = absurd (omega arith)
 
--- what a cut of the power leaves while the first byte is written, once the others stand
+-- what a cut of the power leaves while the first byte is written, once the others are
 pub cut_last : {c : List ℕ} {v w x y z : ℕ} (n : ℕ) → 0x100_0000 ≤ n → ¬ (v ≢ 0)
     → Field c v x y z ⊎ Field c w x y z → w ≡ n / 0x100_0000
     → x ≡ n / 0x1_0000 % 0x100 → y ≡ n / 0x100 % 0x100 → z ≡ n % 0x100
@@ -269,7 +269,7 @@ cut_last n big none (inr f) is_w is_x is_y is_z =
       is_named n f is_w is_x is_y is_z,
     )
 
--- what stands once all four are written
+-- what is once all four are written
 pub marked_ok : {E : Type 0} (o : Result (Unit {0}) E) {p q r t : List ℕ} {a b d f : ℕ} (n : ℕ)
     → 0x100_0000 ≤ n → f ≡ n / 0x100_0000
     → Holds p 61 (a ∷ []) → Torn 62 1 p q → Holds q 62 (b ∷ []) → Torn 63 1 q r

@@ -1,4 +1,4 @@
--- What a desk's files held, and the store that is opened on them.
+-- What a desk's files held, and the store that is opened on them (the project's own).
 use Rattle.std.specs.Prelude.{◌≡◌, ◌≢◌, ◌⊎◌, List, []}
 use Rattle.sqlite.specs.Effect.{IsDatabase}
 use Rattle.sqlite.specs.Files.{AreFoundIn, HoldsDatabase}
@@ -29,7 +29,7 @@ pub record IsFirst (trees : Trees) (s : Stored) (log : List Entry) : Type 0 wher
   pub state : s ≡ first_stored
   pub empty : log ≡ []
 
--- A database file and its write-ahead log held this state of a desk: it stands in the database that
+-- A database file and its write-ahead log held this state of a desk: it is in the database that
 -- SQLite recovers from the two, or that database has no table yet.
 pub record HeldBy (files : Image) (home : Home) (s : Stored) (log : List Entry) : Type 0 where
   pub trees : Trees
@@ -75,7 +75,7 @@ abbrev pub TellsTable : {C : Type 0} → (C → State) → Image → Type 0
 TellsTable {C} state files =
     (dropped : C) × (HasCleanDisk (state dropped) → HeldAs files HasTable)
 
--- they stand in the tables of this desk
+-- they are in the tables of this desk
 abbrev pub StandsIn : Home → Stored → List Entry → Trees → Type 0
 StandsIn home s log trees = Holds home trees s log
 
@@ -91,8 +91,8 @@ KeepsThere k files home keeper = KeepsAs k files home (StandsIn home) keeper
 abbrev pub KeepsFirst : {K : Type 0} → Ghosts K → Image → Home → K → Type 0
 KeepsFirst k files home keeper = KeepsAs k files home IsMadeIn keeper
 
--- A database file and its write-ahead log held the row of another desk: it stands in the database
--- that SQLite recovers from the two.
+-- A database file and its write-ahead log held the row of another desk: it is in the database that
+-- SQLite recovers from the two.
 pub record HeldOther (files : Image) (home : Home) : Type 0 where
   pub trees : Trees
   pub found : AreFoundIn files trees

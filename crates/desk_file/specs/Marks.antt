@@ -1,4 +1,4 @@
--- The mark of a desk's file that is in use, and the log that belongs to it.
+-- The mark of a desk's file that is in use, and the log that belongs to it (the project's own).
 use Rattle.std.specs.Prelude.{◌≡◌, ◌≢◌, ◌⊎◌, ℕ, ◌+◌, ◌%◌, ◌^◌, ◌<◌, ◌≤◌, IsTrue, List}
 use Rattle.std.specs.Prelude.{length, slice_index}
 use Rattle.sqlite_disk.specs.Disk.{Only, Torn}
@@ -44,7 +44,7 @@ IsLog n log =
     IsOfUse n log × (¬ IsIgnored log) × (IsShut log ⊎ (be32 log 8 + 56 ≤ length log))
 
 -- The log of this use, emptied once all that it had was copied into the file: it is about to get a
--- new header, or nothing stands behind its header.
+-- new header, or nothing is behind its header.
 abbrev pub IsEmptied : ℕ → List ℕ → Type 0
 IsEmptied n log =
     IsOfUse n log
@@ -62,7 +62,7 @@ abbrev pub IsStrange : (log db : List ℕ) → Type 0
 IsStrange log db =
     (64 ≤ length db) × (slice_index db 60 ≡ 0) × (number_of db ≢ 0) × HasFrame log
 
--- how the log beside a file stands that is in use under this number
+-- how the log beside a file is that is in use under this number
 abbrev pub StandsBeside : Standing → ℕ → List ℕ → Type 0
 StandsBeside standing.Free n log = ⊥
 StandsBeside standing.StrangeLog n log = ⊥
@@ -70,7 +70,7 @@ StandsBeside standing.InUse n log = IsLog n log
 StandsBeside standing.Emptied n log = IsEmptied n log
 StandsBeside standing.LogLost n log = (¬ IsLog n log) × (¬ IsEmptied n log)
 
--- How a desk's two files stand: each two files in one of these ways, and in no other.
+-- How a desk's two files are: each two files in one of these ways, and in no other.
 abbrev pub Stands : Standing → (log db : List ℕ) → Type 0
 Stands standing.Free log db = (¬ IsMarked db) × (¬ IsStrange log db)
 Stands standing.StrangeLog log db = IsStrange log db
@@ -101,7 +101,7 @@ IsBegun n log db = (¬ IsMarked db) ⊎ (IsMarked db × (number_of db ≡ n) × 
 abbrev pub Mixes : {D : Type 0} → Ghosts D → Type 0
 Mixes {D} g = (disk : D) → IsTrue (g.is_mixing disk)
 
--- a file and its log that are put into their next use, so many of which were begun with this one
+-- a file and its log that are put into their next use, this many of which were begun with this one
 pub record IsNextUse {D : Type 0} (g : Ghosts D) (old new : Files D) (uses : ℕ) : Type 0 where
   pub begun : Stands standing.InUse (g.seen new.log) (g.seen new.db)
   pub log_synced : Only (g.seen new.log) (g.may_leave new.log)
@@ -119,7 +119,7 @@ IsBetween g old log db =
     × g.may_leave old.log log)
     ⊎ ((¬ IsMarked db) ⊎ (IsMarked db × IsLog (number_of db) log))
 
--- whatever a crash leaves of the file has its field, and counts at least so many uses
+-- whatever a crash leaves of the file has its field, and counts at least this many uses
 abbrev pub HasCounted : {D : Type 0} → Ghosts D → ℕ → D → Type 0
 HasCounted g uses db =
     (c : List ℕ) → g.may_leave db c → (64 ≤ length c) × (uses ≤ uses_of c)

@@ -1,4 +1,4 @@
--- The store of a desk, closed with everything in its file.
+-- The store of a desk, closed with everything in its file (the project's own).
 use Rattle.std.specs.Prelude.{ℕ, List}
 use Rattle.sqlite.specs.Closing.{HoldsAlone}
 use Rattle.sqlite.specs.Files.{image_of}
@@ -16,7 +16,7 @@ use Rattle.store.specs.declared.keeper.Keeper as keeper
 use Rattle.desk_file.specs.Files.{KeepsFirst}
 use Rattle.desk_file.specs.Marks.{IsMarked, IsNextUse}
 
--- What the keeper kept stands in the database that the file has alone, with no log beside it.
+-- What the keeper kept is in the database that the file has alone, with no log beside it.
 abbrev pub HasAllOf : {D K : Type 0} → disk.Ghosts D → keeper.Ghosts K → K → Files D → Type 0
 HasAllOf g k kept files =
     AreClean g files.log files.db → (s : Stored) (log : List Entry) → k.keeps kept s log

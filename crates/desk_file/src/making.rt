@@ -17,7 +17,7 @@ use store::home::Home;
 use store::keeper::Keeper;
 use store::sql::SqlKeeper;
 
-/// The path of what stands beside a file under its name with an ending.
+/// The path of what is beside a file under its name with an ending.
 fn beside(rt: &HostRuntime, path: &str, ending: &str) -> Result<String, OpenFault> {
     match format!(in rt.alloc(); "{path}{ending}") {
         Ok(text) => Ok(text),
@@ -53,7 +53,7 @@ fn place_of(rt: &HostRuntime, path: &str) -> io::Result<PathBuf> {
     }
 }
 
-/// Renames a file, and syncs the folder that both names stand in.
+/// Renames a file, and syncs the folder that both names are in.
 fn rename_synced(rt: &HostRuntime, from: &str, to: &str) -> io::Result<()> {
     fs::rename(rt, from, to)?;
     let mut folder = fs::canonicalize(rt, to)?;

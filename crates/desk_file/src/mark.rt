@@ -23,7 +23,7 @@ const USE: usize = 60;
 /// Where the field ends.
 const USE_END: usize = 64;
 
-/// How a desk's two files stand.
+/// How a desk's two files are.
 #[derive(Clone, Copy, Debug, PartialEq, Eq)]
 pub enum Standing {
     /// The file is not in use and has everything, or it never was in use, or is no database.
@@ -39,7 +39,7 @@ pub enum Standing {
     StrangeLog,
 }
 
-/// The bytes at the front of a log that is so long, where it has so many.
+/// The bytes at the front of a log that is this long, where it has this many.
 fn front_of<D: Disk>(log: &mut D, len: usize) -> io::Result<[u8; 41]>
     requires { IsTrue (D.Disk.is_usable log.old) }
     ensures bytes { IfOk result (λ it. IsClean D.Disk log.new
@@ -54,7 +54,7 @@ fn front_of<D: Disk>(log: &mut D, len: usize) -> io::Result<[u8; 41]>
     Ok(front)
 }
 
-/// Whether the log that begins with these bytes and is so long has a frame that counts.
+/// Whether the log that begins with these bytes and is this long has a frame that counts.
 fn has_frame(front: &[u8; 41], len: usize) -> bool
     ensures { (log : List ℕ) → length log ≡ len → (41 ≤ len → Holds log 0 front.now)
         → IsTrue result ↔ HasFrame log }
@@ -75,7 +75,7 @@ fn has_frame(front: &[u8; 41], len: usize) -> bool
     is_signed(&header_of(front))
 }
 
-/// How the log that begins with these bytes and is so long stands beside a file in use.
+/// How the log that begins with these bytes and is this long is beside a file in use.
 fn standing_of(front: &[u8; 41], len: usize, number: u32) -> Standing
     ensures { (log : List ℕ) → length log ≡ len → (41 ≤ len → Holds log 0 front.now)
         → StandsBeside result number log }
@@ -109,7 +109,7 @@ fn standing_of(front: &[u8; 41], len: usize, number: u32) -> Standing
     }
 }
 
-/// How a desk's two files stand, as far as the disk gave back what they hold. Nothing is written.
+/// How a desk's two files are, as far as the disk gave back what they hold. Nothing is written.
 ///
 /// # Errors
 ///

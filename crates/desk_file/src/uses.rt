@@ -63,8 +63,8 @@ pub fn check_use<S: Start>(rt: &HostRuntime, path: &str, start: S) -> Result<(),
     }
 }
 
-/// The number of a use that comes after so many others. Its first byte is drawn, so that two copies
-/// of a file, each of which is put into use, are told apart.
+/// The number of a use that comes after this many others. Its first byte is drawn, so that two
+/// copies of a file, each of which is put into use, have different numbers.
 fn number_after(uses: u32, drawn: u64) -> u32
     requires { uses + 1 < 2 ^ 24 }
     ensures in_use { 0x100_0000 ≤ result }
@@ -142,8 +142,8 @@ pub fn put_in_use<S: Start>(
     }
 }
 
-/// Closes the store of a desk that has served: what stands in the file's log is copied into the
-/// file itself, and then the file is taken out of use.
+/// Closes the store of a desk that has served: what is in the file's log is copied into the file
+/// itself, and then the file is taken out of use.
 ///
 /// # Errors
 ///

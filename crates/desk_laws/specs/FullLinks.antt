@@ -10,7 +10,7 @@ use Rattle.links.specs.declared.stages.Wish.TheVariants as wish
 abbrev pub counted : ℕ → ℕ → List (List ℕ)
 counted from count = map (λ i. i ∷ 7 ∷ []) (range_with_len from count)
 
--- as many as may wait, with so many bytes of the first sent on a connection
+-- as many as may wait, with this many bytes of the first sent on a connection
 abbrev pub full : ℕ → LinkState
 full begun =
     record { waiting = counted 0 256; begun = begun; stage = Open 0 0; pause = 100; down = None }
@@ -22,5 +22,5 @@ pub record WorksFullLinks : Type 0 where
   -- a byte of it was sent: it stays, and the second goes
   pub second : (frame : List ℕ) (new : LinkState) → Pushes DroppedOldest frame (full 1) new
       → new.waiting ≡ (0 ∷ 7 ∷ []) ∷ (counted 2 254 ++ frame ∷ [])
-  -- whoever has something to send wants to write it, at every moment
+  -- a link that has something to send wants to write it, at every moment
   pub writes : (s : LinkState) (now : ℕ) → pending s ≢ [] → wish_of s now ≡ wish.Write

@@ -1,4 +1,4 @@
--- At a desk with a key: what needs one, and under which it came.
+-- At a desk with a key: what needs one, and under which it came (the project's own).
 use Rattle.std.specs.Prelude.{◌≡◌, ℕ, Bool, true, false, List, ◌∷◌, ◌++◌, length, Some, IsTrue}
 use Rattle.std.specs.List.{flat_map}
 use Rattle.connections.specs.Connections.{Served, begun_of}
@@ -56,7 +56,7 @@ needs_halls Denied = false
 needs_halls Withheld = false
 
 -- What came is a client's preface, records whose tags fit under this key of the desk, numbered from
--- 0, and a rest; and in the bodies of these records stands this frame, after those before it.
+-- 0, and a rest; and in the bodies of these records is this frame, after those before it.
 pub record IsUnderKey (locks : Locks) (who : Holder) (server came : List ℕ) (earlier : List Begun)
     (one : Begun) : Type 0 where
   pub key : List ℕ

@@ -1,5 +1,5 @@
 -- The way of a message: pushed at a link of a desk, over one of the link's connections under the
--- hall's key, and read at the desk that it is for.
+-- hall's key, and read at the desk that it is for (the project's own).
 use Rattle.std.specs.Prelude.{◌≡◌, ◌⊎◌, ℕ, false, List, [], ◌∷◌, ◌++◌, Some, IsTrue, map}
 use Rattle.std.specs.List.{AllByRecursion}
 use Rattle.connections.specs.Connections.{Served, begun_of}

@@ -13,8 +13,8 @@ use store::keeper::Keeper;
 /// and every entry was submitted before, by a frame that came to a desk of the hall, which took it:
 /// a law.
 ///
-/// What such a desk does is told by its frames and its own Ticks, and `servings` says that a
-/// serving is nothing else. Two premises stand in `IsLoopRun`, each at its event: a message that a
+/// What such a desk does is known from its frames and its own Ticks, and `servings` says that a
+/// serving is nothing else. Two premises are in `IsLoopRun`, each at its event: a message that a
 /// frame brings was handed out before, by a call of a desk of the hall; and a store that is opened
 /// again gives back what was written to it.
 pub fn loops_are_runs<K: Keeper>()

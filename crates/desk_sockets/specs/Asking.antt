@@ -1,4 +1,4 @@
--- That a dialogue is asked what is to be done.
+-- That a dialogue is asked what is to be done (the project's own).
 use Rattle.std.specs.Prelude.{ℕ}
 use Rattle.desk_talks.specs.Dialogues.{Act, Call, Reaches}
 use Rattle.desk_talks.specs.declared.dialogue.Wish.{Wish}

@@ -1,4 +1,4 @@
--- What becomes of a connection when it is read or written.
+-- What becomes of a connection when it is read or written (the project's own).
 use Rattle.std.specs.Prelude.{◌≡◌, ℕ, List, Bool, true, false, Option, None, Some, is_some}
 use Rattle.sealed.specs.ends.Calls.{CallOf, own_key}
 use Rattle.desk_talks.specs.declared.dialogue.Came.{Came}

@@ -1,4 +1,4 @@
--- What a contract sees of a connection to a desk.
+-- What a contract sees of a connection to a desk (the project's own).
 use Rattle.std.specs.Prelude.{ℕ, List, Option, None}
 use Rattle.sealed.specs.declared.ends.trouble.CallTrouble.{CallTrouble}
 use Rattle.desk_sockets.specs.Troubles.{confirmed}

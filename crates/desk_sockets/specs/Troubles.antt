@@ -1,9 +1,9 @@
--- What can be wrong with the keys of the two sides of a connection.
+-- What can be wrong with the keys of the two sides of a connection (the project's own).
 use Rattle.std.specs.Prelude.{Bool, true, not, Option, None, Some}
 use Rattle.sealed.specs.declared.ends.trouble.CallTrouble.{CallTrouble}
 use Rattle.sealed.specs.declared.ends.trouble.CallTrouble.TheVariants.{NoKey, OtherKey, HasKey}
 
--- whoever has a key can be told that a desk has none, or another one; whoever has none, that a desk
+-- it can be said to a holder of a key that a desk has none, or another one; to others, that a desk
 -- has one
 abbrev pub fits : Bool → Option CallTrouble → Bool
 fits keyed None = true

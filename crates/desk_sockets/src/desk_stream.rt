@@ -31,14 +31,14 @@ pub enum Kept {
     Same,
     /// What it holds has changed, or may have.
     Changed,
-    /// Two desks of the hall told different entries for one position. Nothing more is asked.
+    /// Two desks of the hall reported different entries for one position. Nothing more is asked.
     Broken,
 }
 
 /// The connection of a dialogue to a desk of a hall, if there is one. Where the hall has a key, all
 /// that goes over it is sealed under that key.
 ///
-/// A contract sees the key, what is wrong with it, and what the last connection that ended told of
+/// A contract sees the key, what is wrong with it, and what the last connection that ended said of
 /// that.
 #[derive(Drop)]
 pub struct DeskStream<'a, R> {
@@ -51,11 +51,11 @@ pub struct DeskStream<'a, R> {
     key: Option<[u8; 32]>,
     connection: Option<Connection>,
     trouble: Option<CallTrouble>,
-    /// What the end of the last connection told, of which a second one is to tell the same.
+    /// What the end of the last connection said, of which a second one has to say the same.
     suspected: Option<CallTrouble>,
 }
 
-/// What is wrong with the keys once a connection ended: what it told, where the one before it told
+/// What is wrong with the keys once a connection ended: what it said, where the one before it said
 /// the same, and else what is known. A desk that dies ends its connections as one without a key
 /// does.
 fn confirmed(
@@ -91,9 +91,9 @@ impl<'a, R> Model for DeskStream<'a, R> {
 }
 
 impl<'a, R: Net + RandomSource> DeskStream<'a, R> {
-    /// No connection yet. Its socket is told of under a token by the poll of this registry. The
-    /// addresses are those of desk 1, of desk 2 and so on. The key is that of the hall, or its
-    /// entry key; None where the hall has no key.
+    /// No connection yet. The poll of this registry names its socket by a token. The addresses are
+    /// those of desk 1, of desk 2 and so on. The key is that of the hall, or its entry key; None
+    /// where the hall has no key.
     pub fn new(
         source: &'a R,
         alloc: Global,
@@ -117,7 +117,7 @@ impl<'a, R: Net + RandomSource> DeskStream<'a, R> {
         }
     }
 
-    /// What is wrong with the keys, as two connections in a row told. None once a desk answered.
+    /// What is wrong with the keys, as two connections in a row said. None once a desk answered.
     /// With a key it is that the desk has none, or another one; without a key, that the desk has
     /// one.
     pub fn trouble(&self) -> Option<CallTrouble>
@@ -305,7 +305,7 @@ impl<'a, R: Net + RandomSource> DeskStream<'a, R> {
         true
     }
 
-    /// Does all for a dialogue that can be done now, at so many milliseconds of a clock that
+    /// Does all for a dialogue that can be done now, at this many milliseconds of a clock that
     /// doesn't go back, without waiting. It is to be called again once the socket is ready, or the
     /// time is over that the dialogue's `wait` says. A desk that has another key, or none, or has a
     /// key where there is none here, counts as lost.

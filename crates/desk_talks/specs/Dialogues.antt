@@ -1,4 +1,4 @@
--- What comes of bytes that a desk sent, and what calls of a dialogue lead to.
+-- What comes of bytes that a desk sent, and what calls of a dialogue lead to (the project's own).
 use Rattle.std.specs.Prelude.{ℕ, ◌≡◌, List, [], ◌∷◌, Bool, false}
 use Rattle.desk_talks.specs.declared.dialogue.Came.{Came}
 use Rattle.desk_talks.specs.declared.dialogue.Came.TheVariants as came

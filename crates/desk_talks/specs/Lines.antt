@@ -1,4 +1,4 @@
--- A connection to one desk that is kept up. Times are milliseconds.
+-- A connection to one desk that is kept up (the project's own). Times are milliseconds.
 use Rattle.std.specs.Prelude.{ℕ, ◌≡◌, ◌+◌, ◌-◌, List, [], Option, None, Some, Bool, true, false}
 use Rattle.std.specs.Prelude.{nat_le, if◌then◌else◌, option_map}
 use Rattle.wire.specs.declared.frame.Frame.{Frame}
@@ -32,11 +32,11 @@ is_used_up asked = nat_le 64 asked
 
 -- ---- time
 
--- so many milliseconds have gone since then
+-- this many milliseconds have gone since then
 abbrev pub is_over : ℕ → ℕ → ℕ → Bool
 is_over now since millis = nat_le millis (now - since)
 
--- what is left of so many milliseconds from then on
+-- what is left of this many milliseconds from then on
 abbrev pub left_of : ℕ → ℕ → ℕ → ℕ
 left_of now since millis = millis - (now - since)
 

@@ -1,4 +1,4 @@
--- What is said over one connection to a desk.
+-- What is said over one connection to a desk (the project's own).
 use Rattle.std.specs.Prelude.{ℕ, ◌≡◌, ◌⊎◌, List, [], ◌∷◌, drop, Option, None, Some, Result, Ok, Err}
 use Rattle.client.specs.Answers.{judged}
 use Rattle.client.specs.declared.fault.ClientFault.{ClientFault}
@@ -25,7 +25,7 @@ talk reader question unsent = record { reader = reader; question = question; uns
 abbrev pub asking : TalkOf → Frame → TalkOf
 asking t question = talk t.reader (Some question) (spelling question)
 
--- so many bytes more were written
+-- this many bytes more were written
 abbrev pub sending : TalkOf → ℕ → TalkOf
 sending t count = talk t.reader t.question (drop count t.unsent)
 

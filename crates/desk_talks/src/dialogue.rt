@@ -15,7 +15,7 @@ pub enum Wish {
     /// Close the connection, or give up opening it. No call is to be made.
     Close,
     /// Close the connection, if there is one, and say loudly that the hall is broken: two of its
-    /// desks told different entries for one position.
+    /// desks reported different entries for one position.
     Stop,
 }
 
@@ -30,7 +30,7 @@ pub enum Came {
     NoAnswer,
 }
 
-/// Whoever talks with the desks of a hall over one connection at a time. Its caller asks it again
+/// Code that talks with the desks of a hall over one connection at a time. Its caller asks it again
 /// and again what is to be done (`act`), does it over a connection, and says what came of it.
 ///
 /// What it holds is what it has of the desks' answers. What becomes of the connection changes
@@ -45,7 +45,7 @@ pub trait Dialogue {
     /// What a call may lead to.
     ghost leads: { Call → Self → Self → Type 0 };
 
-    /// What is to be done now, at so many milliseconds of a clock that doesn't go back. It counts
+    /// What is to be done now, at this many milliseconds of a clock that doesn't go back. It counts
     /// as begun.
     fn act(&mut self, now: u64) -> Wish
         ensures held { held self.new ≡ held self.old }
@@ -68,7 +68,7 @@ pub trait Dialogue {
     /// What is to be written now.
     fn output(&self) -> &[u8];
 
-    /// Says that so many bytes of the output were written.
+    /// Says that this many bytes of the output were written.
     fn sent(&mut self, count: usize)
         ensures held { held self.new ≡ held self.old }
         ensures leads { leads (Sent count) self.old self.new };

@@ -80,14 +80,14 @@ impl Model for Line {
     ghost view = { λ l. line l.pace l.stage l.talk l.asked };
 }
 
-/// Whether so many milliseconds have gone since then.
+/// Whether this many milliseconds have gone since then.
 fn is_over(now: u64, since: u64, millis: u64) -> bool
     ensures { result ≡ is_over now since millis }
 {
     now.saturating_sub(since) >= millis
 }
 
-/// What is left of so many milliseconds from then on.
+/// What is left of this many milliseconds from then on.
 fn left_of(now: u64, since: u64, millis: u64) -> u64
     ensures left { result ≡ left_of now since millis }
     ensures most { result ≤ millis }
@@ -116,7 +116,7 @@ fn pace_left(last: Option<u64>, pace: u64, now: u64) -> u64
     }
 }
 
-/// Whether so many questions are all that a desk answers over one connection.
+/// Whether this many questions are all that a desk answers over one connection.
 fn is_used_up(asked: u32) -> bool
     ensures { result ≡ is_used_up asked }
 {
@@ -311,7 +311,7 @@ impl Line {
         }
     }
 
-    /// Says that so many bytes of the output were written.
+    /// Says that this many bytes of the output were written.
     pub fn sent(&mut self, count: usize)
         ensures { self.new ≡ sent_by self.old count }
     {

@@ -105,7 +105,7 @@ impl Talk {
         }
     }
 
-    /// So many bytes of the output were written.
+    /// This many bytes of the output were written.
     pub fn sent(&mut self, count: usize)
         ensures { self.new ≡ sending self.old count }
     {

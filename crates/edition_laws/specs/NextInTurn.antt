@@ -1,4 +1,5 @@
--- Who takes the place of one who withdraws, said of all commands since the round was opened.
+-- Who takes the place of one who withdraws, said of all commands since the round was opened (the
+-- project's own).
 use Rattle.std.specs.Prelude.{◌≡◌, ℕ, true, List, [], ◌∷◌, ◌++◌, nat_eq, option_to_list}
 use Rattle.std.specs.List.{IsDistinct}
 use Rattle.formats.specs.declared.events.Event.{Event}

@@ -1,4 +1,4 @@
--- What opening a round again leaves of a sheet.
+-- What opening a round again leaves of a sheet (the project's own).
 use Rattle.std.specs.Prelude.{◌≡◌, ℕ, List, [], ◌∷◌, ◌++◌, None}
 use Rattle.formats.specs.declared.events.Event.{Event}
 use Rattle.texts.specs.declared.command.Command.{Command}

@@ -145,7 +145,7 @@ mending_day =
     ∷ refused code.Closed (codes "WDR 333 1 2")
     ∷ done (codes "REOPEN 333 1") ∷ done (codes "CLOSE 333 1") ∷ []
 
--- another scramble, of edition 3: only where no solution stands
+-- another scramble, of edition 3: only where no solution counts
 abbrev pub scramble_day : List Row
 scramble_day =
     refused code.RoundUnknown (codes "RSC 333fm 1 1 R") ∷ done (codes "REG 1 Ann Li")
@@ -182,7 +182,7 @@ in_second day = done (codes "EDITION 2") ∷ day
 abbrev pub in_third : List Row → List Row
 in_third day = done (codes "EDITION 3") ∷ day
 
--- a round with so many entrants, none of whom has an attempt
+-- a round with this many entrants, none of whom has an attempt
 abbrev pub one_of : ℕ → Entrant
 one_of n = record { number = n; values = [] }
 

@@ -62,11 +62,11 @@ pub record MendsWorkedDays : Type 0 where
   pub taken_in_leaves : those_in 2 (day ++ leave 1 ∷ leave 4 ∷ []) ≡ 2 ∷ 3 ∷ []
   -- nobody waits any more
   pub nobody_waits : those_in 2 (day ++ leave 1 ∷ leave 2 ∷ leave 4 ∷ []) ≡ 3 ∷ []
-  -- from a first round whoever withdraws leaves no place
+  -- one who withdraws from a first round leaves no place
   pub first_round : those_in 1 (begun ++ Withdraw (round_id Cube3 1) 2 ∷ [])
       ≡ 1 ∷ 4 ∷ 3 ∷ 5 ∷ 6 ∷ 7 ∷ 8 ∷ []
   pub left_once : refusal (day ++ leave 1 ∷ []) (leave 1) ≡ Some code.NotEntered
-  -- who advanced stands, once the second round is open
+  -- who advanced stays, once the second round is open
   pub no_correction : refusal (day ++ leave 1 ∷ [])
       (Correct (attempt_entry (round_id Cube3 1) 1 3 (entered.Time 900 0)))
       ≡ Some code.Closed

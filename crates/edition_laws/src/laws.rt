@@ -14,8 +14,8 @@ pub fn sheets_as_before()
     ensures { PrintsAsBefore }
 {}
 
-/// A law: whoever takes the place of one who withdraws is the first of those who wait whom no
-/// withdrawal before has taken in.
+/// A law: the place of one who withdraws goes to the first of those who wait whom no withdrawal
+/// before has taken in.
 pub fn takes_who_is_next()
     ensures { TakesWhoIsNext }
 {}

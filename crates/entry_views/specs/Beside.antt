@@ -1,4 +1,4 @@
--- The round beside the card: its cells are the fields of the sheet's table.
+-- The round beside the card: its cells are the fields of the sheet's table (the project's own).
 use Rattle.std.specs.Prelude.{◌≡◌, ℕ, List, [], ◌∷◌, ◌++◌, codes, decimal, flat_map, get_or, drop}
 use Rattle.std.specs.Prelude.{Option, None, Some}
 use Rattle.markup.specs.board_page.Escaped.{escaped}
@@ -40,12 +40,12 @@ abbrev pub progress_at : Format → Table → Option ℕ → Progress
 progress_at format t None = Absent
 progress_at format t (Some number) = progress_in format t number
 
--- what stands of the entrant of a number
+-- what counts of the entrant of a number
 abbrev pub values_at : Table → Option ℕ → List Value
 values_at t None = []
 values_at t (Some number) = values_of t number
 
--- the line says what stands, as `CARD` spells it
+-- the line says what counts, as `CARD` spells it
 abbrev pub line_start : Progress → List Value → List ℕ
 line_start progress values =
     codes "<tr class=\"" ++ class_of progress ++ codes "\" data-was=\"" ++ was_text values

@@ -1,4 +1,4 @@
--- Below which a time is asked about.
+-- Below which a time is asked about (the project's own).
 use Rattle.std.specs.Prelude.{ℕ, List, Option, filter_map}
 use Rattle.attempts.specs.declared.Value.{Value}
 use Rattle.formats.specs.declared.events.Event.{Event}
@@ -38,6 +38,6 @@ single_of values = number_of (best_of values)
 abbrev pub single_in : Table → ℕ → Option ℕ
 single_in t number = single_of (values_of t number)
 
--- the best single that stands in a round, of all who are in it
+-- the best single that counts in a round, of all who are in it
 abbrev pub best_in : Table → Option ℕ
 best_in t = least (filter_map (single_in t) (standings t))

@@ -1,4 +1,4 @@
--- The form of a card.
+-- The form of a card (the project's own).
 use Rattle.std.specs.Prelude.{ℕ, Bool, true, false, if◌then◌else◌, List, [], ◌∷◌, ◌++◌, codes}
 use Rattle.std.specs.Prelude.{decimal, flat_map, Option, unwrap_or}
 use Rattle.std.specs.List.{list_any}
@@ -53,7 +53,7 @@ unfoldable pub round_value : RoundId → List ℕ
 round_value id =
     codes "<input type=\"hidden\" name=\"round\" value=\"" ++ round_name id ++ codes "\">\n"
 
--- what the page shows that stands, as `CARD` spells it, unseen
+-- what the page shows that counts, as `CARD` spells it, unseen
 abbrev pub was_value : List Value → List ℕ
 was_value values =
     codes "<input type=\"hidden\" name=\"was\" value=\"" ++ was_text values ++ codes "\">\n"
@@ -65,7 +65,7 @@ form_tag spares round settings best =
     ++ spares ++ codes "\">\n"
 
 -- the form carries its token and its id, spare ids for the script, the round, and what its page
--- shows that stands
+-- shows that counts
 abbrev pub form_start : List ℕ → ℕ → List ℕ → RoundId → Settings → Option ℕ → List Value → List ℕ
 form_start token id spares round settings best values =
     form_tag spares round settings best ++ hidden token id ++ round_value round ++ was_value values

@@ -1,4 +1,4 @@
--- The fields of a card's form.
+-- The fields of a card's form (the project's own).
 use Rattle.std.specs.Prelude.{ℕ, ◌-◌, List, [], ◌∷◌, ◌++◌, codes, decimal, flat_map, slice_get}
 use Rattle.std.specs.Prelude.{Bool, true, false, Option, None, Some, option_map, unwrap_or}
 use Rattle.std.specs.Prelude.{if◌then◌else◌, length, nat_lt}
@@ -32,7 +32,7 @@ competitor_of Empty = None
 competitor_of (Number number) = Some number
 competitor_of (Typed form notes) = number_in form.now.number
 
--- the values that stand of a competitor, if there is one and it is in the round
+-- the values that count of a competitor, if there is one and it is in the round
 abbrev pub standing_of : Table → Draft → List Value
 standing_of t draft = unwrap_or (option_map (values_of t) (competitor_of draft)) []
 
@@ -47,7 +47,7 @@ number_text (Number number) = decimal number
 number_text (Typed form notes) = escaped form.now.number
 
 -- the text of the field at a place, counted from 0: what was entered for its attempt, where that
--- stands and is known
+-- counts and is known
 abbrev pub own_text : List Value → List (List ℕ) → ℕ → List ℕ
 own_text values filled place = if nat_lt place (length values) then text_at filled place else []
 
@@ -119,13 +119,13 @@ field_start attempt = joined (
 unfoldable pub stands_start : List ℕ
 stands_start = codes "<output></output><span class=\"stands\">"
 
--- what stands beside a field, and what is said of it
+-- what is beside a field, and what is said of it
 unfoldable pub beside_field : Draft → Measure → List Value → ℕ → List ℕ
 beside_field draft unit values attempt =
     stands_start ++ shown_at unit values (attempt - 1) ++ codes "</span>"
     ++ said_at attempt (notes_of draft) ++ codes "</p>\n"
 
--- the field of an attempt, with what stands beside it and what is said of it
+-- the field of an attempt, with what is beside it and what is said of it
 unfoldable pub field : Draft → Measure → List Value → List (List ℕ) → ℕ → List ℕ
 field draft unit values texts attempt =
     field_start attempt ++ filled draft unit values texts (attempt - 1)

@@ -1,4 +1,4 @@
--- The page of the history of one result: the rows of the log that changed it.
+-- The page of the history of one result: the rows of the log that changed it (the project's own).
 use Rattle.std.specs.Prelude.{ℕ, List, [], ◌∷◌, ◌++◌, codes, decimal}
 use Rattle.acceptor.specs.declared.entry.Entry.{Entry}
 use Rattle.log_rows.specs.Rows.{rows}

@@ -1,4 +1,5 @@
--- Links to the history of a result, and to the page that withdraws a competitor.
+-- Links to the history of a result, and to the page that withdraws a competitor (the project's
+-- own).
 use Rattle.std.specs.Prelude.{ℕ, if◌then◌else◌, List, [], ◌∷◌, ◌++◌, codes, decimal}
 use Rattle.std.specs.Prelude.{Option, None, Some}
 use Rattle.formats.specs.Events.{event_name}
@@ -30,6 +31,6 @@ leaving_of id t None = []
 leaving_of id t (Some number) = history_words id number ++ leaving_if t number
 
 -- of the competitor whose card it is: the history of the result; and who can withdraw from a round
--- that is open, while no attempt stands, has a link for it
+-- that is open, while no attempt counts, has a link for it
 abbrev pub leaving_line : RoundId → Table → Draft → List ℕ
 leaving_line id t draft = leaving_of id t (competitor_of draft)

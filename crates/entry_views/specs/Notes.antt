@@ -1,4 +1,4 @@
--- What is said of the fields of a card.
+-- What is said of the fields of a card (the project's own).
 use Rattle.std.specs.Prelude.{ℕ, ◌==◌, Bool, true, false, if◌then◌else◌, List, [], ◌∷◌, ◌++◌, codes}
 use Rattle.std.specs.Prelude.{◌&&◌, decimal, flat_map}
 use Rattle.std.specs.List.{list_any}
@@ -135,7 +135,7 @@ note_words (Changes attempt) = codes "another result stands: change it?"
 unfoldable pub note_line : Note → List ℕ
 note_line note = codes "<strong role=\"alert\">" ++ note_words note ++ codes "</strong>"
 
--- a note, if it stands at this place
+-- a note, if it is at this place
 abbrev pub note_at : ℕ → Note → List ℕ
 note_at place note = if place_of note == place then note_line note else []
 

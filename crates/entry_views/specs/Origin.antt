@@ -1,4 +1,4 @@
--- Where what stands on a card comes from.
+-- Where what is on a card comes from (the project's own).
 use Rattle.std.specs.Prelude.{ℕ, Bool, true, false, List, [], ◌∷◌, ◌++◌, codes, decimal}
 use Rattle.std.specs.Prelude.{Option, None, Some}
 use Rattle.std.specs.Option.{option_copied}

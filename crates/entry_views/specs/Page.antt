@@ -1,4 +1,4 @@
--- The page of a card.
+-- The page of a card (the project's own).
 use Rattle.std.specs.Prelude.{◌≡◌, ℕ, List, ◌++◌, codes, flat_map, drop, get_or}
 use Rattle.std.specs.Prelude.{Bool, true, false, Option, None, Some}
 use Rattle.rounds.specs.Tables.{Table}
@@ -21,7 +21,7 @@ use Rattle.entry_views.specs.Leaving.{leaving_line}
 use Rattle.entry_views.specs.Origin.{origin_line}
 
 -- the form of the card carries the token, the first id and the others as spare ones, and what the
--- page shows that stands; it says where that comes from, and links to the history of the result and
+-- page shows that counts; it says where that comes from, and links to the history of the result and
 -- to where somebody without an attempt is withdrawn
 unfoldable pub card_form : Around → RoundId → Settings × Table → Draft → Past → List ℕ
 card_form around id round draft past =
@@ -52,7 +52,7 @@ card_section around id round draft past =
     card_head id round.0 ++ closed_line id round.1.is_closed
     ++ form_if (is_latest (accepted_in around.mirror.now)) around id round draft past
 
--- what stands before the round
+-- what is before the round
 unfoldable pub front : Around → RoundId → Settings × Table → Draft → Past → List ℕ
 front around id round draft past =
     top (codes "entry") (round_words id round.0.advance) around

@@ -83,7 +83,7 @@ fn push_cells(out: &mut Vec<u8>, row: &ByteRecord) -> Result<(), NoMemory>
     Ok(())
 }
 
-/// The values that stand of the entrant of a number.
+/// The values that count of the entrant of a number.
 fn values_at(table: &RoundTable, number: Option<u16>) -> &[Value]
     ensures { result.now ≡ values_at table.now number }
 {
@@ -93,7 +93,7 @@ fn values_at(table: &RoundTable, number: Option<u16>) -> &[Value]
     }
 }
 
-/// Adds the beginning of a line, which says what stands as `CARD` spells it.
+/// Adds the beginning of a line, which says what counts as `CARD` spells it.
 fn push_line_start(out: &mut Vec<u8>, progress: Progress, values: &[Value]) -> Result<(), NoMemory>
     ensures { OnOk result (out.new.items ≡ out.old.items ++ line_start progress values.now) }
 {
@@ -193,7 +193,7 @@ fn push_table(
     Ok(())
 }
 
-/// Adds what stands before the table: the round, and how far the entrants have come.
+/// Adds what is before the table: the round, and how far the entrants have come.
 fn push_section_start(out: &mut Vec<u8>, id: RoundId, round: Opened<'_>) -> Result<(), NoMemory>
     ensures { OnOk result (out.new.items ≡ out.old.items
         ++ section_head id round.entry.settings round.entry.table.now) }

@@ -43,14 +43,14 @@ pub fn single_of(values: &[Value]) -> Option<u32>
     }
 }
 
-/// The best single that stands of a competitor in a round, if there is one.
+/// The best single that counts of a competitor in a round, if there is one.
 fn single_in(table: &RoundTable, number: u16) -> Option<u32>
     ensures { result ≡ single_in table.now number }
 {
     single_of(values_of(table, number))
 }
 
-/// The best single that stands in a round, of all who are in it, in what its `Unit` counts.
+/// The best single that counts in a round, of all who are in it, in what its `Unit` counts.
 pub fn best_in(table: &RoundTable) -> Result<Option<u32>, NoMemory>
     ensures { IfOk result (λ best. best ≡ best_in table.now) }
 {

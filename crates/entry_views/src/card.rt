@@ -163,7 +163,7 @@ fn push_round_value(out: &mut Vec<u8>, id: RoundId) -> Result<(), NoMemory>
     Ok(())
 }
 
-/// Adds what the page shows that stands, as `CARD` spells it, unseen.
+/// Adds what the page shows that counts, as `CARD` spells it, unseen.
 fn push_was_value(out: &mut Vec<u8>, values: &[Value]) -> Result<(), NoMemory>
     ensures { OnOk result (out.new.items ≡ out.old.items ++ was_value values.now) }
 {
@@ -198,7 +198,7 @@ fn push_form_tag(
     Ok(())
 }
 
-/// Adds the beginning of a form: what it carries unseen, and what its page shows that stands.
+/// Adds the beginning of a form: what it carries unseen, and what its page shows that counts.
 pub(crate) fn push_form_start(
     out: &mut Vec<u8>,
     token: &[u8],

@@ -8,7 +8,7 @@ use card_forms::CardForm;
 pub enum Draft<'a> {
     /// Nothing.
     Empty,
-    /// A competitor's number, and what stands.
+    /// A competitor's number, and what counts.
     Number(u16),
     /// What was typed, with what is said of it.
     Typed {

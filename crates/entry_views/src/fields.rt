@@ -44,7 +44,7 @@ pub(crate) fn competitor_of(draft: Draft<'_>) -> Option<u16>
     }
 }
 
-/// The values that stand of the competitor of a draft.
+/// The values that count of the competitor of a draft.
 pub(crate) fn standing_of<'a>(table: &'a RoundTable, draft: Draft<'_>) -> &'a [Value]
     ensures { result.now ≡ standing_of table.now draft.entry }
 {
@@ -64,7 +64,7 @@ fn push_number_text(out: &mut Vec<u8>, draft: Draft<'_>) -> Result<(), NoMemory>
     }
 }
 
-/// Adds a value that stands, if there is one at this place, counted from 0.
+/// Adds a value that counts, if there is one at this place, counted from 0.
 fn push_standing(
     out: &mut Vec<u8>,
     values: &[Value],
@@ -81,7 +81,7 @@ fn push_standing(
 }
 
 /// The text of the field at a place, counted from 0: what was entered for its attempt, where that
-/// stands and is known; empty elsewhere.
+/// counts and is known; empty elsewhere.
 fn own_text<'a>(values: &[Value], texts: &'a [Typed], place: usize) -> &'a [u8]
     ensures { result.now ≡ own_text values.now texts.now place }
 {
@@ -92,7 +92,7 @@ fn own_text<'a>(values: &[Value], texts: &'a [Typed], place: usize) -> &'a [u8]
     }
 }
 
-/// Adds what fills a field in: its own text, where it has one, and else what stands.
+/// Adds what fills a field in: its own text, where it has one, and else what counts.
 fn push_inside_by(
     out: &mut Vec<u8>,
     values: &[Value],
@@ -213,7 +213,7 @@ fn push_field_start(out: &mut Vec<u8>, attempt: u8) -> Result<(), NoMemory>
     )
 }
 
-/// Adds what stands beside the field of an attempt, 1 to 5, and what is said of it.
+/// Adds what is beside the field of an attempt, 1 to 5, and what is said of it.
 fn push_beside(
     out: &mut Vec<u8>,
     draft: Draft<'_>,
@@ -233,8 +233,8 @@ fn push_beside(
     Ok(())
 }
 
-/// Adds the field of an attempt, 1 to 5: what is filled in, what stands beside it, and what is said
-/// of it.
+/// Adds the field of an attempt, 1 to 5: what is filled in, what is beside it, and what is said of
+/// it.
 fn push_field(
     out: &mut Vec<u8>,
     draft: Draft<'_>,

@@ -47,7 +47,7 @@ pub enum Note {
     },
     /// The times of attempts 3 and 4 are those of 1 and 2 again.
     Repeats,
-    /// An attempt that stands would change.
+    /// An attempt that counts would change.
     Changes {
         attempt: u8,
     },
@@ -80,7 +80,7 @@ fn place_of_code(code: Code) -> u8
     }
 }
 
-/// Where a note stands: 0 is the competitor's number, 1 to 5 are the attempts, 6 is the card.
+/// Where a note is: 0 is the competitor's number, 1 to 5 are the attempts, 6 is the card.
 fn place_of(note: Note) -> u8
     ensures { result ≡ place_of note }
 {
@@ -180,7 +180,7 @@ fn push_card_words(out: &mut Vec<u8>, fault: CardFault) -> Result<(), NoMemory>
     }
 }
 
-/// Whether a code says that what stands was changed.
+/// Whether a code says that what counts was changed.
 fn is_changed(code: Code) -> bool
     ensures { result ≡ is_changed code }
 {

@@ -1,4 +1,4 @@
-//! Where what stands on a card comes from.
+//! Where what is on a card comes from.
 
 ghost use Rattle.std.specs.Prelude.{◌≡◌, ◌++◌, OnOk};
 ghost use Rattle.std.specs.Option.{option_copied};
@@ -8,14 +8,15 @@ ghost use Rattle.entry_views.specs.Origin.{remark_words};
 use acceptor::NoMemory;
 use markup::{Piece, push_pieces};
 
-/// Which entry of the log said last what stands of a competitor's attempts.
+/// Which entry of the log said last what counts of a competitor's attempts.
 #[derive(Clone, Copy)]
 pub struct Origin<'a> {
     /// How many entries the log has up to and with this one, 1 to 65,536.
     pub position: u32,
     /// Whether it is known to have been entered at this table.
     pub here: bool,
-    /// Its remark, if it has one: who entered it, when, why. It is told, and nothing depends on it.
+    /// Its remark, if it has one: who entered it, when, why. It is shown, and nothing depends on
+    /// it.
     pub remark: Option<&'a [u8]>,
 }
 
@@ -72,7 +73,7 @@ fn push_words(out: &mut Vec<u8>, origin: Origin<'_>) -> Result<(), NoMemory>
     Ok(())
 }
 
-/// Adds where what stands comes from, if that is known.
+/// Adds where what counts comes from, if that is known.
 pub(crate) fn push_origin(out: &mut Vec<u8>, origin: Option<Origin<'_>>) -> Result<(), NoMemory>
     ensures { OnOk result (out.new.items ≡ out.old.items ++ origin_line origin.entry) }
 {

@@ -48,7 +48,7 @@ fn sheet_of(alloc: Global, meet: &Meet, id: RoundId) -> Result<Vec<u8>, NoMemory
     }
 }
 
-/// Adds the form of the card, and what is said of what stands.
+/// Adds the form of the card, and what is said of what counts.
 fn push_form(
     out: &mut Vec<u8>,
     around: &Around<'_>,
@@ -144,7 +144,7 @@ fn push_card(
     Ok(())
 }
 
-/// Adds what stands before the round.
+/// Adds what is before the round.
 fn push_front(
     out: &mut Vec<u8>,
     around: &Around<'_>,
@@ -186,8 +186,8 @@ fn page_of(
 /// The page of a card of a round; none where the round was not opened.
 ///
 /// It says whether the round is closed. It has the form of the card, filled in with the draft, that
-/// carries the token, the first of the ids, what the page shows that stands and below which a time
-/// is asked about. Where `past` has what was entered for an attempt that stands, the field has that
+/// carries the token, the first of the ids, what the page shows that counts and below which a time
+/// is asked about. Where `past` has what was entered for an attempt that counts, the field has that
 /// in place of what it counts, and the form carries it. The page says which entry of the log was
 /// the last on these attempts, with its remark, where `past` says so, with a link for a competitor
 /// who can withdraw; and it has the cards and commands of late, and the round, whose cells are the

@@ -1,4 +1,4 @@
--- Whether the logs of a hall's desks are alike, as far as all have them.
+-- Whether the logs of a hall's desks are alike, as far as all have them (the project's own).
 use Rattle.std.specs.Prelude.{◌≡◌, ◌⊎◌, ◌+◌, ◌-◌, ◌++◌, ◌∷◌, [], ℕ, List, Option, None, Some, min}
 use Rattle.std.specs.Prelude.{Result, Ok, Err, if◌then◌else◌, nat_le, ◌&&◌}
 use Rattle.acceptor.specs.Entries.{is_same_entry}
@@ -17,7 +17,7 @@ use Rattle.errands.specs.declared.polling.Inquiry.{Inquiry}
 abbrev pub place_at : Inquiry → List ℕ → Place
 place_at q address = record { to = address; patience = q.patience; key = q.key }
 
--- the length of a log, where a desk said how it stands, and else the greatest that one can have
+-- the length of a log, where a desk said how it is, and else the greatest that one can have
 abbrev pub length_in : Reply → ℕ
 length_in (Stands desk standing) = standing.length
 length_in _ = 65536
@@ -27,7 +27,7 @@ abbrev pub common_length : List Polled → ℕ
 common_length [] = 65536
 common_length (p ∷ polled) = min (length_in p.reply) (common_length polled)
 
--- the first position at which two logs have other entries, of which these stand from a position on,
+-- the first position at which two logs have other entries, of which these are from a position on,
 -- and below an end
 unfoldable pub other_from : (position end : ℕ) → (known told : List Entry) → Option ℕ
 other_from position end [] told = None
@@ -51,7 +51,7 @@ abbrev pub entries_of : Result What BatchFault → Option (List Entry)
 entries_of (Ok (what.Entries position len entries)) = Some entries
 entries_of _ = None
 
--- the number of a desk that said how it stands, where it is one that a desk can have
+-- the number of a desk that said how it is, where it is one that a desk can have
 abbrev pub standing_desk : Reply → Option ℕ
 standing_desk (Stands desk standing) =
     if nat_le 1 desk && nat_le desk 5 then Some desk else None

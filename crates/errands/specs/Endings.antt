@@ -1,4 +1,4 @@
--- How connections to desks end.
+-- How connections to desks end (the project's own).
 use Rattle.std.specs.Prelude.{Bool, true, false, Option, None, Some}
 use Rattle.std.specs.declared.io.ErrorKind.{ErrorKind}
 use Rattle.std.specs.declared.io.ErrorKind.TheVariants as kind

@@ -1,4 +1,4 @@
--- Commands entered at a desk: those of an input, or one.
+-- Commands entered at a desk: those of an input, or one (the project's own).
 use Rattle.std.specs.Prelude.{◌≡◌, ◌⊎◌, ◌+◌, ◌-◌, ◌^◌, ◌≤◌, ◌<◌, ◌++◌, ◌∷◌, [], ℕ, Bool, true}
 use Rattle.std.specs.Prelude.{false, List}
 use Rattle.std.specs.Prelude.{length, take, codes, Option, Some, None}
@@ -28,7 +28,7 @@ use Rattle.errands.specs.Statuses.{fault_of_batch}
 use Rattle.errands.specs.declared.fault.DeskFault.{DeskFault}
 use Rattle.errands.specs.declared.fault.DeskFault.TheVariants as fault
 
--- so many ids in a row begin with this one
+-- this many ids in a row begin with this one
 abbrev pub HasRoom : (count : ℕ) → ℕ → Type 0
 HasRoom count id = (1 ≤ id) × (id + count ≤ 2 ^ 63)
 

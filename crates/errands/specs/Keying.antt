@@ -1,4 +1,4 @@
--- Under which key a desk is asked.
+-- Under which key a desk is asked (the project's own).
 use Rattle.std.specs.Prelude.{◌≡◌, ℕ, List, Option}
 use Rattle.sealed.specs.ends.Calls.{own_key}
 use Rattle.errands.specs.declared.incoming.Answer.{Answer}

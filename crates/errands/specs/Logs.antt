@@ -1,4 +1,4 @@
--- What is printed of the log of a desk that runs.
+-- What is printed of the log of a desk that runs (the project's own).
 use Rattle.std.specs.Prelude.{◌≡◌, ◌⊎◌, [], ℕ, List, Option}
 use Rattle.std.specs.Io.KnownBytes.{Keeps, Appends}
 use Rattle.acceptor.specs.declared.entry.Entry.{Entry}

@@ -1,4 +1,4 @@
--- What is printed of the newest sheet of a round.
+-- What is printed of the newest sheet of a round (the project's own).
 use Rattle.std.specs.Prelude.{◌≡◌, ◌⊎◌, ℕ, List, Option}
 use Rattle.std.specs.Io.KnownBytes.{Keeps, Appends}
 use Rattle.batch.specs.Asking.{IsOfAsking}

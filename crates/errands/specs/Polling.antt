@@ -1,4 +1,4 @@
--- Asking the desks of a hall how they stand, one after the other.
+-- Asking the desks of a hall how they are, one after the other (the project's own).
 use Rattle.std.specs.Prelude.{◌≡◌, ◌≢◌, ◌⊎◌, ◌+◌, ◌++◌, ◌∷◌, [], ℕ, List, map, Option, None, Some}
 use Rattle.std.specs.Prelude.{Result, Ok, Err, not, ◌==◌}
 use Rattle.std.specs.Borrow.{Bor}
@@ -41,8 +41,8 @@ request_of asking.Fully hall desk = status_request_in_five hall desk
 request_of asking.Standing hall desk = status_request hall desk
 request_of asking.Id hall desk = id_asked hall desk
 
--- the desk of this number answered, and did not say how it stands: it is of an earlier program
--- where it was not asked that
+-- the desk of this number answered, and did not say how it is: it is of an earlier program where it
+-- was not asked that
 abbrev pub other_reply : Question → ℕ → Reply
 other_reply asking.Fully desk = reply.NoAnswer
 other_reply asking.Standing desk = reply.NoAnswer
@@ -92,8 +92,8 @@ IsPolledBy p question (next ∷ later) hall desk old new said =
     × (((first ≡ Some reply.NoAnswer) × IsPolledBy p next later hall desk mid new said)
     ⊎ ((first ≢ Some reply.NoAnswer) × (mid ≡ new) × (said ≡ first)))
 
--- how it stands, and how another one differs; then as desks of earlier programs are asked: how it
--- stands, and what became of an id
+-- how it is, and how another one differs; then as desks of earlier programs are asked: how it is,
+-- and what became of an id
 abbrev pub IsPolled : Place → (hall desk : ℕ) → (old new : Option (List Dialed)) → Option Reply
     → Type 0
 IsPolled p hall desk old new said =

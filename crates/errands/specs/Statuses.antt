@@ -1,4 +1,5 @@
--- The faults of the program: the status of each, and by which name a library's fault goes.
+-- The faults of the program: the status of each, and by which name a library's fault goes (the
+-- project's own).
 use Rattle.std.specs.Prelude.{◌++◌, ℕ, List, codes, decimal}
 use Rattle.client.specs.declared.fault.ClientFault.{ClientFault}
 use Rattle.client.specs.declared.fault.ClientFault.TheVariants as client
@@ -49,7 +50,7 @@ in_vain_text c =
     codes "no answer from " ++ c.address.now ++ codes " (waited " ++ decimal c.patience
     ++ codes " s)"
 
--- what stands before and after the path of a store that is not there, or is there
+-- what is before and after the path of a store that is not there, or is there
 abbrev pub store_front : DeskFault → List ℕ
 store_front fault.StoreThere = codes "store "
 store_front _ = codes "no store "

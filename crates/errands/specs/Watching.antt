@@ -1,4 +1,4 @@
--- Asking the desks of a hall how they stand, again and again.
+-- Asking the desks of a hall how they are, again and again (the project's own).
 use Rattle.std.specs.Prelude.{◌≡◌, [], ◌∷◌, ℕ, List, Option}
 use Rattle.std.specs.Io.KnownBytes.{Appends}
 use Rattle.batch.specs.Dialing.{Dialed}
@@ -9,7 +9,7 @@ use Rattle.errands.specs.Polling.{FailsReport, Outside, PollsAll}
 use Rattle.errands.specs.declared.fault.DeskFault.{DeskFault}
 use Rattle.errands.specs.declared.polling.Inquiry.{Inquiry}
 
--- all desks were asked so many times, one time after the other, each time with these answers, and
+-- all desks were asked this many times, one time after the other, each time with these answers, and
 -- the report on them was written before they were asked again
 abbrev pub Watches : Form → Inquiry → List (List Polled) → (from to : Option (List Dialed))
     → (old new : Option (List ℕ)) → Type 0
@@ -22,7 +22,7 @@ abbrev pub HasWatched : Form → Inquiry → Outside → Type 0
 HasWatched form q o =
     (times : List (List Polled)) × Watches form q times o.dialed o.dialed_then o.old o.new
 
--- so many reports were written whole, and the next one failed
+-- this many reports were written whole, and the next one failed
 pub record FailsWatch (f : DeskFault) (form : Form) (q : Inquiry) (o : Outside) : Type 0 where
   pub times : List (List Polled)
   pub dialed : Option (List Dialed)

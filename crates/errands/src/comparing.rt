@@ -17,7 +17,7 @@ use wire::{Entries, What};
 /// How many of the last entries that all logs have are compared: as many as one answer has.
 const COMPARED: u32 = 400;
 
-/// The length of a log, where a desk said how it stands, and else the greatest that one can have.
+/// The length of a log, where a desk said how it is, and else the greatest that one can have.
 fn length_in(reply: &Reply) -> u32
     ensures { result ≡ length_in reply.now }
 {
@@ -27,7 +27,7 @@ fn length_in(reply: &Reply) -> u32
     }
 }
 
-/// The length of the shortest log of the desks that said how they stand, at most the greatest.
+/// The length of the shortest log of the desks that said how they are, at most the greatest.
 fn common_length(polled: &[Polled<'_>]) -> u32
     ensures same { result ≡ common_length polled.now }
     ensures most { result ≤ 65536 }
@@ -48,7 +48,7 @@ fn entries_of(came: Result<What, BatchFault>) -> Option<Entries>
     }
 }
 
-/// The number of a desk that said how it stands, where it is one that a desk can have.
+/// The number of a desk that said how it is, where it is one that a desk can have.
 fn standing_desk(reply: &Reply) -> Option<u8>
     ensures same { result ≡ standing_desk reply.now }
     ensures desk { IfSome result IsDesk }
@@ -65,7 +65,7 @@ fn standing_desk(reply: &Reply) -> Option<u8>
     }
 }
 
-/// The entries that a desk tells from a position on, where it said how it stands.
+/// The entries that a desk tells from a position on, where it said how it is.
 fn entries_at<D: Dial>(
     alloc: Global,
     dial: &mut D,
@@ -90,8 +90,8 @@ fn entries_at<D: Dial>(
     entries_of(came)
 }
 
-/// The first position at which two logs have other entries, of which these stand from a position
-/// on, and below an end.
+/// The first position at which two logs have other entries, of which these are from a position on,
+/// and below an end.
 #[tactic(auto, unfolding(crate::specs::Comparing::other_from))]
 fn other_from(position: u32, end: u32, known: &[Entry], told: &[Entry]) -> Option<u32>
     ensures { result ≡ other_from position end known.now told.now }
@@ -111,7 +111,7 @@ fn other_from(position: u32, end: u32, known: &[Entry], told: &[Entry]) -> Optio
     other_from(position + 1, end, ones, others)
 }
 
-/// The same of what two desks told, where both did.
+/// The same of what two desks reported, where both did.
 fn other_in(position: u32, end: u32, known: &Option<Entries>, told: &Option<Entries>) -> Option<u32>
     ensures { result ≡ other_in position end known.now told.now }
 {
@@ -124,7 +124,7 @@ fn other_in(position: u32, end: u32, known: &Option<Entries>, told: &Option<Entr
     other_from(position, end, one.as_slice(), other.as_slice())
 }
 
-/// What the first of the desks told.
+/// What the first of the desks reported.
 fn first_told(known: Option<Entries>, told: Option<Entries>) -> Option<Entries>
     ensures { result ≡ first_told known told }
 {
@@ -166,7 +166,7 @@ fn compare_each<'a, D: Dial>(
     compare_each(alloc, dial, inquiry, position, end, first, rest, compared)
 }
 
-/// Compares the last entries that all logs have of the desks that said how they stand, at most 400,
+/// Compares the last entries that all logs have of the desks that said how they are, at most 400,
 /// with those of the first of these desks that tells them, and gives each desk with where it has
 /// another one.
 pub(crate) fn compare<'a, D: Dial>(

@@ -10,11 +10,11 @@ use lines::RunFault;
 use std::io;
 use std::random::RandomSource;
 
-/// So many ids there are: 1 to 2^63 - 1.
+/// How many ids there are: 1 to 2^63 - 1.
 const IDS: u64 = 9_223_372_036_854_775_807;
 
-/// Draws the first of so many ids in a row: 63 random bits, not 0, and below the greatest id by as
-/// many as are wanted.
+/// Draws the first of this many ids in a row: 63 random bits, not 0, and below the greatest id by
+/// as many as are wanted.
 ///
 /// # Errors
 ///

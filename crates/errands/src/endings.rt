@@ -53,7 +53,7 @@ pub(crate) fn ending_at(kind: ErrorKind, heard: bool) -> Ending
 /// Whether a second connection goes the way of the first, where a preface is all that is sent on
 /// it, and that of the desk came or did not: both ended as those to a desk without a key do; or,
 /// where the first ended as one to a desk with another key does, the preface came. Of any other end
-/// nothing is told.
+/// nothing is said.
 pub(crate) fn ends_so_too(first: Ending, second: Ending, came: bool) -> bool
     ensures { result ≡ ends_so_too first second came }
 {

@@ -31,10 +31,10 @@ use texts::Answer;
 use texts::meanings::meaning_of;
 use wire::{ClientRefusal, What};
 
-/// What stands before what is wrong with the first line.
+/// What is before what is wrong with the first line.
 const LINE_1: &[u8] = b"line 1: ";
 
-/// The id of the first of so many commands: the one that is given, or one that is drawn.
+/// The id of the first of this many commands: the one that is given, or one that is drawn.
 fn first_id<T: RandomSource>(source: &T, given: Option<u64>, count: u32) -> Result<u64, DeskFault>
     ensures id { IfOk result (IsFirstId given count) }
     ensures err { IfErr result
@@ -129,12 +129,12 @@ fn progress_of(is_wanted: bool, is_terminal: bool) -> Progress {
 
 /// Reads the commands of an input, enters them at a desk, and prints what it answers.
 ///
-/// The commands are those of [`read_commands`]. Before anything is sent, `faults` is told what is
+/// The commands are those of [`read_commands`]. Before anything is sent, `faults` gets what is
 /// wrong with the first that is no command in any edition. Without a first id one is drawn, with
-/// room for all, and `faults` is told of it. While they are entered, `faults` is told of the
-/// progress, where that is wanted, on a terminal as one line over itself, and of what is waited for
-/// after two seconds without a decision; and at the end, where commands are waited for, how many
-/// were accepted and which lines were refused.
+/// room for all, and `faults` gets it. While they are entered, `faults` gets the progress, where
+/// that is wanted, on a terminal as one line over itself, and what is waited for after two seconds
+/// without a decision; and at the end, where commands are waited for, how many were accepted and
+/// which lines were refused.
 ///
 /// # Errors
 ///
@@ -236,7 +236,7 @@ fn print_one<W: Write>(alloc: Global, writer: &mut W, last: What) -> Result<u8, 
 }
 
 /// Whether a text may be entered: it is a command in some edition, or too long for one, of which
-/// the desk is not asked either. Of another one `faults` is told what is wrong with it.
+/// the desk is not asked either. Of another one `faults` gets what is wrong with it.
 ///
 /// # Errors
 ///
@@ -278,8 +278,8 @@ fn lacks_key(fault: &BatchFault) -> bool {
 /// answers: `taken <id>`, or, where it is waited for, `done <id> <pos> Done`, and after a refusal
 /// its code and what it means, as `done 17 40 OutOfOrder: the attempt is not the next one`. The
 /// exit status that it gives is 1 after a refusal, else 0. After two seconds without a decision
-/// `faults` is told what is waited for, and where the command wasn't entered, or it isn't known,
-/// the id that was drawn, unless it was refused for want of a key.
+/// `faults` gets what is waited for, and where the command wasn't entered, or it isn't known, the
+/// id that was drawn, unless it was refused for want of a key.
 ///
 /// # Errors
 ///

@@ -69,9 +69,9 @@ pub enum DeskFault {
     SameAddresses,
     /// No address can be found of the desk of this number, from 1, of a hall's file.
     UnknownHost { desk: u8 },
-    /// What the hall's file says, or that it can't be read, was told before.
+    /// What the hall's file says, or that it can't be read, was written before.
     BadHallFile,
-    /// A line that is no command was told before, and nothing was sent.
+    /// A line that is no command was named before, and nothing was sent.
     NoCommand,
     /// The entry at the position of a command is another one with the same id.
     AnotherCommand,
@@ -217,7 +217,7 @@ pub fn tell<F: Write>(faults: &mut F, fault: DeskFault) -> u8
     status_of(fault)
 }
 
-/// What is told of a desk that was waited for in vain.
+/// What is said of a desk that was waited for in vain.
 #[derive(Drop)]
 struct InVain<'a> {
     contact: Contact<'a>,
@@ -253,7 +253,7 @@ pub fn tell_asking<F: Write>(faults: &mut F, fault: DeskFault, contact: Contact<
     }
 }
 
-/// What stands before the path of a store that is not there, or is there.
+/// What is before the path of a store that is not there, or is there.
 fn front_of(fault: DeskFault) -> &'static str
     ensures { result.now ≡ store_front fault }
 {
@@ -263,7 +263,7 @@ fn front_of(fault: DeskFault) -> &'static str
     }
 }
 
-/// What stands after it.
+/// What is after it.
 fn back_of(fault: DeskFault) -> &'static str
     ensures { result.now ≡ store_back fault }
 {
@@ -273,7 +273,7 @@ fn back_of(fault: DeskFault) -> &'static str
     }
 }
 
-/// What is told of a store that has to be there and is not, or has to be made and is there.
+/// What is said of a store that has to be there and is not, or has to be made and is there.
 #[derive(Drop)]
 struct OfStore<'a> {
     fault: DeskFault,
@@ -293,7 +293,7 @@ impl fmt::Display for OfStore<'_> {
     }
 }
 
-/// What is told of a desk of which no address can be found.
+/// What is said of a desk of which no address can be found.
 #[derive(Drop)]
 struct UnknownHost<'a> {
     desk: u8,

@@ -13,7 +13,7 @@ use std::io;
 use std::io::{Cursor, ErrorKind, Read};
 use std::net::{SocketAddr, TcpStream};
 
-/// So many reads bring a whole record, however few bytes each has.
+/// This many reads bring a whole record, however few bytes each has.
 const MOST_READS: u32 = 20_000;
 
 /// What a desk says over a connection. Each read waits for what is left of the wait, so that a desk

@@ -1,5 +1,5 @@
 //! Requests to a desk, lines entered at one, its log and its newest sheets, and how the desks of a
-//! hall stand, over connections to their addresses; connections over TCP; and the faults of the
+//! hall are, over connections to their addresses; connections over TCP; and the faults of the
 //! program, each with its line and its exit status.
 #![tactic(auto)]
 

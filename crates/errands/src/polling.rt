@@ -1,4 +1,4 @@
-//! How the desks of a hall stand, asked one after the other and printed.
+//! How the desks of a hall are, asked one after the other and printed.
 
 ghost use Rattle.std.specs.Prelude.{◌≡◌, ◌≢◌, ◌≤◌, ◌+◌, ◌∷◌, [], None, Some, false, length};
 ghost use Rattle.std.specs.Prelude.{IfErr, IfOk, IsTrue, OnOk};
@@ -25,7 +25,7 @@ use std::thread;
 use std::time::Duration;
 use wire::{ClientRefusal, Frame, Version, What};
 
-/// The desks of a hall that are asked how they stand.
+/// The desks of a hall that are asked how they are.
 #[derive(Clone, Copy)]
 pub struct Inquiry<'a> {
     /// The number of the hall.
@@ -41,9 +41,9 @@ pub struct Inquiry<'a> {
 /// What a desk is asked.
 #[derive(Clone, Copy, Debug, PartialEq, Eq)]
 enum Question {
-    /// How it stands, and how another one differs, in version 5 of the wire.
+    /// How it is, and how another one differs, in version 5 of the wire.
     Fully,
-    /// How it stands, which desks of programs before version 3 are not asked.
+    /// How it is, which desks of programs before version 3 are not asked.
     Standing,
     /// What became of an id, which each desk is asked.
     Id,
@@ -103,7 +103,7 @@ fn is_foreign(answer: &Result<What, BatchFault>) -> bool
     }
 }
 
-/// The reply of the desk of a number that answers, and does not say how it stands.
+/// The reply of the desk of a number that answers, and does not say how it is.
 fn other_reply(question: Question, desk: u8) -> Reply
     ensures { result ≡ other_reply question desk }
 {
@@ -167,8 +167,8 @@ fn is_unanswered(first: &Option<Reply>) -> bool
     matches!(first, Some(Reply::NoAnswer))
 }
 
-/// Asks at a place how the desk of a number stands, and, where it is another one, for the others,
-/// in version 3 of the wire. Where there is no answer, each desk is asked once more, as one of a
+/// Asks at a place how the desk of a number is, and, where it is another one, for the others, in
+/// version 3 of the wire. Where there is no answer, each desk is asked once more, as one of a
 /// program before that. None: memory ran out.
 fn ask_earlier<D: Dial>(
     alloc: Global,
@@ -277,14 +277,14 @@ fn polled_of<'a, D: Dial>(
     Ok(compared)
 }
 
-/// Asks the desks of a hall how they stand, one after the other, and prints what each answered and
+/// Asks the desks of a hall how they are, one after the other, and prints what each answered and
 /// what that means, in this form: [`report`]. Returns the exit status that [`status_of`] says.
 ///
 /// A desk that refuses as foreign is asked for under the other numbers, too: it may be another one
 /// of the hall. One that ends the connection without an answer is asked in version 3 of the wire,
-/// and then what became of id 1, which the programs before that answer: so one of these is told
-/// apart. At last the desks that said how they stand are asked for the last entries that all have,
-/// at most 400, and each is told of that has another one.
+/// and then what became of id 1, which the programs before that answer: so one of these is
+/// recognised. At last the desks that said so are asked for the last entries that all have, at most
+/// 400, and each that has another one is reported.
 ///
 /// # Errors
 ///

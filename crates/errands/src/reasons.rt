@@ -2,7 +2,7 @@
 
 use std::alloc::Global;
 
-/// Says why a command is not decided yet. Nothing but what is told to people depends on it.
+/// Says why a command is not decided yet. Nothing but what is said to people depends on it.
 pub trait Reasons {
     /// In a few words, as `desk 3 alone is reached, a majority is 2`. None where nothing is known
     /// of it.

@@ -1,4 +1,4 @@
-//! What is told, while commands are entered, of how that goes.
+//! What is said, while commands are entered, of how that goes.
 
 use crate::reasons::Reasons;
 use crate::timing::{a_minute, is_due, seconds_left};
@@ -10,14 +10,14 @@ use std::io::Write;
 use std::time::{Clock, Instant};
 use texts::Answer;
 
-/// After so many milliseconds without a decision, or without room in the desk's queue, it is said
+/// After this many milliseconds without a decision, or without room in the desk's queue, it is said
 /// what is waited for.
 const PATIENCE: u64 = 2_000;
 
-/// So many milliseconds lie between two lines of progress.
+/// This many milliseconds lie between two lines of progress.
 const BETWEEN_LINES: u64 = 10_000;
 
-/// So many lie between two states of a line that is written over itself.
+/// This many lie between two states of a line that is written over itself.
 const BETWEEN_STATES: u64 = 200;
 
 /// How the progress is shown.
@@ -70,7 +70,7 @@ pub(crate) struct Report<'a, T: Clock, F: Write, H: Reasons> {
     start: Option<Instant>,
     /// When progress was shown last, in milliseconds since the beginning.
     shown: u64,
-    /// Whether a line stands there that is written over.
+    /// Whether a line is there that is written over.
     is_open: bool,
 }
 
@@ -96,7 +96,7 @@ fn write_numbers<F: Write>(faults: &mut F, numbers: &[u32]) {
 }
 
 impl<'a, T: Clock, F: Write, H: Reasons> Report<'a, T, F, H> {
-    /// Of so many commands, none of which was entered.
+    /// Of this many commands, none of which was entered.
     pub(crate) fn new(
         clock: &'a T,
         alloc: Global,
@@ -153,7 +153,7 @@ impl<'a, T: Clock, F: Write, H: Reasons> Report<'a, T, F, H> {
         }
     }
 
-    /// Ends the line that is written over, where one stands there.
+    /// Ends the line that is written over, where one is there.
     fn end_open(&mut self) {
         if self.is_open {
             let _ = self.faults.write_all(b"\n");

@@ -1,4 +1,4 @@
-//! Connections to desks over TCP, on which a desk is waited for so long for each request and no
+//! Connections to desks over TCP, on which a desk is waited for this long for each request and no
 //! longer.
 
 ghost use Rattle.std.specs.Prelude.{◌≡◌, IfOk};
@@ -21,7 +21,7 @@ use std::{io, thread};
 /// How many bytes tell whether a desk speaks under a key, and so how many reads bring them.
 const PREFACE: u32 = 20;
 
-/// How long a client rests after so many tries: 250 microseconds at first, twice as long after
+/// How long a client rests after this many tries: 250 microseconds at first, twice as long after
 /// every third try, and at most 32 milliseconds.
 fn rest_after(tries: u32) -> Duration {
     Duration::from_micros(250 << (tries / 3).min(7))

@@ -1,15 +1,15 @@
-//! When something is to be told of commands that are entered, and how fast they are.
+//! When something is to be said of commands that are entered, and how fast they are.
 
 ghost use Rattle.std.specs.Prelude.{◌≡◌, ◌+◌, ◌-◌, ◌*◌, ◌/◌, ◌<◌, ◌≤◌, Bool, nat_le};
 
-/// Whether so many milliseconds have passed since a moment.
+/// Whether this many milliseconds have passed since a moment.
 pub(crate) fn is_due(now: u64, since: u64, between: u64) -> bool
     ensures { result ≡ nat_le between (now - since) }
 {
     now.saturating_sub(since) >= between
 }
 
-/// How many a minute are done, where so many are after so many milliseconds.
+/// How many a minute are done, if this many are done after this many milliseconds.
 pub(crate) fn a_minute(done: u32, passed: u64) -> u64
     requires { 0 < passed }
     ensures { result ≡ done * 60000 / passed }
@@ -17,7 +17,7 @@ pub(crate) fn a_minute(done: u32, passed: u64) -> u64
     u64::from(done) * 60_000 / passed
 }
 
-/// How many seconds are left at that rate, where so many are not done.
+/// How many seconds are left at that rate, where this many are not done.
 pub(crate) fn seconds_left(done: u32, rest: u32, passed: u32) -> u64
     requires { 0 < done }
     ensures { result ≡ rest * passed / done / 1000 }

@@ -13,7 +13,7 @@ pub(crate) struct Wait<'a> {
 }
 
 impl<'a> Wait<'a> {
-    /// So many seconds from now on.
+    /// This many seconds from now on.
     pub(crate) fn new(rt: &'a HostRuntime, seconds: u32) -> io::Result<Wait<'a>> {
         Ok(Wait {
             rt,

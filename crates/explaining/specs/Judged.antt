@@ -1,4 +1,4 @@
--- What is made of the answers of the system and of a desk.
+-- What is made of the answers of the system and of a desk (the project's own).
 use Rattle.std.specs.Prelude.{◌==◌, ◌&&◌, ◌||◌, if◌then◌else◌, nat_le, bytes_eq, ℕ, Bool}
 use Rattle.std.specs.Prelude.{List, [], ◌∷◌, ◌++◌, codes, length, Option, Some, None}
 use Rattle.std.specs.List.{list_all}
@@ -95,6 +95,6 @@ length_of (what.Standing standing) =
     Some (finding.Length (record { commands = standing.length }))
 length_of _ = None
 
--- how many commands the desk has that says how it stands
+-- how many commands the desk has that says how it is
 abbrev pub length_in : Frame → Option Finding
 length_in given = length_of given.what

@@ -1,4 +1,5 @@
--- What is looked at again after a fault, what may be met there, and the line that says it.
+-- What is looked at again after a fault, what may be met there, and the line that says it (the
+-- project's own).
 use Rattle.std.specs.Prelude.{◌≡◌, ◌⊎◌, ◌≤◌, ◌++◌, ℕ, List, Option, Some, None, IfSome, codes}
 use Rattle.std.specs.Prelude.{option_map}
 use Rattle.std.specs.Borrow.{Bor}

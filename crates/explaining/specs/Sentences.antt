@@ -1,4 +1,4 @@
--- The lines that say what was met.
+-- The lines that say what was met (the project's own).
 use Rattle.std.specs.Prelude.{◌++◌, ℕ, List, codes, decimal}
 use Rattle.explaining.specs.declared.findings.AddressFinding.{AddressFinding}
 use Rattle.explaining.specs.declared.findings.AddressFinding.TheVariants as address

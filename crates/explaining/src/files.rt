@@ -14,7 +14,7 @@ use std::path::Path;
 use std::rt::Files;
 use std::{fs, io};
 
-/// The path of what stands beside a file under its name with an ending.
+/// The path of what is beside a file under its name with an ending.
 fn beside<R: AllocGlobal>(rt: &R, path: &str, ending: &str) -> Result<String, AllocError> {
     format!(in rt.alloc(); "{path}{ending}")
 }
@@ -35,7 +35,7 @@ fn length_of<R: Files>(rt: &R, path: &str) -> u64 {
     }
 }
 
-/// What stands at a path in place of a file.
+/// What is at a path in place of a file.
 fn no_file<R: Files>(rt: &R, path: &str) -> Option<FileFinding>
     ensures { IfSome result IsOfPath }
 {

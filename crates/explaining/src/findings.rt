@@ -6,7 +6,7 @@ use std::fmt;
 /// What was met of a desk's file.
 #[derive(Clone, Copy, Debug, PartialEq, Eq)]
 pub enum FileFinding {
-    /// The folder that it should stand in is not there, or is none.
+    /// The folder that it should be in is not there, or is none.
     NoFolder,
     /// It is not there.
     NotThere,
@@ -26,7 +26,7 @@ pub enum FileFinding {
     LogHeldOpen,
     /// The device has no room.
     Full,
-    /// A rollback journal stands beside it.
+    /// A rollback journal is beside it.
     HasJournal,
     /// It can be opened now.
     OpensNow,
@@ -36,7 +36,7 @@ pub enum FileFinding {
     Text,
     /// It is no database.
     NoDatabase,
-    /// It is a database, and its log does not stand beside it.
+    /// It is a database, and its log is not beside it.
     LogMissing,
     /// It is a database with its log, and no whole store of a desk.
     NotWhole,
@@ -180,7 +180,7 @@ pub enum Finding<'a> {
     Other {
         desk: OtherDesk,
     },
-    /// The desk that was asked has so many commands.
+    /// The desk that was asked has this many commands.
     Length {
         count: CommandCount,
     },

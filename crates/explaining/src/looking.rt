@@ -59,7 +59,7 @@ fn of_log<'a>(rt: &HostRuntime, fault: DeskFault, store: &'a str) -> Option<Find
     }
 }
 
-/// What a desk says that is asked how it stands: which one it is, where it is not the one that was
+/// What a desk says that is asked how it is: which one it is, where it is not the one that was
 /// asked, and else how long its log is, where `wants_length`.
 fn of_desk<'a>(
     rt: &HostRuntime,

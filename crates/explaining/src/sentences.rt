@@ -70,7 +70,7 @@ pub(crate) fn of_key(what: KeyFinding) -> &'static str
     }
 }
 
-/// What stands before the desk that answers.
+/// What is before the desk that answers.
 #[tactic(auto, unfolding(crate::specs::Sentences::this_is))]
 pub(crate) fn this_is() -> &'static str
     ensures { result.now ≡ this_is }
@@ -78,7 +78,7 @@ pub(crate) fn this_is() -> &'static str
     "this is "
 }
 
-/// What stands before the desk that was asked.
+/// What is before the desk that was asked.
 #[tactic(auto, unfolding(crate::specs::Sentences::you_asked))]
 pub(crate) fn you_asked() -> &'static str
     ensures { result.now ≡ you_asked }

@@ -76,7 +76,7 @@ pub(crate) fn of_key(fault: DeskFault) -> Option<KeyFinding>
     }
 }
 
-/// Whether a byte may stand in a text.
+/// Whether a byte may be in a text.
 fn is_of_text(byte: u8) -> bool
     ensures { result ≡ is_of_text byte }
 {
@@ -123,7 +123,7 @@ pub(crate) fn other_desk(given: &Frame, hall: u32, desk: u8) -> Option<Finding<'
     Some(Finding::Other { desk })
 }
 
-/// How many commands a desk has, where a frame tells how it stands.
+/// How many commands a desk has, where a frame tells how it is.
 pub(crate) fn length_in(given: &Frame) -> Option<Finding<'static>>
     ensures { result ≡ length_in given.now }
 {

@@ -2,8 +2,8 @@
 
 ghost use Rattle.export_laws.specs.WorkedResults.{WorksResults};
 
-/// What stands in a competition's file of a round of times, of one of fewest moves and of one of
-/// multi-blind: DNF and DNS, bests, averages, and whoever has no attempt.
+/// What is in a competition's file of a round of times, of one of fewest moves and of one of
+/// multi-blind: DNF and DNS, bests, averages, and entrants without an attempt.
 pub fn worked_results()
     ensures { WorksResults }
 {}

@@ -1,4 +1,4 @@
--- What is printed of a competition's file and a log, and what its faults leave.
+-- What is printed of a competition's file and a log, and what its faults leave (the project's own).
 use Rattle.std.specs.Prelude.{◌≡◌, ℕ, Bool, true, false, not, ◌&&◌, List, [], ◌∷◌, ◌++◌, Option}
 use Rattle.std.specs.Io.KnownBytes.{Appends, Keeps}
 use Rattle.commands.specs.History.{History}

@@ -1,4 +1,5 @@
--- A desk's log as a meet: its lines are parted and limited as those of a replay.
+-- A desk's log as a meet: its lines are parted and limited as those of a replay (the project's
+-- own).
 use Rattle.std.specs.Prelude.{◌≡◌, ℕ, ◌-◌, Bool, true, false, ◌==◌, List, length, slice_get}
 use Rattle.std.specs.Prelude.{is_some, Option, None, Some}
 use Rattle.std.specs.List.{list_any}

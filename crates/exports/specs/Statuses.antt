@@ -1,5 +1,6 @@
 -- The status of each fault: 1 where rounds still run, 3 where the log or the file is invalid, or
--- the one does not fit the other, 4 where a device failed, 5 where memory ran out.
+-- the one does not fit the other, 4 where a device failed, 5 where memory ran out (the project's
+-- own).
 use Rattle.std.specs.Prelude.{ℕ, ◌==◌, if◌then◌else◌, List, length}
 use Rattle.wcif_results.specs.declared.note.Note.{Note}
 use Rattle.wcif_results.specs.declared.exporting.ExportFault.TheVariants as file

@@ -1,4 +1,4 @@
-//! Why nothing is printed of a log, and what is told of it.
+//! Why nothing is printed of a log, and what is said of it.
 
 ghost use Rattle.std.specs.Prelude.{◌≡◌};
 ghost use Rattle.std.specs.Io.KnownBytes.{Keeps};
@@ -21,7 +21,7 @@ pub enum ExportsFault {
     NoRound,
     /// The file does not take the results.
     File(ExportFault),
-    /// Rounds still run: what is told of the file.
+    /// Rounds still run: what is said of the file.
     Running(Vec<Note>),
     /// A write failed.
     Write,
@@ -115,8 +115,8 @@ fn tell_file<F: Write>(faults: &mut F, fault: &ExportFault) {
     };
 }
 
-/// Writes what is told of a file that was printed with the results of a log, a line for each thing,
-/// and returns the status: 1 where something is told, else 0. Where a line cannot be written, the
+/// Writes what is said of a file that was printed with the results of a log, a line for each thing,
+/// and returns the status: 1 where something is said, else 0. Where a line cannot be written, the
 /// status alone says it.
 pub fn tell_notes<F: Write>(faults: &mut F, notes: &[Note]) -> u8
     ensures status { result ≡ notes_status notes.now }

@@ -43,7 +43,7 @@ fn filled_line(
 
 /// Reads a competition's file in the WCA Competition Interchange Format and a desk's log, and
 /// prints the file with the results of each round that the log opens, and a line feed: all else of
-/// it stays as [`export`] says. Returns what is to be told of it.
+/// it stays as [`export`] says. Returns what is to be said of it.
 ///
 /// # Errors
 ///
@@ -85,7 +85,7 @@ pub fn print_export<R: Read + Drop, L: Read, W: Write>(
     }
 }
 
-/// As [`print_export`], of the file at a path. What a file holds is not told, so the contract says
+/// As [`print_export`], of the file at a path. What a file holds is not known, so the contract says
 /// it of some bytes.
 ///
 /// # Errors

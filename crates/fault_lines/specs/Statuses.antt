@@ -1,5 +1,5 @@
 -- What an exit status says of a run over lines, of a replay, and of arguments of which nothing is
--- run.
+-- run (the project's own).
 use Rattle.std.specs.Prelude.{◌≡◌, ◌⊎◌, true, false, Bool, ℕ, List, Option}
 use Rattle.std.specs.Io.KnownBytes.{Keeps, Appends}
 use Rattle.lines.specs.Bytes.{AppendsPart, HasLeft, Sides}
@@ -31,8 +31,8 @@ EndsReplay status r =
     ((status ≡ 0) × Replays r)
     ⊎ ((e : ReplayFault) × (status ≡ status_of_replay e) × ReplayFails e r)
 
--- the refused lines were told and the sheet alone was written; or there was a fault, and its line
--- was told after such refused lines as it left
+-- the refused lines were written and the sheet alone was written; or there was a fault, and its
+-- line was told after such refused lines as it left
 abbrev pub EndsApart : ℕ → Run → Told → Type 0
 EndsApart status r t =
     ((status ≡ 0) × ReplaysApart r t)

@@ -1,4 +1,5 @@
--- Which desk of a hall is asked for its log, from where and when. Times are milliseconds.
+-- Which desk of a hall is asked for its log, from where and when (the project's own). Times are
+-- milliseconds.
 use Rattle.std.specs.Prelude.{ℕ, ◌+◌, ◌-◌, ◌≤◌, min, max, Option, None, Some, Bool, true, false}
 use Rattle.std.specs.Prelude.{◌==◌, ◌&&◌, ◌||◌, nat_lt, nat_le, if◌then◌else◌}
 use Rattle.mirror.specs.declared.mirror.Taken.{Taken}
@@ -9,7 +10,7 @@ use Rattle.following.specs.declared.stages.Stage.TheVariants.{Asked, Answered, U
 use Rattle.following.specs.declared.stages.Action.{Action}
 use Rattle.following.specs.declared.stages.Action.TheVariants as action
 
--- the number of a desk, of so many desks, of which there are at most five
+-- the number of a desk, of this many desks, of which there are at most five
 pub record IsPlace (desk desks : ℕ) : Type 0 where
   pub first : 1 ≤ desk
   pub last : desk ≤ desks
@@ -24,7 +25,7 @@ pub record Following : Type 0 where
   pub stage : Stage
   -- how many entries are held
   pub held : ℕ
-  -- how long the longest log is that was told
+  -- how long the longest log is that was reported
   pub most : ℕ
   -- since when the desk that is followed is behind
   pub behind : Option ℕ
@@ -52,11 +53,11 @@ with_stage s stage = record {
 
 -- ---- time
 
--- so many milliseconds have gone since then
+-- this many milliseconds have gone since then
 abbrev pub is_over : ℕ → ℕ → ℕ → Bool
 is_over now since millis = nat_le millis (now - since)
 
--- what is left of so many milliseconds from then on
+-- what is left of this many milliseconds from then on
 abbrev pub left_of : ℕ → ℕ → ℕ → ℕ
 left_of now since millis = millis - (now - since)
 
@@ -247,8 +248,8 @@ after_opened s = with_stage s (opened_stage s.stage)
 abbrev pub after_lost : Following → Following
 after_lost s = if is_connected s.stage then next_desk s else s
 
--- What the connection comes to with an answer to the question of this time, where so many entries
--- are held after it and the desk's log is so long: entries that differ from those that are held
+-- What the connection comes to with an answer to the question of this time, where this many entries
+-- are held after it and the desk's log is this long: entries that differ from those that are held
 -- stop everything; a gap, or nothing new of a log that goes on, is no use; new entries of a log
 -- that goes on let the next question come at once.
 abbrev pub answered_stage : Option Taken → ℕ → ℕ → ℕ → Stage
@@ -260,7 +261,7 @@ answered_stage (Some Known) since held length =
 answered_stage (Some Gap) since held length = Useless since
 answered_stage (Some (Differs position)) since held length = Stopped
 
--- a desk is behind that tells a shorter log than was told before, or than is held
+-- a desk is behind that reports a shorter log than was reported before, or than is held
 abbrev pub is_behind : ℕ → ℕ → ℕ → Bool
 is_behind most held length = nat_lt length (max most held)
 

@@ -1,4 +1,4 @@
--- The calls of a follower over time, and what they tell.
+-- The calls of a follower over time, and what they tell (the project's own).
 use Rattle.std.specs.Prelude.{◌≡◌, ℕ, ◌≤◌, max, List, [], ◌∷◌, Option, None, Some, Bool}
 use Rattle.std.specs.Prelude.{true, false}
 use Rattle.std.specs.Prelude.{nat_lt, not, ◌||◌, if◌then◌else◌}
@@ -33,7 +33,7 @@ pub data History : Type 0 where
   Start : History
   Then : History → Call → History
 
--- a history leads from a new follower of so many desks, with so many entries held, to this one
+-- a history leads from a new follower of this many desks, with this many entries held, to this one
 abbrev pub Leads : ℕ → ℕ → History → Following → Type 0
 Leads desks first Start s = s ≡ new_following desks first
 Leads desks first (Then h c) s = (m : Following) × Leads desks first h m × Calls c m s
@@ -208,7 +208,7 @@ abbrev pub count_after : Option ℕ → ℕ → ℕ → ℕ
 count_after None new old = old
 count_after (Some since) new old = new
 
--- how many entries are held: so many at first, and then as many as the last answer says
+-- how many entries are held: this many at first, and then as many as the last answer says
 abbrev pub held_after : ℕ → History → ℕ
 held_after first Start = first
 held_after first (Then h (Acted now done)) = held_after first h
@@ -233,7 +233,7 @@ behind_with None behind since now = since
 behind_with (Some asked) behind since now = behind_after behind since now
 
 -- since when all answers over this connection told logs that are shorter than the longest that was
--- told before, or than what is held
+-- reported before, or than what is held
 abbrev pub behind_since : History → Option ℕ
 behind_since Start = None
 behind_since (Then h (Acted now Rest)) = behind_since h

@@ -1,4 +1,4 @@
--- Laws of followers, whatever calls are made.
+-- Laws of followers, whatever calls are made (the project's own).
 use Rattle.std.specs.Prelude.{◌≡◌, ◌⊎◌, ◌↔◌, ℕ, ◌+◌, ◌≤◌, ◌<◌, List, [], ◌∷◌, length, take}
 use Rattle.std.specs.Prelude.{Option, None, Some, true, false, Contains}
 use Rattle.mirror.specs.declared.mirror.Taken.TheVariants.{Grew}

@@ -23,14 +23,14 @@ const PATIENCE: u64 = 2000;
 
 const BEHIND: u64 = 5000;
 
-/// Whether so many milliseconds have gone since then.
+/// Whether this many milliseconds have gone since then.
 fn is_over(now: u64, since: u64, millis: u64) -> bool
     ensures { result ≡ is_over now since millis }
 {
     now.saturating_sub(since) >= millis
 }
 
-/// What is left of so many milliseconds from then on.
+/// What is left of this many milliseconds from then on.
 fn left_of(now: u64, since: u64, millis: u64) -> u64
     ensures left { result ≡ left_of now since millis }
     ensures most { result ≤ millis }
@@ -184,8 +184,8 @@ fn behind_wait(behind: Option<u64>, now: u64) -> u64
     }
 }
 
-/// What the connection has come to with an answer to the question of this time: so many entries
-/// are held, and the desk's log is so long.
+/// What the connection has come to with an answer to the question of this time: this many entries
+/// are held, and the desk's log is this long.
 fn answered_stage(taken: Option<Taken>, since: u64, held: u32, length: u32) -> Stage
     ensures { result ≡ answered_stage taken since held length }
 {
@@ -207,16 +207,16 @@ fn answered_stage(taken: Option<Taken>, since: u64, held: u32, length: u32) -> S
 /// quarter of a second after the question before, or at once after an answer that brought new
 /// entries and left some of the log. The next desk is followed, after the last one the first, where
 /// a connection isn't opened in two seconds, a question isn't answered in two seconds, the desk has
-/// told for five seconds logs that are shorter than one that was told or than what is held, an
-/// answer brings nothing though the log goes on, or the connection is lost. Connections, too, are
-/// opened a quarter of a second after the last question or opening. Whoever is in a hurry (`hurry`)
-/// has the next question asked at once, where the last one was answered with something of use: over
-/// a new connection, where the last one was closed or lost after that answer.
+/// reported for five seconds logs that are shorter than one that was reported or than what is held,
+/// an answer brings nothing though the log goes on, or the connection is lost. Connections, too,
+/// are opened a quarter of a second after the last question or opening. In a hurry (`hurry`) the
+/// next question is asked at once, where the last one was answered with something of use: over a
+/// new connection, where the last one was closed or lost after that answer.
 ///
 /// A contract sees the number of desks and the number of the one that is followed, what the
-/// connection has come to, how many entries are held, how long the longest log is that was told,
-/// and since when the desk is behind. Times are milliseconds of a clock that doesn't go back; where
-/// it does, the follower waits longer.
+/// connection has come to, how many entries are held, how long the longest log is that was
+/// reported, and since when the desk is behind. Times are milliseconds of a clock that doesn't go
+/// back; where it does, the follower waits longer.
 #[derive(Drop)]
 pub struct Follower {
     desks: u8,
@@ -245,8 +245,8 @@ impl Model for Follower {
 }
 
 impl Follower {
-    /// A follower of so many desks, 1 to 5, where so many entries are held. The first desk comes
-    /// first.
+    /// A follower of this many desks, 1 to 5, where this many entries are held. The first desk
+    /// comes first.
     pub fn new(desks: u8, held: u32) -> Follower
         requires { IsPlace 1 desks }
         ensures { result ≡ new_following desks held }
@@ -329,9 +329,9 @@ impl Follower {
         }
     }
 
-    /// Says that the desk answered the question with entries of its log, which is so long, and what
-    /// came of them: what `mirror::Mirror::take` returned, None where it was refused memory, and
-    /// how many entries are held after it.
+    /// Says that the desk answered the question with entries of its log, which is this long, and
+    /// what came of them: what `mirror::Mirror::take` returned, None where it was refused memory,
+    /// and how many entries are held after it.
     ///
     /// Entries that differ from those that are held stop the follower for good. Otherwise, where no
     /// question was asked or it was answered already, nothing changes.

@@ -39,8 +39,8 @@ pub fn silent_desks_are_left()
     ensures { SilentDesksAreLeft }
 {}
 
-/// A desk is left for the next one where for five seconds each of its answers told a log that was
-/// shorter than one that was told before, by whichever desk, or than what was held.
+/// A desk is left for the next one where for five seconds each of its answers reported a log that
+/// was shorter than one that was reported before, by whichever desk, or than what was held.
 pub fn behind_desks_are_left()
     ensures { BehindDesksAreLeft }
 {}

@@ -3,8 +3,8 @@
 //! A program that keeps a copy of the hall's log follows one desk at a time: it asks it for what
 //! the log has beyond the copy, over a connection that is kept, four times a second. It goes on to
 //! the next desk where this one is silent, is behind, or can't be reached. A `Follower` makes no
-//! system call and has no clock: whoever drives it says what became of the connection and of the
-//! answers, and at what time.
+//! system call and has no clock: its caller says what became of the connection and of the answers,
+//! and at what time.
 #![tactic(auto)]
 
 mod follower;

@@ -19,7 +19,7 @@ pub enum Stage {
     Answered { last: Option<u64> },
     /// It is open and is to be closed: what came for the question of this time brings nothing.
     Useless { last: u64 },
-    /// Two desks of the hall told different entries: nothing is asked any more.
+    /// Two desks of the hall reported different entries: nothing is asked any more.
     Stopped,
 }
 

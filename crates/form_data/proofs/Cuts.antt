@@ -4,7 +4,7 @@ use Rattle.std.proofs.Common.{length, take, drop, Some, None, arith}
 use Rattle.std.specs.List.{starts_with}
 use Rattle.form_data.specs.Cutting.{cut}
 
--- a mark that stands at a place and at none before it
+-- a mark that is at a place and at none before it
 pub cut_at_place : (mark bytes : List ℕ) (i : ℕ) → i < length bytes
     → ((k : ℕ) → k < i → starts_with nat_eq (drop k bytes) mark ≡ false)
     → starts_with nat_eq (drop i bytes) mark ≡ true
@@ -17,7 +17,7 @@ cut_at_place mark (b ∷ bytes) (suc i) within before here =
     cut_at_place mark bytes i (omega arith) (λ k below. before (suc k) (omega arith)) here in
     rw (no, rest) refl
 
--- a mark that stands at no place
+-- a mark that is at no place
 pub cut_nowhere : (mark bytes : List ℕ)
     → ((k : ℕ) → k < length bytes → starts_with nat_eq (drop k bytes) mark ≡ false)
     → cut mark bytes ≡ None

@@ -93,8 +93,8 @@ cut_none true here x later h = absurd cc
 cut_none false here x None h = (refl, refl)
 cut_none false here x (Some p) h = absurd cc
 
--- a mark whose first byte stands in it nowhere else is found where it is put after bytes that have
--- no such mark
+-- a mark whose first byte is in it nowhere else is found where it is put after bytes that have no
+-- such mark
 pub finds_mark : (m : ℕ) (ms front bytes : List ℕ) → is_without m ms ≡ true
     → cut (m ∷ ms) front ≡ None → cut (m ∷ ms) (front ++ (m ∷ ms ++ bytes)) ≡ Some (front, bytes)
 finds_mark m ms [] bytes h none =

@@ -19,7 +19,7 @@ too_short (c ∷ word) [] short = refl
 too_short (c ∷ word) (b ∷ bytes) short =
     rw (← too_short word bytes (omega arith)) (sym (both-false (to_ascii_lowercase b == c)))
 
--- a field whose name stands at a place
+-- a field whose name is at a place
 pub field_here : (name fields : List ℕ) (i : ℕ) → i < length fields
     → begins_as name (drop i fields) ≡ true
     → field_after name (drop i fields) ≡ Some (line_of (drop (length name) (drop i fields)))
@@ -27,7 +27,7 @@ field_here name [] i within here = absurd (omega arith)
 field_here name (b ∷ fields) zero within here = rw here refl
 field_here name (b ∷ fields) (suc i) within here = field_here name fields i (omega arith) here
 
--- a place where the name does not stand
+-- a place where the name is not
 pub field_later : (name fields : List ℕ) (i : ℕ) → i < length fields
     → begins_as name (drop i fields) ≡ false
     → field_after name (drop (suc i) fields) ≡ field_after name (drop i fields)

@@ -83,7 +83,7 @@ kind_plain : (file : File) → IsPlainFile (Some file)
     → is_without 13 (codes "Content-Type: " ++ file.kind) ≡ true
 kind_plain file h = without_both 13 (codes "Content-Type: ") file.kind refl h.1
 
--- What stands between two delimiters has no delimiter.
+-- What is between two delimiters has no delimiter.
 
 -- the end of the header, and the content
 abbrev pub ending : List ℕ → List ℕ

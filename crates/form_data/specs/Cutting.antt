@@ -1,4 +1,4 @@
--- Where a mark stands in bytes.
+-- Where a mark is in bytes (the project's own).
 use Rattle.std.specs.Prelude.{ℕ, ◌==◌, ◌&&◌, ◌||◌, nat_eq, Bool, true, false, if◌then◌else◌, length}
 use Rattle.std.specs.Prelude.{List, [], ◌∷◌, drop, Option, None, Some, option_map}
 use Rattle.std.specs.List.{starts_with}
@@ -8,7 +8,7 @@ use Rattle.std.specs.Char.{to_ascii_lowercase}
 abbrev pub crlf : List ℕ
 crlf = 13 ∷ 10 ∷ []
 
--- what stands before the first place of a mark and after it
+-- what is before the first place of a mark and after it
 abbrev pub cut : List ℕ → List ℕ → Option (List ℕ × List ℕ)
 cut mark [] = None
 cut mark (b ∷ bytes) =
@@ -38,7 +38,7 @@ begins_as [] bytes = true
 begins_as (c ∷ word) [] = false
 begins_as (c ∷ word) (b ∷ bytes) = to_ascii_lowercase b == c && begins_as word bytes
 
--- what stands after a word in lower case, and after the blanks before it
+-- what is after a word in lower case, and after the blanks before it
 abbrev pub after_word : List ℕ → List ℕ → Option (List ℕ)
 after_word word bytes =
     if begins_as word (without_blanks bytes)

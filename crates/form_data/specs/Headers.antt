@@ -25,12 +25,12 @@ abbrev pub value_of : List ℕ → Option (List ℕ)
 value_of [] = Some []
 value_of (b ∷ bytes) = if b == 34 then quoted_value bytes else Some (plain_value (b ∷ bytes))
 
--- the value of the parameter that stands here, or of one that comes later
+-- the value of the parameter that is here, or of one that comes later
 abbrev pub value_here : Option (List ℕ) → Option (List ℕ) → Option (List ℕ)
 value_here None later = later
 value_here (Some bytes) later = value_of bytes
 
--- the value of the first parameter of a name: a parameter stands after a semicolon that is in no
+-- the value of the first parameter of a name: a parameter is after a semicolon that is in no
 -- quotes. The name has its equals sign. The truth says that the bytes begin in quotes.
 abbrev pub parameter : List ℕ → Bool → List ℕ → Option (List ℕ)
 parameter name quoted [] = None
@@ -76,8 +76,8 @@ boundary_of content_type =
     option_and_then as_boundary
     (parameter_of (codes "multipart/form-data") (codes "boundary=") content_type)
 
--- what a field of a name says: what stands on its line after its name. An end of a line is in front
--- of each name.
+-- what a field of a name says: what is on its line after its name. An end of a line is in front of
+-- each name.
 abbrev pub field_after : List ℕ → List ℕ → Option (List ℕ)
 field_after name [] = None
 field_after name (b ∷ bytes) =

@@ -33,8 +33,8 @@ abbrev pub type_line : Option File → List ℕ
 type_line None = []
 type_line (Some file) = crlf ++ (codes "Content-Type: " ++ file.kind)
 
--- what stands after the first dash-boundary: each part and the delimiter after it, and the two
--- dashes of the last delimiter
+-- what is after the first dash-boundary: each part and the delimiter after it, and the two dashes
+-- of the last delimiter
 abbrev pub written_after : List ℕ → List Written → List ℕ
 written_after boundary [] = codes "--" ++ crlf
 written_after boundary (part ∷ parts) =
@@ -44,18 +44,18 @@ written_after boundary (part ∷ parts) =
 abbrev pub written : List ℕ → List Written → List ℕ
 written boundary parts = codes "--" ++ boundary ++ written_after boundary parts
 
--- a byte stands nowhere in bytes
+-- a byte is nowhere in bytes
 abbrev pub is_without : ℕ → List ℕ → Bool
 is_without b bytes = list_all (λ x. not (b == x)) bytes
 
--- a carriage return stands in neither; browsers write %0D for one in a name
+-- a carriage return is in neither; browsers write %0D for one in a name
 abbrev pub IsPlainFile : Option File → Type 0
 IsPlainFile None = Unit {0}
 IsPlainFile (Some file) =
     (is_without 13 file.name ≡ true) × (is_without 13 file.kind ≡ true)
 
 -- a part that can be written with this boundary: its name has no quote and no carriage return, its
--- file's neither, and the delimiter stands nowhere in its content, nor a dash-boundary at its front
+-- file's neither, and the delimiter is nowhere in its content, nor a dash-boundary at its front
 pub record CanWrite (boundary : List ℕ) (part : Written) : Type 0 where
   pub unquoted : is_without 34 part.name ≡ true
   pub one_line : is_without 13 part.name ≡ true

@@ -15,14 +15,14 @@ const MOST_PARTS: usize = 64;
 /// A named part of a body, in the body's memory.
 #[derive(Clone, Copy, Debug)]
 pub struct Part<'a> {
-    /// The name that its Content-Disposition gives, as it stands between the quotes: a browser
-    /// writes `%22` for a quote, `%0D` and `%0A` for an end of a line.
+    /// The name that its Content-Disposition gives, as it is between the quotes: a browser writes
+    /// `%22` for a quote, `%0D` and `%0A` for an end of a line.
     pub name: &'a [u8],
     /// The bytes after its header fields.
     pub content: &'a [u8],
 }
 
-/// What stands after blanks, where it begins with an end of a line.
+/// What is after blanks, where it begins with an end of a line.
 fn at_line_end(bytes: &[u8]) -> Option<&[u8]>
     ensures { option_copied result ≡ at_line_end bytes.now }
 {
@@ -34,7 +34,7 @@ fn at_line_end(bytes: &[u8]) -> Option<&[u8]>
     }
 }
 
-/// A part, from what stands between a delimiter and the next.
+/// A part, from what is between a delimiter and the next.
 fn part_of(bytes: &[u8]) -> Option<Part<'_>>
     ensures { option_map shown result ≡ part_of bytes.now }
 {
@@ -44,7 +44,7 @@ fn part_of(bytes: &[u8]) -> Option<Part<'_>>
     Some(Part { name, content })
 }
 
-/// The part after a delimiter, and what stands after the delimiter that ends it.
+/// The part after a delimiter, and what is after the delimiter that ends it.
 #[tactic(auto, unfolding(crate::specs::Bodies::next_part))]
 fn next_part<'a>(mark: &[u8], bytes: &'a [u8]) -> Option<(Part<'a>, &'a [u8])>
     ensures { option_map (λ x. (shown x.0, x.1.now)) result
@@ -99,7 +99,7 @@ fn parts_after<'a>(
     }
 }
 
-/// What stands after the first delimiter. At the front of a body it has no end of a line.
+/// What is after the first delimiter. At the front of a body it has no end of a line.
 fn after_first<'a>(mark: &[u8], body: &'a [u8]) -> Option<&'a [u8]>
     ensures { option_copied result ≡ after_first mark.now body.now }
 {
@@ -123,13 +123,13 @@ fn delimiter(alloc: Global, boundary: &[u8]) -> Result<Vec<u8>, AllocError>
 }
 
 /// The parts of a body of `multipart/form-data` with this boundary, in order (RFC 2046, section
-/// 5.1.1; RFC 7578, section 4). What stands before the first delimiter and after the last one is
-/// passed over, and so are all fields of a part but its Content-Disposition. The time is linear in
-/// the body, and memory is taken for the list alone.
+/// 5.1.1; RFC 7578, section 4). What is before the first delimiter and after the last one is passed
+/// over, and so are all fields of a part but its Content-Disposition. The time is linear in the
+/// body, and memory is taken for the list alone.
 ///
 /// None where it is no such body: where the first delimiter or the last one is missing, where
-/// something else than blanks stands beside one, where a part has no empty line or no name, and
-/// where there are more than 64 parts. AllocError where memory was refused.
+/// something else than blanks is beside one, where a part has no empty line or no name, and where
+/// there are more than 64 parts. AllocError where memory was refused.
 pub fn parts<'a>(
     alloc: Global,
     boundary: &[u8],

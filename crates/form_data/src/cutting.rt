@@ -1,11 +1,11 @@
-//! Where a mark stands in bytes.
+//! Where a mark is in bytes.
 
 ghost use Rattle.std.specs.Prelude.{◌≡◌, drop, option_map, take};
 ghost use Rattle.std.specs.Option.{option_copied};
 ghost use Rattle.form_data.specs.Cutting.{after_word, begins_as, cut, is_blank, line_of};
 ghost use Rattle.form_data.specs.Cutting.{without_blanks};
 
-/// What stands before the first place of a mark and after it; none where the mark is nowhere.
+/// What is before the first place of a mark and after it; none where the mark is nowhere.
 ///
 /// The mark is compared at every place. All marks here begin with a carriage return and have few
 /// others, so the work is that of the bytes.
@@ -72,8 +72,8 @@ pub fn without_blanks(bytes: &[u8]) -> &[u8]
     &[]
 }
 
-/// What stands after a word in lower case, whatever the case of its letters, and after the blanks
-/// before it; none where another word stands there.
+/// What is after a word in lower case, whatever the case of its letters, and after the blanks
+/// before it; none where another word is there.
 pub fn after_word<'a>(word: &[u8], bytes: &'a [u8]) -> Option<&'a [u8]>
     ensures { option_copied result ≡ after_word word.now bytes.now }
 {

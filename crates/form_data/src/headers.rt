@@ -44,7 +44,7 @@ fn plain_value(bytes: &[u8]) -> &[u8]
     front(end, bytes)
 }
 
-/// The value of a parameter, quoted or not, from what stands after its equals sign.
+/// The value of a parameter, quoted or not, from what is after its equals sign.
 fn value_of(bytes: &[u8]) -> Option<&[u8]>
     ensures { option_copied result ≡ value_of bytes.now }
 {
@@ -58,8 +58,8 @@ fn value_of(bytes: &[u8]) -> Option<&[u8]>
     }
 }
 
-/// The value of the first parameter of a name, which has its equals sign. A parameter stands after
-/// a semicolon that is in no quotes.
+/// The value of the first parameter of a name, which has its equals sign. A parameter is after a
+/// semicolon that is in no quotes.
 fn parameter<'a>(name: &[u8], bytes: &'a [u8]) -> Option<&'a [u8]>
     ensures { option_copied result ≡ parameter name.now false bytes.now }
 {
@@ -79,7 +79,7 @@ fn parameter<'a>(name: &[u8], bytes: &'a [u8]) -> Option<&'a [u8]>
     None
 }
 
-/// The value of a parameter, where parameters stand there.
+/// The value of a parameter, where parameters are there.
 fn parameter_after<'a>(name: &[u8], more: &'a [u8]) -> Option<&'a [u8]>
     ensures { option_copied result ≡ parameter_after name.now more.now }
 {
@@ -168,8 +168,8 @@ pub fn boundary_of(content_type: &[u8]) -> Option<&[u8]>
     }
 }
 
-/// What a field of a name says: what stands on its line after its name. The name is given in lower
-/// case with an end of a line before it and a colon after it.
+/// What a field of a name says: what is on its line after its name. The name is given in lower case
+/// with an end of a line before it and a colon after it.
 fn field_after<'a>(name: &[u8], fields: &'a [u8]) -> Option<&'a [u8]>
     ensures { option_copied result ≡ field_after name.now fields.now }
 {
@@ -183,7 +183,7 @@ fn field_after<'a>(name: &[u8], fields: &'a [u8]) -> Option<&'a [u8]>
 }
 
 /// The name that the fields of a part say, by `Content-Disposition: form-data; name="..."`. An end
-/// of a line stands before each field.
+/// of a line is before each field.
 pub fn name_in(fields: &[u8]) -> Option<&[u8]>
     ensures { option_copied result ≡ name_in fields.now }
 {

@@ -8,8 +8,8 @@ pub const MOST_ENTRANTS: u16 = 999;
 pub enum Advance {
     /// Nobody: the round is the event's last.
     Final,
-    /// So many competitors, 1 to 999.
+    /// This many competitors, 1 to 999.
     Top(u16),
-    /// So many in a hundred of the round's competitors, 1 to 75.
+    /// This many in a hundred of the round's competitors, 1 to 75.
     Percent(u8),
 }

@@ -1,4 +1,4 @@
--- What is delivered stands in records that fit under one of the hall's keys.
+-- What is delivered is in records that fit under one of the hall's keys.
 use Rattle.std.proofs.Common.{◌≡◌, refl, sym, ap, subst, ◌∙◌, ℕ, List, [], ◌∷◌, ◌++◌, Option, None}
 use Rattle.std.proofs.Common.{Some, Bool, true, false, append_assoc, inl, inr}
 use Rattle.std.specs.Prelude.{IsTrue, if◌then◌else◌, option_map}

@@ -127,7 +127,7 @@ turns_hold doors server start a b turns came sent begun h follow =
 
 -- ---- the frame that is begun next
 
--- it stands next in what was let in
+-- it is next in what was let in
 pub record BeginsAt (handed : List ℕ) (begun : List Begun) (one : Begun) : Type 0 where
   pub more : List ℕ
   pub whole : handed ≡ flat_map spelling (frames_of begun) ++ (spelling one.frame ++ more)

@@ -1,4 +1,4 @@
--- What follows of the turns of a guarded connection.
+-- What follows of the turns of a guarded connection (the project's own).
 use Rattle.std.specs.Prelude.{◌≡◌, ◌⊎◌, ℕ, Bool, true, false, List, [], ◌∷◌, ◌++◌, length, Option}
 use Rattle.std.specs.Prelude.{None, Some, IsSome, IsTrue}
 use Rattle.std.specs.List.{AllByRecursion, flat_map}
@@ -55,8 +55,8 @@ abbrev pub AreAllowed : Doors → Option Caller → List Begun → Type 0
 AreAllowed doors who begun = AllByRecursion (λ (one : Begun). IsAllowed doors who one) begun
 
 -- What came, as far as it was read, was let in as the doors admit it. What was sent is the desk's
--- preface, where there is one, and then the answers, sealed as the stream of whoever calls. Each
--- frame was begun as one of whoever calls.
+-- preface, where there is one, and then the answers, sealed as the stream of the caller. Each frame
+-- was begun as one of the caller.
 pub record IsGuardedStream (doors : Doors) (server : List ℕ) (g : Guarding)
     (came sent handed answers : List ℕ) (begun : List Begun) : Type 0 where
   pub who : Option Caller
@@ -70,7 +70,7 @@ pub record IsGuardedStream (doors : Doors) (server : List ℕ) (g : Guarding)
   pub sends : IsSent doors server front who answers body
   pub allowed : AreAllowed doors who begun
 
--- The stream is so, and the frames begun stand first in what was let in, and are served.
+-- The stream is so, and the frames begun are first in what was let in, and are served.
 pub record IsGuarded {V : Type 0} {way : Way V} (home : Home) (doors : Doors) (server : List ℕ)
     (a b : Place way) (came sent : List ℕ) (begun : List Begun) : Type 0 where
   pub handed : List ℕ
@@ -111,7 +111,7 @@ abbrev pub IsHallKey : Locks → List ℕ → Type 0
 IsHallKey locks key = (key ≡ locks.hall) ⊎ ((locks.old ≡ true) × (locks.entry ≡ Some key))
 
 -- What came is a client's preface, records whose tags fit under one of the hall's keys, numbered
--- from 0, and a rest; and in the bodies of these records stands this frame, after those before it.
+-- from 0, and a rest; and in the bodies of these records is this frame, after those before it.
 pub record IsUnderHall (locks : Locks) (server came : List ℕ) (earlier : List Begun) (one : Begun)
     : Type 0 where
   pub key : List ℕ
@@ -127,8 +127,8 @@ pub record IsUnderHall (locks : Locks) (server came : List ℕ) (earlier : List 
   pub inside : joined bodies
       ≡ flat_map spelling (frames_of earlier) ++ (spelling one.frame ++ more)
 
--- At a desk with a key, each frame that delivers a message stands in records that fit under one of
--- the hall's keys, of what came before the frame was begun.
+-- At a desk with a key, each frame that delivers a message is in records that fit under one of the
+-- hall's keys, of what came before the frame was begun.
 abbrev pub DeliversUnderHall : {V : Type 0} → DeskOf V → Type 0
 DeliversUnderHall d =
     (home : Home) (wire : Version) (locks : Locks) (server : List ℕ) (earlier later : List Turn)

@@ -1,4 +1,5 @@
--- The turns of a guarded connection, however its pieces are cut and what it sends is taken.
+-- The turns of a guarded connection, however its pieces are cut and what it sends is taken (the
+-- project's own).
 use Rattle.std.specs.Prelude.{◌≡◌, List, [], ◌∷◌, ◌++◌, length}
 use Rattle.answers.specs.Seen.{Seen}
 use Rattle.sealed.specs.Calls.{caller_of}
@@ -16,7 +17,7 @@ pub record Place {V : Type 0} (way : Way V) : Type 0 where
   pub seen : Seen
   pub outside : Outside way
 
--- the connection that serves what is let in, where it stands so, with that node
+-- the connection that serves what is let in, where it is so, with that node
 abbrev pub with_talk : {V : Type 0} → {way : Way V} → Place way → Talk → TurnLaw.Place way
 with_talk a talk = record { talk = talk; seen = a.seen; outside = a.outside }
 

@@ -1,4 +1,5 @@
--- A connection behind its door: what it has between two turns, and what each call does.
+-- A connection behind its door: what it has between two turns, and what each call does (the
+-- project's own).
 use Rattle.std.specs.Prelude.{◌≡◌, ◌≢◌, ◌⊎◌, ℕ, ◌&&◌, not, Bool, true, false, List, [], ◌∷◌}
 use Rattle.std.specs.Prelude.{length, drop, Option, None, Some}
 use Rattle.answers.specs.declared.desk.Desk.{Ghosts as DeskOf}
@@ -124,14 +125,14 @@ Receives piece old new = Starves old new ⊎ ((more : List ℕ) × LetsIn piece 
 
 -- ---- a frame is begun
 
--- whoever calls is let in without a key
+-- the caller is let in without a key
 abbrev pub is_plain : Option Caller → Bool
 is_plain (Some Anyone) = true
 is_plain (Some Passer) = true
 is_plain (Some (caller.Holder key)) = false
 is_plain None = false
 
--- whoever calls has a key of the desk
+-- the caller has a key of the desk
 abbrev pub has_key : Option Caller → Bool
 has_key (Some Anyone) = false
 has_key (Some Passer) = false
@@ -154,7 +155,7 @@ pub record Seals (served : Talk) (old new : Guarding) : Type 0 where
 abbrev pub Answers : Talk → Guarding → Guarding → Type 0
 Answers served old new = Loses served old new ⊎ Seals served old new
 
--- all that was let in is served: now a fault that stands after it ends the connection
+-- all that was let in is served: now a fault that is after it ends the connection
 pub record RunsOut (old new : Guarding) : Type 0 where
   pub free : IsFree old
   pub talk : Turns.RunsOut old.talk new.talk
@@ -173,11 +174,11 @@ pub record Moment (V U : Type 0) : Type 0 where
 abbrev pub moment : {V U : Type 0} → V → U → Guarding → Moment V U
 moment node peers guard = record { node = node; peers = peers; guard = guard }
 
--- the moment of the connection within, where it stands so
+-- the moment of the connection within, where it is so
 abbrev pub within_at : {V U : Type 0} → Moment V U → Talk → Turns.Moment V U
 within_at m talk = Turns.moment m.node m.peers talk
 
--- a turn in which a frame is begun, as far as whoever calls may ask, or none is, where another desk
+-- a turn in which a frame is begun, as far as the caller may ask, or none is, where another desk
 -- differs so or none does
 abbrev pub Advances : {V U : Type 0} → DeskOf V → PeersOf U → Option Difference → Bool
     → Moment V U → Moment V U → Type 0
@@ -190,7 +191,7 @@ Advances d p differs false a b = (b.node ≡ a.node) × (b.peers ≡ a.peers) ×
 
 -- ---- what is sent is taken
 
--- so many bytes of what was to be sent were taken
+-- this many bytes of what was to be sent were taken
 abbrev pub after_sent : Guarding → ℕ → Guarding
 after_sent g count = record {
   called = g.called;

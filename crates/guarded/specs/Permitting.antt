@@ -1,4 +1,4 @@
--- What whoever calls may ask of a desk.
+-- What the caller may ask of a desk (the project's own).
 use Rattle.std.specs.Prelude.{Option, None, Some, if◌then◌else◌}
 use Rattle.sealed.specs.declared.callers.Caller.{Caller}
 use Rattle.sealed.specs.declared.callers.Caller.TheVariants.{Anyone, Passer}

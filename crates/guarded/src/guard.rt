@@ -38,7 +38,7 @@ fn greets(refusal: Option<Refusal>, before: bool, now: bool) -> bool
 /// be sent over the stream. It makes no system call.
 ///
 /// Where the desk has keys, it sends its preface once that of the client is whole, or once it
-/// refuses a stream that is not sealed, so that whoever has no key knows that one is asked for.
+/// refuses a stream that is not sealed, so that a client without a key knows that one is asked for.
 /// What is sent to a holder of a key is records of the answers, and to anyone else the answers
 /// themselves. Of a stream of which a record doesn't fit what stood before it is served, and then
 /// the connection is done.
@@ -117,7 +117,7 @@ fn seal_answer(called: &mut Called, talk: &mut Connection) -> Option<Vec<u8>>
     }
 }
 
-/// Takes an answer whole, and gives what is sent of it: to whoever is let in without a key the
+/// Takes an answer whole, and gives what is sent of it: to a caller who is let in without a key the
 /// answer itself, and else records of it. None: memory was refused, or there is no number for a
 /// record. Then the answer is still there.
 fn take_answer(called: &mut Called, talk: &mut Connection) -> Option<Vec<u8>>
@@ -188,7 +188,7 @@ impl Guard {
         self.called.begun()
     }
 
-    /// Whether whoever calls has a key of the desk.
+    /// Whether the caller has a key of the desk.
     pub fn has_key(&self) -> bool
         ensures { result ≡ has_key (caller_of self.now.called) }
     {
@@ -224,7 +224,7 @@ impl Guard {
         }
     }
 
-    /// What whoever calls may ask of the desk.
+    /// What the caller may ask of the desk.
     pub fn permission(&self) -> Permission
         ensures { result ≡ permission_of self.now.called.doors (caller_of self.now.called) }
     {
@@ -267,9 +267,9 @@ impl Guard {
     }
 
     /// Serves the next frame, if one waits, the connection is open, and nothing is still to be
-    /// sent, and returns whether it did. It is served as far as whoever calls may ask, and no
-    /// command is taken where another desk `differs`. Call it after each piece, and each time that
-    /// all was sent, until it returns false.
+    /// sent, and returns whether it did. It is served as far as the caller may ask, and no command
+    /// is accepted where another desk `differs`. Call it after each piece, and each time that all
+    /// was sent, until it returns false.
     pub fn advance<D: Desk, P: Peers>(
         &mut self,
         node: &mut D,
@@ -313,7 +313,7 @@ impl Guard {
         !self.output().is_empty()
     }
 
-    /// Says that so many bytes of the output were sent.
+    /// Says that this many bytes of the output were sent.
     pub fn sent(&mut self, count: usize)
         requires { count ≤ length self.old.output }
         ensures { self.new ≡ after_sent self.old count }

@@ -1,6 +1,5 @@
 //! A connection behind its door: what comes over it is let in as the desk's keys have it, what is
-//! let in is served as far as whoever calls may ask, and the answers are sealed for a holder of a
-//! key.
+//! let in is served as far as the caller may ask, and the answers are sealed for a holder of a key.
 //!
 //! `sealed` knows no frames, and `serving` knows no keys: here they meet. A guarded connection has
 //! the calls of a `serving::Connection`, over the bytes of the stream itself.

@@ -1,4 +1,4 @@
-//! What whoever calls may ask of a desk.
+//! What the caller may ask of a desk.
 
 ghost use Rattle.std.specs.Prelude.{◌≡◌};
 ghost use Rattle.guarded.specs.Permitting.{permission_of, second_permission};
@@ -23,8 +23,8 @@ fn second_permission(doors: Doors) -> Permission
     }
 }
 
-/// What whoever calls may ask of a desk behind these doors: everything, where it asks for no key
-/// and under the hall's key; what is said above, under the second key; and what changes nothing,
+/// What the caller may ask of a desk behind these doors: everything, where it asks for no key and
+/// under the hall's key; what is said above, under the second key; and what changes nothing,
 /// without a key, or as long as nobody is let in.
 pub fn permission_of(doors: Doors, caller: Option<Caller>) -> Permission
     ensures { result ≡ permission_of doors caller }

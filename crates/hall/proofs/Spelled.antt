@@ -24,7 +24,7 @@ use Rattle.hall.specs.model.Events.{IsSubmit, before, events_of, are_events}
 
 -- ---- what is read of a line is what it spells
 
--- an event that is read of what stands after a word is spelled by both
+-- an event that is read of what is after a word is spelled by both
 abbrev SpellsBehind : ℕ → List ℕ → Option (List ℕ) → WorldEvent → Type 0
 SpellsBehind n word left e = Spells n (word ++ behind 32 left) e
 
@@ -294,7 +294,7 @@ script_of n (line ∷ lines) small = step (event_of n line) refl (script_of n li
           },
         )
 
--- so many lines are left
+-- this many lines are left
 pub script_length : (n : ℕ) (lines : List (List ℕ)) (es : List WorldEvent)
     (others : List (List ℕ))
     → HasEvents n lines es others → length lines ≡ length es + length others

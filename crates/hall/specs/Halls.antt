@@ -1,4 +1,4 @@
--- What a hall of desks writes for its script, and how it ends.
+-- What a hall of desks writes for its script, and how it ends (the project's own).
 use Rattle.std.specs.Prelude.{◌≡◌, ℕ, ◌+◌, true, false, ◌==◌, ◌&&◌, if◌then◌else◌, List, [], ◌∷◌}
 use Rattle.std.specs.Prelude.{◌++◌, length, flat_map, Option}
 use Rattle.std.specs.List.{range_with_len}

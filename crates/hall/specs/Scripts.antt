@@ -1,4 +1,5 @@
--- The lines of a script: how the events of a hall are spelled, and which lines spell one.
+-- The lines of a script: how the events of a hall are spelled, and which lines spell one (the
+-- project's own).
 use Rattle.std.specs.Prelude.{◌≡◌, ◌≤◌, ℕ, List, ◌∷◌, [], ◌++◌, map, codes, decimal, Option, None}
 use Rattle.std.specs.Prelude.{Some}
 use Rattle.acceptor.specs.Entries.{EntryValue, IsId, IsText}

@@ -1,5 +1,5 @@
--- What is printed of a hall: a line for each message, for each refusal, and for each entry of a
--- log.
+-- What is printed of a hall: a line for each message, for each refusal, and for each entry of a log
+-- (the project's own).
 use Rattle.std.specs.Prelude.{ℕ, ◌+◌, List, [], ◌++◌, drop, flat_map, codes, decimal, Option, None}
 use Rattle.std.specs.Prelude.{Some}
 use Rattle.std.specs.List.{enumerate_from}

@@ -38,8 +38,8 @@ fn happen(
     push_refusal(out, world.done(), world.refused())
 }
 
-/// Does the event of a line, which stands after those that were done, and adds what is printed for
-/// it. False where the line spells none; then nothing is done.
+/// Does the event of a line, which is after those that were done, and adds what is printed for it.
+/// False where the line spells none; then nothing is done.
 fn do_line(
     alloc: Global,
     world: &mut World,
@@ -166,8 +166,8 @@ fn write_logs<W: Write>(
 /// space, and numbers are decimal without leading zeros.
 ///
 /// The k-th message that is sent is written as `m<k> <from> <to>`, its kind and its fields, and a
-/// refused event as `refused <line> <fault>`. At the end stands a line for each entry of each
-/// desk's log: `desk <d> <pos> <id> <text>`.
+/// refused event as `refused <line> <fault>`. At the end is a line for each entry of each desk's
+/// log: `desk <d> <pos> <id> <text>`.
 ///
 /// # Errors
 ///

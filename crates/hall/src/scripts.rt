@@ -107,10 +107,10 @@ fn event_of_word(
     }
 }
 
-/// The event that a line spells in a hall of so many desks: `submit D ID TEXT`, `start D`,
-/// `tick D`, `deliver K` or `restart D`, where D is the number of a desk, ID is 1 to 2^63 - 1, TEXT
-/// has at most 600 bytes, and K is 1 to 999,999,999. Fields are parted by one space, and numbers
-/// are decimal without leading zeros. `None` where the line is the spelling of no event.
+/// The event that a line spells in a hall of this many desks: `submit D ID TEXT`, `start D`, `tick
+/// D`, `deliver K` or `restart D`, where D is the number of a desk, ID is 1 to 2^63 - 1, TEXT has
+/// at most 600 bytes, and K is 1 to 999,999,999. Fields are parted by one space, and numbers are
+/// decimal without leading zeros. `None` where the line is the spelling of no event.
 ///
 /// # Errors
 ///

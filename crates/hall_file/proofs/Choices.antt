@@ -75,7 +75,7 @@ or_step : (b later : Bool) → (b || later) ≡ true → (b ≡ true → ⊥) �
 or_step true later e none = absurd (none refl)
 or_step false later e none = e
 
--- of distinct texts none stands in front of itself
+-- of distinct texts none is in front of itself
 apart_front : (front : List (List ℕ)) (text : List ℕ) (rest : List (List ℕ))
     → IsDistinct bytes_eq (front ++ text ∷ rest) → list_any (bytes_eq text) front ≡ true → ⊥
 apart_front [] text rest distinct found = false≢true found

@@ -80,7 +80,7 @@ has_item d items i front item k value count read within at desk =
       desk = desk;
     }
 
--- an item that cannot stand there
+-- an item that cannot be there
 pub fails_here : (d : Data) (items : List Value) (i : ℕ) (front : List (List ℕ)) (item : Value)
     (fault : DesksFault)
     → d ≡ list_of (map view items) → IsTrue (is_count (length items))

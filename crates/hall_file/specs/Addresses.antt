@@ -1,4 +1,4 @@
--- The address of a desk, HOST:PORT, and the addresses of a hall.
+-- The address of a desk, HOST:PORT, and the addresses of a hall (the project's own).
 use Rattle.std.specs.Prelude.{◌≡◌, ◌≢◌, ◌≤◌, ◌<◌, ℕ, ◌==◌, ◌||◌, Bool, not, ◌&&◌, IsTrue, decimal}
 use Rattle.std.specs.Prelude.{List, [], ◌∷◌, ◌++◌, bytes_eq}
 use Rattle.std.specs.List.{list_all, AllByRecursion, IsDistinct}

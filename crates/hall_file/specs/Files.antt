@@ -1,4 +1,4 @@
--- The file of a hall: what it says, and why a file says nothing.
+-- The file of a hall: what it says, and why a file says nothing (the project's own).
 use Rattle.std.specs.Prelude.{◌≡◌, ◌≤◌, ◌<◌, ℕ, pos, List, map, length, Option, Some, None, Ok}
 use Rattle.std.specs.Prelude.{Err}
 use Rattle.std.specs.Prelude.{string_bytes}
@@ -25,7 +25,7 @@ pub record Opens (bytes : List ℕ) (ms : Members) : Type 0 where
   pub short : length bytes ≤ most_bytes
   pub document : IsDocument bytes ms
 
--- no member stands there but `hall`, `desks` and `key`
+-- no member is there but `hall`, `desks` and `key`
 pub record IsKnown (bytes : List ℕ) (ms : Members) : Type 0 where
   pub opens : Opens bytes ms
   pub known : unknown_name ms ≡ None

@@ -1,4 +1,4 @@
--- The file of a hall as the program has it.
+-- The file of a hall as the program has it (the project's own).
 use Rattle.std.specs.Prelude.{◌≡◌, ℕ, zero, suc, List, [], map, Option, None, String, Vec}
 use Rattle.std.specs.Prelude.{option_map, string_bytes, slice_get, unwrap_or}
 use Rattle.std.specs.Path.{path_parent}

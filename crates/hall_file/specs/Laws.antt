@@ -1,4 +1,4 @@
--- What a file says, and why it is refused, leave no choice.
+-- What a file says, and why it is refused, leave no choice (the project's own).
 use Rattle.std.specs.Prelude.{◌≡◌, ℕ, List, Option}
 use Rattle.hall_file.specs.Files.{SaysHall, Refuses}
 use Rattle.hall_file.specs.declared.fault.HallFault.{HallFault}

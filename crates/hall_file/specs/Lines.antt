@@ -1,4 +1,4 @@
--- The lines of a file, and the line on which a member begins.
+-- The lines of a file, and the line on which a member begins (the project's own).
 use Rattle.std.specs.Prelude.{◌≡◌, ◌≤◌, ◌<◌, ◌+◌, ◌-◌, ℕ, ◌==◌, ◌⊎◌, List, length, take}
 use Rattle.std.specs.Prelude.{slice_index, count_by, Some, None}
 use Rattle.std.specs.Str.{IsUtf8}
@@ -8,7 +8,7 @@ use Rattle.toml.specs.Parse.{parse_document}
 abbrev pub line_feed : ℕ
 line_feed = 10
 
--- the number, from 1, of the line on which this byte stands: a line ends with its line feed
+-- the number, from 1, of the line on which this byte is: a line ends with its line feed
 abbrev pub line_at : List ℕ → ℕ → ℕ
 line_at bytes place = 1 + count_by (λ b. b == line_feed) (take place bytes)
 

@@ -1,5 +1,5 @@
 -- What the members of a hall's file say: the hall's number, the addresses of its desks, and where
--- its key is.
+-- its key is (the project's own).
 use Rattle.std.specs.Prelude.{◌≡◌, ◌+◌, ℕ, pos, negsuc, ◌||◌, true, false, IsTrue}
 use Rattle.std.specs.Prelude.{if◌then◌else◌, nat_le, List, [], ◌∷◌, ◌++◌, map, length, codes}
 use Rattle.std.specs.Prelude.{bytes_eq}
@@ -65,7 +65,7 @@ pub record HasItem (d : Data) (front : List (List ℕ)) (item : Data) (k : ℕ) 
   pub addresses : AreAddresses front
   pub desk : k ≡ length front + 1
 
--- why the value is no list of a hall's desks: the first item that cannot stand there is told
+-- why the value is no list of a hall's desks: the first item that cannot be there is told
 abbrev pub FailsDesks : Data → DesksFault → Type 0
 FailsDesks d NotList = as_array d ≡ None
 FailsDesks d (BadCount n) =

@@ -1,5 +1,5 @@
 -- One item of the list of desks, after those in front of it: what the clauses of the private
--- functions that read the list cite.
+-- functions that read the list cite (the project's own).
 use Rattle.std.specs.Prelude.{◌≡◌, ◌+◌, ℕ, List, length, bytes_eq, true, false, None}
 use Rattle.std.specs.List.{list_any}
 use Rattle.toml.specs.Data.{Data, string, as_str}

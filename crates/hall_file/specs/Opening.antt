@@ -1,4 +1,4 @@
--- Why the file at a path gives no hall.
+-- Why the file at a path gives no hall (the project's own).
 use Rattle.std.specs.Prelude.{◌≡◌, ℕ, List}
 use Rattle.hall_file.specs.Files.{Refuses}
 use Rattle.hall_file.specs.declared.opening.OpenFault.{OpenFault}

@@ -5,7 +5,7 @@ ghost use Rattle.hall_file.specs.Addresses.{is_host_char, IsHost, IsPort, IsAddr
 
 use itoa::Buffer;
 
-/// Whether a character may stand in a host.
+/// Whether a character may be in a host.
 fn is_host_char(c: char) -> bool
     ensures { result ≡ is_host_char c }
 {
@@ -30,7 +30,7 @@ fn is_port(text: &str) -> bool
     port > 0 && buffer.format(port) == text
 }
 
-/// Whether a text is the address of a desk, `HOST:PORT`. The port stands behind the last colon.
+/// Whether a text is the address of a desk, `HOST:PORT`. The port is behind the last colon.
 pub fn is_address(text: &str) -> bool
     ensures { IsTrue result ↔ IsAddress text.now }
 {

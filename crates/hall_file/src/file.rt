@@ -125,9 +125,9 @@ fn read_key(alloc: Global, bytes: &[u8], table: &Table) -> Result<Option<String>
 ///     key = "hall.key"
 ///
 /// `hall` is 0 to 4,294,967,295. `desks` has the addresses of three or five desks, desk 1 first,
-/// each `HOST:PORT` with a port 1 to 65,535. No text stands there twice. `key` may be left out: it
-/// is the path of the file with the hall's key, and not empty. There is no other member. A
-/// byte-order mark at the front is dropped.
+/// each `HOST:PORT` with a port 1 to 65,535. No text is there twice. `key` may be left out: it is
+/// the path of the file with the hall's key, and not empty. There is no other member. A byte-order
+/// mark at the front is dropped.
 ///
 /// # Errors
 ///
@@ -138,7 +138,7 @@ fn read_key(alloc: Global, bytes: &[u8], table: &Table) -> Result<Option<String>
 /// - `Unknown` where it has another member: the first in the order of the names' bytes.
 /// - `Missing`, and then `Hall`, where `hall` is not there or is no such number.
 /// - `Missing`, and then `Desks`, where `desks` is not there or is no such list. The number of its
-///   items comes first, then the first item that cannot stand there.
+///   items comes first, then the first item that cannot be there.
 /// - `Key` where `key` is there and is no text, or is empty.
 ///
 /// `NoMemory` where memory ran out. The line of a fault is where the member begins: the line after

@@ -7,7 +7,7 @@ ghost use Rattle.hall_file.specs.Lines.{IsWithout, BeginsAt, IsLineOf, line_at, 
 
 use std::alloc::{AllocError, Global};
 
-/// The number of the line on which a byte stands.
+/// The number of the line on which a byte is.
 pub(crate) fn line_at(bytes: &[u8], place: usize) -> usize
     requires short { length bytes.now ≤ most_bytes }
     requires within { place ≤ length bytes.now }

@@ -27,7 +27,7 @@ fn value_of(alloc: Global, texts: &[&str]) -> Result<Value, AllocError>
 /// # Errors
 ///
 /// - `Fault` where these are not the addresses of a hall's desks, as the list of a hall's file: the
-///   number of addresses comes first, then the first one that cannot stand there.
+///   number of addresses comes first, then the first one that cannot be there.
 /// - `NoMemory` where memory runs out.
 pub fn hall_of_addresses(
     alloc: Global,

@@ -42,7 +42,7 @@ pub struct Service<'a> {
     pub entry_key: Option<&'a str>,
     /// The path of the file with the key that was the hall's, in the place of the entry key.
     pub old_key: Option<&'a str>,
-    /// Whether whoever has no key may ask for sheets, which is said beside the hall's key.
+    /// Whether callers without a key may ask for sheets, which is said beside the hall's key.
     pub open_sheets: bool,
     /// Where the desks of the hall listen, in the order of their numbers.
     pub addresses: &'a [&'a str],

@@ -22,7 +22,7 @@ use Rattle.serving.specs.Telling.{run_frame, entries_said}
 use Rattle.serving.specs.declared.request.Request.{Request}
 use Rattle.serving.specs.declared.request.Run.{Run}
 
--- a frame is read where its spelling stands
+-- a frame is read where its spelling is
 abbrev pub ReadWhereSpelled : Type 0
 ReadWhereSpelled =
     (bytes : List ℕ) (f : Frame) (rest : List ℕ) → AreBytes bytes → IsReadWhereSpelled bytes f rest

@@ -1,4 +1,4 @@
--- What stands in a desk and in what it hands out, after a step.
+-- What is in a desk and in what it hands out, after a step.
 use Rattle.std.proofs.Common.{ℕ, ◌==◌, ◌++◌, Bool, true, false, if◌then◌else◌, [], ◌∷◌}
 use Rattle.std.proofs.Common.{Some, None, Option, Result, Ok, Err, length, ◌≡◌, ◌⊎◌, inl, inr}
 use Rattle.std.proofs.Common.{subst, sym, arith}

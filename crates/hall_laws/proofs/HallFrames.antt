@@ -27,7 +27,7 @@ use Rattle.hall_laws.proofs.HallTurns.{with_station, takes_turn}
 
 -- ---- one connection
 
--- a connection on which so many frames were begun: these wait, and this is to be taken
+-- a connection on which this many frames were begun: these wait, and this is to be taken
 abbrev pub talk_with : Home → Version → List Frame → ℕ → List ℕ → Talk
 talk_with home wire waiting frames pending = record {
   home = home;

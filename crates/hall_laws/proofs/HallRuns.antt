@@ -137,7 +137,7 @@ hall_messages_are_named k law n h ss at step is here =
 
 -- ---- moments
 
--- these, and so many more
+-- these, and this many more
 pub past : List Happening → ℕ → ℕ
 past [] m = m
 past (x ∷ xs) m = suc (past xs m)
@@ -198,7 +198,7 @@ steps_taken k n h [] (suc i) is = is
 steps_taken k n h (s ∷ ss) zero is = tt
 steps_taken k n h (s ∷ ss) (suc i) is = (is.0, steps_taken k n s.after ss i is.1)
 
--- what stands among the first of these happenings stands among them all
+-- what is among the first of these happenings is among them all
 pub got_submit : (e : Entry) (j m at : ℕ) (hs : List Happening)
     → slice_get (take m hs) at ≡ Some (Answered (SubmitAt j e)) → HasSubmit e hs
 got_submit e j zero at [] is = absurd (let none : None ≡ Some (Answered (SubmitAt j e)) = is in cc)

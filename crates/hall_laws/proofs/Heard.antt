@@ -18,7 +18,7 @@ use Rattle.hall_laws.specs.Differing.{TellsShorter}
 
 -- ---- an entry
 
--- another entry stands there
+-- another entry is there
 other_stands : (told : Entry) (o : Option Entry) → is_other told o ≡ true
     → (there : Entry) × (o ≡ Some there) × (there ≢ told)
 other_stands told None h = absurd cc
@@ -36,7 +36,7 @@ is_other_there told there other = go (is_same_entry there told) refl
     go false h = refl
     go true h = absurd (other (same_entry there told h))
 
--- one of the entries that are told from a position on is another one than stands there
+-- one of the entries that are told from a position on is another one than is there
 abbrev IsOtherAt : ℕ → ℕ → List Entry → List Entry → Difference → Type 0
 IsOtherAt desk pos es log d =
     (index : ℕ) × (told : Entry) × (there : Entry)

@@ -43,7 +43,7 @@ use Rattle.replica.specs.Lengths.{length_told}
 
 -- ---- what is said
 
--- a message tells of no more than so many entries, and a Behind tells of just so many
+-- a message tells of no more than this many entries, and a Behind tells of just this many
 abbrev pub Says : ℕ → Body → Type 0
 Says len (Prepare b pos) = Unit {0}
 Says len (Promise b pos vote) = Unit {0}

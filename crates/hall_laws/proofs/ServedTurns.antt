@@ -195,7 +195,7 @@ own_first d (x ∷ ws) m rest is = go (x.to == d) refl is (λ e. own_first d ws 
     go true e q ih = sym (ap (λ z. head_to z) q) ∙ e
     go false e q ih = ih q
 
--- where the service of a request stands once all is delivered that is
+-- where the service of a request is once all is delivered that is
 pub record MirrorsEnd (d : ℕ) (W : World) (s : Service) (e : Settled) : Type 0 where
   pub at : Mirrors d W e.world s []
   pub left : s.left ≡ e.left

@@ -394,8 +394,7 @@ submitted_there n real w (Stopped false e' ∷ hs) (t ∷ there) k (suc at) d e 
     (submitted_there n (goes_on n real (Stopped false e'))
     (run n w (group real (Stopped false e') t)) hs there k.2 at d e is taken)
 
--- what stands in a log was submitted, by a call that was answered or in which the desk stopped
--- later
+-- what is in a log was submitted, by a call that was answered or in which the desk stopped later
 submitted_by : LogsAreSubmitted → (n : ℕ) (hs : List Happening) (d pos : ℕ) (e : Entry)
     → slice_get ((real_run n new_world hs).desks d).log pos ≡ Some e → Submits n new_world hs e
 submitted_by submitted n hs d pos e is =

@@ -1,4 +1,4 @@
--- What a desk is given of a frame that another desk of its hall has pushed.
+-- What a desk is given of a frame that another desk of its hall has pushed (the project's own).
 use Rattle.std.specs.Prelude.{◌≡◌, ℕ, ◌+◌, List, [], ◌∷◌, ◌++◌}
 use Rattle.acceptor.specs.declared.entry.Entry.{Entry}
 use Rattle.acceptor.specs.declared.message.Message.{Message}

@@ -1,4 +1,4 @@
--- A run of three desks that decides an entry, and a mirror that is answered it.
+-- A run of three desks that decides an entry, and a mirror that is answered it (the project's own).
 use Rattle.std.specs.Prelude.{ℕ, List, [], ◌∷◌, Some}
 use Rattle.mirror.specs.declared.mirror.Taken.TheVariants.{Grew}
 use Rattle.progress.specs.Tangle.{entry}
@@ -15,7 +15,7 @@ use Rattle.hall_laws.specs.mirrors.HallMirrors.{MirrorsHall}
 abbrev pub log_frame : Frame
 log_frame = record { version = Three; hall = 7; from = 0; to = 3; what = what.Log 0 }
 
--- the answer of desk 3 after so many steps
+-- the answer of desk 3 after this many steps
 abbrev pub given : ℕ → Given
 given at = record {
   at = at;

@@ -1,4 +1,5 @@
--- Entries that desks of a hall answer, and what they come to, put one after the other.
+-- Entries that desks of a hall answer, and what they come to, put one after the other (the
+-- project's own).
 use Rattle.std.specs.Prelude.{ℕ, ◌≡◌, ◌≤◌, ◌⊎◌, List, [], ◌∷◌, ◌++◌, length, take, Some, slice_get}
 use Rattle.acceptor.specs.declared.entry.Entry.{Entry}
 use Rattle.learner.specs.Laws.{IsPrefix}

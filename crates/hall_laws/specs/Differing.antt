@@ -1,5 +1,5 @@
 -- A desk says that another one differs only where it heard so; and desks of a hall say nothing by
--- which one of them would differ from another.
+-- which one of them would differ from another (the project's own).
 use Rattle.std.specs.Prelude.{ℕ, ◌+◌, ◌-◌, ◌≡◌, ◌≢◌, ◌≤◌, ◌<◌, ◌⊎◌, true, List, [], ◌∷◌, Some}
 use Rattle.std.specs.Prelude.{None, IsOk, IsSome, map, slice_get, slice_index, take}
 use Rattle.std.specs.List.{AllByRecursion}
@@ -33,7 +33,7 @@ use Rattle.hall_laws.specs.OwnMessages.{WereSentTo}
 
 -- ---- what is said was heard
 
--- the frame tells an entry of a position where another one stands
+-- the frame tells an entry of a position where another one is
 pub record TellsOther (log : List Entry) (f : Frame) (d : Difference) : Type 0 where
   pub first : ℕ
   pub entries : List Entry
@@ -80,7 +80,7 @@ HallDecidedsStand {K} k =
     → Sent (hall_after h (take i steps)).sent from (Decided pos e)
     → slice_get (hall_log h steps i d) pos ≡ Some f → f ≡ e
 
--- so of what a frame says was decided, where it was sent, no entry is another one than stands there
+-- so of what a frame says was decided, where it was sent, no entry is another one than is there
 abbrev pub HallRunsAgree : {K : Type 0} → Ghosts K → Type 0
 HallRunsAgree {K} k =
     (n : ℕ) (h : Hall K) (steps : List (HallStep K)) (i d from pos : ℕ) (es : List Entry)
@@ -147,7 +147,7 @@ pub record ComesInOrder {K : Type 0} (home : Home) (h : Hall K) (steps : List (H
       → IsGiven x (delivers (request home f))
       → WereSentInOrder (hall_after h (take i steps)).sent m x
 
--- the lengths that the hall's desks told, after these frames of a connection
+-- the lengths that the hall's desks reported, after these frames of a connection
 abbrev pub known_behind : Home → Permission → List ℕ → List Frame → List ℕ
 known_behind home may known [] = known
 known_behind home may known (f ∷ fs) = known_behind home may (known_after home may known f) fs

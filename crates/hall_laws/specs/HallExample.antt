@@ -1,5 +1,5 @@
 -- A small run of a hall, in full: so there are such runs, and in them a message of one desk comes
--- to another.
+-- to another (the project's own).
 use Rattle.std.specs.Prelude.{◌≡◌, ℕ, false, List, [], ◌∷◌, map, None, Ok}
 use Rattle.acceptor.specs.declared.message.Body.TheVariants.{Behind}
 use Rattle.acceptor.specs.declared.message.Message.{Message}

@@ -1,4 +1,5 @@
--- That desks which serve never come into a state in which a majority of them could not decide.
+-- That desks which serve never come into a state in which a majority of them could not decide (the
+-- project's own).
 use Rattle.std.specs.Prelude.{◌≡◌, ℕ, List, ◌++◌, length, take}
 use Rattle.acceptor.specs.declared.entry.Entry.{Entry}
 use Rattle.acceptor.specs.declared.message.Message.{Message}

@@ -1,5 +1,5 @@
 -- Several desks that serve at once in one hall, each of them many connections by turns: what may
--- happen there, one event after the other, in any order.
+-- happen there, one event after the other, in any order (the project's own).
 use Rattle.std.specs.Prelude.{ℕ, ◌≡◌, ◌≢◌, ◌≤◌, ◌⊎◌, false, IsOk, List, [], ◌∷◌, ◌++◌, length}
 use Rattle.std.specs.Prelude.{Option, Some, slice_get, take}
 use Rattle.acceptor.specs.declared.entry.Entry.{Entry}
@@ -45,7 +45,7 @@ use Rattle.hall_laws.specs.Stops.{Happening, real_run}
 -- ---- a hall
 
 -- a desk that serves: its node, its connections by their numbers, the version in which it pushes
--- frames, and what the other desks were handed, where that is told
+-- frames, and what the other desks were handed, where that is known
 pub record Station (K : Type 0) : Type 0 where
   pub node : NodeValue K
   pub talks : ℕ → Talk

@@ -1,5 +1,5 @@
 -- That desks which serve decide what is queued: by Ticks of one desk, and by frames among a
--- majority of them, as serving takes these.
+-- majority of them, as serving takes these (the project's own).
 use Rattle.std.specs.Prelude.{ℕ, ◌≡◌, ◌≤◌, ◌<◌, ◌⊎◌, false, List, [], ◌∷◌, ◌++◌, Option, Some, None}
 use Rattle.std.specs.Prelude.{length, map}
 use Rattle.acceptor.specs.declared.entry.Entry.{Entry}
@@ -43,7 +43,7 @@ events_of_message k h number (Some m) =
     let x = h.desks m.to in
     comes_over m.to number (frame_of k h m) (acts_for k x (asked_of k x (frame_of k h m)))
 
--- The events that the turn is: with a Tick and with a message stands all that the desk does for it,
+-- The events that the turn is: with a Tick and with a message comes all that the desk does for it,
 -- what it delivers to itself and a Start among that.
 abbrev pub events_of_turn : {K : Type 0} → Ghosts K → ℕ → Hall K → OwnTurn → List HallEvent
 events_of_turn k d h DeskTicks = ticked k d (h.desks d) ∷ []
@@ -104,8 +104,8 @@ pub record CanServe {K : Type 0} (k : Ghosts K) (n d : ℕ) (desks : List ℕ) (
 
 -- ---- the law
 
--- the run goes on with such turns alone, until these entries stand in desk d's log, past what
--- stands there now and in their order, and these are left in its queue
+-- the run goes on with such turns alone, until these entries are in desk d's log, past what is
+-- there now and in their order, and these are left in its queue
 pub record HallDecides {K : Type 0} (k : Ghosts K) (n d : ℕ) (desks : List ℕ) (h : Hall K)
     (steps : List (HallStep K)) (es rest : List Entry) : Type 0 where
   pub turns : List OwnTurn

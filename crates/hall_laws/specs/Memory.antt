@@ -1,5 +1,5 @@
--- A keeper of a kind that never fails: it remembers what it is given. So what is said of keepers of
--- any kind can be met.
+-- A keeper of a kind that never fails: it remembers what it is given (the project's own). So what
+-- is said of keepers of any kind can be met.
 use Rattle.std.specs.Prelude.{◌≡◌, false, List}
 use Rattle.acceptor.specs.declared.entry.Entry.{Entry}
 use Rattle.acceptor.specs.declared.stored.Stored.{Stored}

@@ -1,5 +1,5 @@
 -- What is pushed to other desks while a request is served, said of what the calls hand out and not
--- of the order in which serving does things.
+-- of the order in which serving does things (the project's own).
 use Rattle.std.specs.Prelude.{◌≡◌, ℕ, ◌-◌, Bool, true, false, if◌then◌else◌, List, [], ◌∷◌, ◌++◌}
 use Rattle.std.specs.Prelude.{length, map, take, drop, Option, None, Some, Result, Ok, Err}
 use Rattle.acceptor.specs.declared.message.Message.{Message}

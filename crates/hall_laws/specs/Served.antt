@@ -1,4 +1,5 @@
--- What the calls of served frames are in the world, and what a sheet that was written is.
+-- What the calls of served frames are in the world, and what a sheet that was written is (the
+-- project's own).
 use Rattle.std.specs.Prelude.{◌≡◌, ◌≤◌, ℕ, List, [], ◌∷◌, ◌++◌, length, Some, Result, Ok}
 use Rattle.std.specs.Prelude.{Err}
 use Rattle.acceptor.specs.declared.message.Message.{Message}

@@ -1,4 +1,4 @@
--- Desks that stop, or whose save fails, in the middle of a call.
+-- Desks that stop, or whose save fails, in the middle of a call (the project's own).
 use Rattle.std.specs.Prelude.{ℕ, ◌≡◌, ◌⊎◌, Bool, true, false, List, [], ◌∷◌, ◌++◌, Option, Some}
 use Rattle.std.specs.Prelude.{None, Ok, Err, IfOk, slice_get, take}
 use Rattle.acceptor.specs.declared.entry.Entry.{Entry}

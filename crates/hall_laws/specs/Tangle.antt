@@ -1,6 +1,6 @@
 -- A run of three desks that meets all that is asked where a majority is to decide: one of them
 -- stops inside a save and is opened again, one has a higher ballot, one has an old vote, and most
--- of what they said never came. Their keepers never fail.
+-- of what they said never came (the project's own). Their keepers never fail.
 use Rattle.std.specs.Prelude.{◌≡◌, ℕ, List, [], ◌∷◌, None, Some, slice_get, take}
 use Rattle.acceptor.specs.Storing.{first_stored}
 use Rattle.learner.specs.Chosen.{Has, IsMajority}

@@ -12,10 +12,10 @@ use store::keeper::Keeper;
 /// never differ between desks.
 ///
 /// An answer says how long the desk's log is at that moment, and the entries that the log has there
-/// from the position asked for, 400 at most. Whoever asks for entries from position 0 on, and then
-/// each time from where the entries end that are held already, collects the beginning of a log. The
-/// answers may be of any desks of the hall, at any moments and in any order, and desks may stop and
-/// be opened again between them. Of what two collect so, one is a prefix of the other.
+/// from the position asked for, 400 at most. A client that asks for entries from position 0 on, and
+/// then each time from where the entries end that it holds already, collects the beginning of a
+/// log. The answers may be of any desks of the hall, at any moments and in any order, and desks may
+/// stop and be opened again between them. Of what two collect so, one is a prefix of the other.
 ///
 /// The runs of a hall, and the premises on messages and on stores, are those of `halls_are_runs`.
 pub fn copies_are_of_logs<K: Keeper>()

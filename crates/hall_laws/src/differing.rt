@@ -9,17 +9,17 @@ use learner::laws::{invariant, one_is_chosen, steps_stay_in_range};
 use store::keeper::Keeper;
 
 /// What is said of a desk that differs was heard: `differs_by` of `serving` finds a difference
-/// where a desk of the hall tells another entry than stands in the log, or a length below one that
-/// it told before, and nowhere else.
+/// where a desk of the hall reports another entry than is in the log, or a length below one that it
+/// reported before, and nowhere else.
 pub fn differences_are_heard()
     ensures heard { DifferencesAreHeard }
     ensures found { DifferencesAreFound }
 {}
 
 /// Within the premises of a hall's runs no desk hears of another one that it differs. What a desk
-/// said was decided at a position stands in every log that has the position, so a frame of entries
-/// that a desk of the hall has sent has no other one than stands in the log. And of two messages
-/// that one desk sent, the later tells no shorter log.
+/// said was decided at a position is in every log that has the position, so a frame of entries that
+/// a desk of the hall has sent has no other one than is in the log. And of two messages that one
+/// desk sent, the later tells no shorter log.
 ///
 /// One premise more is of connections: that what one brings was sent in its order, and after what
 /// the desk had heard of its sender when it accepted it.

@@ -24,7 +24,7 @@ use store::keeper::Keeper;
 /// is the Regulations' sheet for the accepted commands of its log, and no two that are asked for
 /// alike differ.
 ///
-/// `IsHallRun` of `specs/HallRuns` says what such a run is. Two premises stand in it, each at its
+/// `IsHallRun` of `specs/HallRuns` says what such a run is. Two premises are in it, each at its
 /// event: a message that a frame brings was handed out before, by a call of a desk of the hall; and
 /// a store that is opened again gives back what was written to it. That a desk delivers nothing to
 /// itself but what was sent is no premise.
@@ -35,7 +35,7 @@ pub fn halls_are_runs<K: Keeper>()
     ensures answers { HallAnswersWait K.Keeper }
     ensures sheets { HallSheetsAreOfLogs K.Keeper }
     ensures sheets_agree { HallSheetsAgree K.Keeper }
-    // What the premise on messages says: whoever has sent a message is the desk that it names.
+    // What the premise on messages says: the sender of a message is the desk that it names.
     ensures named { HallMessagesAreNamed K.Keeper }
     // Nothing that a desk does by turns is left out.
     ensures turns { TurnsAreEvents K.Keeper }

@@ -11,7 +11,7 @@ use store::keeper::Keeper;
 /// was lost in it, a majority of the desks decides by itself what a desk of it has queued, in the
 /// queue's order: the run goes on with Ticks of that desk, and with messages that desks of the
 /// majority hand out to each other from then on, each of which comes in a frame over a connection
-/// of its own. With each Tick and each message stands all that serving does for it: what the desk
+/// of its own. With each Tick and each message comes all that serving does for it: what the desk
 /// delivers to itself, 16 messages at most, and a Start where its log has grown.
 ///
 /// The desks of the majority are up, their memory and their stores do what they are asked, and what

@@ -1,4 +1,4 @@
--- The desks of a hall, and what is told of them.
+-- The desks of a hall, and what is said of them (the project's own).
 use Rattle.std.specs.Prelude.{◌≡◌, ◌≢◌, ℕ, ◌-◌, List, [], ◌∷◌, ◌++◌, length, if◌then◌else◌, nat_le}
 use Rattle.std.specs.Prelude.{codes, decimal}
 use Rattle.std.specs.Prelude.{Bool, true, false, flat_map, map, min, slice_get, String, Option}
@@ -59,7 +59,7 @@ waits_of asked now = map (λ a. wait_of a.survey.line now) asked
 abbrev pub desks_wait : HallDesksOf → ℕ → ℕ
 desks_wait h now = least_of 1000 (waits_of h.asked now)
 
--- a second has gone since a desk said how it stands
+-- a second has gone since a desk said how it is
 abbrev pub is_late : ℕ → Option Told → Bool
 is_late now None = false
 is_late now (Some told) = nat_le 1000 (now - told.at)
@@ -70,7 +70,7 @@ is_away_by contact.Answers late = late
 is_away_by contact.Silent late = true
 is_away_by (contact.Refuses why) late = true
 
--- a desk does not say how it stands: it is not reached, it refuses, or it is late
+-- a desk does not say how it is: it is not reached, it refuses, or it is late
 abbrev pub is_away : ℕ → Asked → Bool
 is_away now asked = is_away_by asked.survey.contact (is_late now asked.survey.told)
 
@@ -96,7 +96,7 @@ abbrev pub first_other : List Asked → Option ℕ
 first_other [] = None
 first_other (asked ∷ others) = if is_other asked then Some asked.desk else first_other others
 
--- the numbers of those that do not say how they stand, in their order
+-- the numbers of those that do not say how they are, in their order
 abbrev pub away_in : ℕ → HallDesksOf → List ℕ
 away_in now h = flat_map (away_one now) h.asked
 
@@ -106,7 +106,7 @@ one_speaks_five desk [] = false
 one_speaks_five desk (a ∷ asked) =
     if a.desk == desk then speaks_five a.survey else one_speaks_five desk asked
 
--- a line with the milliseconds since a desk said how it stands, or `-` where it has not said so
+-- a line with the milliseconds since a desk said how it is, or `-` where it has not said so
 abbrev pub age_line : ℕ → Option Told → List ℕ
 age_line now None = codes "-\n"
 age_line now (Some told) = decimal (now - told.at) ++ codes "\n"

@@ -1,4 +1,4 @@
--- What is told of the desks that are asked.
+-- What is said of the desks that are asked (the project's own).
 use Rattle.std.specs.Prelude.{◌≡◌, ℕ, ⊤, List, [], ◌∷◌, Option, None, Some, string_bytes, ◌++◌}
 use Rattle.surveying.specs.Surveys.{SurveyOf}
 use Rattle.surveying.specs.declared.survey.Contact.{Contact}
@@ -9,7 +9,7 @@ use Rattle.standings.specs.declared.polled.Reply.{Reply}
 use Rattle.standings.specs.declared.polled.Reply.TheVariants as reply
 use Rattle.hall_standings.specs.declared.asked.Asked.{Asked}
 
--- how a desk stands that said so last
+-- how a desk is that said so last
 abbrev pub stands_as_told : ℕ → Option Told → Reply
 stands_as_told desk None = reply.Late
 stands_as_told desk (Some told) = reply.Stands desk told.standing

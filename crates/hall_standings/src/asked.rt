@@ -1,4 +1,4 @@
-//! One desk, and what is told of it.
+//! One desk, and what is said of it.
 
 ghost use Rattle.std.specs.Prelude.{◌≡◌, ◌++◌, IfOk, OnOk, flat_map, length};
 ghost use Rattle.hall_standings.specs.Halls.{age_line, age_of, away_one, first_other, is_away};
@@ -16,7 +16,7 @@ use wire::ClientRefusal;
 /// Milliseconds until there is something to be done, where no desk is asked.
 const LONGEST_WAIT: u64 = 1000;
 
-/// The milliseconds after which a desk is away that has not said how it stands.
+/// The milliseconds after which a desk is away that has not said how it is.
 const PATIENCE: u64 = 1000;
 
 /// A desk that is asked.
@@ -29,7 +29,7 @@ pub(crate) struct Asked {
     pub(crate) survey: Survey,
 }
 
-/// How a desk stands that answered when it was asked last.
+/// How a desk is that answered when it was asked last.
 fn standing_of(desk: u8, survey: &Survey) -> Reply
     ensures { result ≡ standing_of desk survey.now }
 {
@@ -53,7 +53,7 @@ fn reply_of(desk: u8, survey: &Survey) -> Reply
     }
 }
 
-/// What is told of a desk.
+/// What is said of a desk.
 fn told_of(asked: &Asked) -> Polled<'_>
     ensures { IsTold asked.now result }
 {
@@ -65,7 +65,7 @@ fn told_of(asked: &Asked) -> Polled<'_>
     }
 }
 
-/// Whether it is a second ago, or longer, that a desk said how it stands.
+/// Whether it is a second ago, or longer, that a desk said how it is.
 fn is_late(told: Option<Told>, now: u64) -> bool
     ensures { result ≡ is_late now told }
 {
@@ -75,7 +75,7 @@ fn is_late(told: Option<Told>, now: u64) -> bool
     }
 }
 
-/// Whether a desk does not say how it stands: it is not reached, it refuses, or it is late.
+/// Whether a desk does not say how it is: it is not reached, it refuses, or it is late.
 fn is_away(asked: &Asked, now: u64) -> bool
     ensures { result ≡ is_away now asked.now }
 {
@@ -85,7 +85,7 @@ fn is_away(asked: &Asked, now: u64) -> bool
     }
 }
 
-/// Adds the number of a desk that does not say how it stands.
+/// Adds the number of a desk that does not say how it is.
 fn push_away(away: &mut Vec<u8>, asked: &Asked, now: u64) -> Result<(), AllocError>
     ensures { OnOk result (away.new.items ≡ away.old.items ++ away_one now asked.now) }
 {
@@ -95,7 +95,7 @@ fn push_away(away: &mut Vec<u8>, asked: &Asked, now: u64) -> Result<(), AllocErr
     Ok(())
 }
 
-/// The numbers of the desks that do not say how they stand, in their order.
+/// The numbers of the desks that do not say how they are, in their order.
 pub(crate) fn away_of(alloc: Global, asked: &[Asked], now: u64) -> Result<Vec<u8>, AllocError>
     ensures { IfOk result (λ away. away.items ≡ flat_map (away_one now) asked.now) }
 {
@@ -106,7 +106,7 @@ pub(crate) fn away_of(alloc: Global, asked: &[Asked], now: u64) -> Result<Vec<u8
     Ok(away)
 }
 
-/// Adds a line with the milliseconds since a desk said how it stands.
+/// Adds a line with the milliseconds since a desk said how it is.
 fn push_age(out: &mut Vec<u8>, told: Option<Told>, now: u64) -> Result<(), AllocError>
     ensures { OnOk result (out.new.items ≡ out.old.items ++ age_line now told) }
 {
@@ -118,7 +118,7 @@ fn push_age(out: &mut Vec<u8>, told: Option<Told>, now: u64) -> Result<(), Alloc
     out.extend_from_slice(b"\n")
 }
 
-/// A line for each of these desks with the milliseconds since it said how it stands.
+/// A line for each of these desks with the milliseconds since it said how it is.
 pub(crate) fn ages_of(alloc: Global, asked: &[Asked], now: u64) -> Result<Vec<u8>, AllocError>
     ensures { IfOk result (λ ages. ages.items ≡ flat_map (age_of now) asked.now) }
 {
@@ -194,7 +194,7 @@ pub(crate) fn soonest(asked: &[Asked], now: u64) -> u64
     wait
 }
 
-/// What is told of these desks.
+/// What is said of these desks.
 #[tactic(auto, using(crate::proofs::Told::begins, crate::proofs::Told::goes_on))]
 pub(crate) fn all_told(alloc: Global, asked: &[Asked]) -> Result<Vec<Polled<'_>>, AllocError>
     ensures told { IfOk result (λ told. AreTold asked.now told.items) }

@@ -1,4 +1,4 @@
-//! A connection to a desk that is asked how it stands, and what is said of its key.
+//! A connection to a desk that is asked how it is, and what is said of its key.
 
 ghost use Rattle.std.specs.Prelude.{◌≡◌};
 
@@ -7,7 +7,7 @@ use std::io::Write;
 use std::net::Net;
 use std::random::RandomSource;
 
-/// A connection to a desk that is asked how it stands.
+/// A connection to a desk that is asked how it is.
 #[derive(Drop)]
 pub struct AskedStream<'a, R> {
     /// The number of the desk, 1 to 5.

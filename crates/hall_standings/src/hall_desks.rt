@@ -20,7 +20,7 @@ use wire::Difference;
 /// The most desks that a hall has.
 const MOST_DESKS: usize = 5;
 
-/// The desks of a hall, at most five, each asked how it stands four times a second.
+/// The desks of a hall, at most five, each asked how it is four times a second.
 ///
 /// A contract sees the number of the hall, and of each desk its number, its address and its survey.
 #[derive(Drop)]
@@ -54,7 +54,7 @@ impl HallDesks {
     }
 
     /// Adds the desk with this number, 1 to 5, after the others. It was not asked yet. The address
-    /// is what is told of it. A sixth one is left out.
+    /// is what is said of it. A sixth one is left out.
     pub fn add(&mut self, desk: u8, address: String) -> Result<(), AllocError>
         requires { IsDesk desk }
         ensures ok { OnOk result (self.new ≡ adds self.old desk address) }
@@ -106,8 +106,8 @@ impl HallDesks {
         Ok(lengths)
     }
 
-    /// The numbers of the desks that do not say how they stand, in the order in which they were
-    /// added, at so many milliseconds of the clock of [`HallDesks::keep`]: those that are not
+    /// The numbers of the desks that do not say how they are, in the order in which they were
+    /// added, at this many milliseconds of the clock of [`HallDesks::keep`]: those that are not
     /// reached, that refuse, or that said so last a second ago or longer.
     pub fn away(&self, alloc: Global, now: u64) -> Result<Vec<u8>, AllocError>
         ensures { IfOk result (λ away. away.items ≡ away_in now self.now) }
@@ -115,9 +115,9 @@ impl HallDesks {
         away_of(alloc, &self.asked, now)
     }
 
-    /// How many milliseconds ago, at so many milliseconds of the clock of [`HallDesks::keep`], each
-    /// desk said last how it stands: a line for each in the order in which they were added, `-` for
-    /// one that has not said so yet.
+    /// How many milliseconds ago, at this many milliseconds of the clock of [`HallDesks::keep`],
+    /// each desk said last how it is: a line for each in the order in which they were added, `-`
+    /// for one that has not said so yet.
     pub fn ages(&self, alloc: Global, now: u64) -> Result<Vec<u8>, AllocError>
         ensures { IfOk result (λ ages. ages.items ≡ ages_text now self.now) }
     {
@@ -147,8 +147,8 @@ impl HallDesks {
         Ok(difference(&told))
     }
 
-    /// How the desks stand, as a JSON object on a line, by what each answered when it was asked
-    /// last. One that did not answer then, or was not asked yet, has no answer in time.
+    /// How the desks are, as a JSON object on a line, by what each answered when it was asked last.
+    /// One that did not answer then, or was not asked yet, has no answer in time.
     pub fn status(&self, alloc: Global) -> Result<Vec<u8>, AllocError>
         ensures { IfOk result (λ text. IsStatus self.now text.items) }
     {

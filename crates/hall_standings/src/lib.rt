@@ -1,5 +1,5 @@
-//! How all desks of a hall stand: each is asked four times a second over a connection of its own,
-//! what they said last is told as JSON, and what is wrong with their keys on a line each.
+//! How all desks of a hall are: each is asked four times a second over a connection of its own,
+//! what they said last is printed as JSON, and what is wrong with their keys on a line each.
 #![tactic(auto)]
 
 mod asked;

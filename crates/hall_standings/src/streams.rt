@@ -31,7 +31,7 @@ pub struct Hall<'a> {
     pub key: Option<[u8; 32]>,
 }
 
-/// The desks of a hall that are asked how they stand, and a connection to each of them.
+/// The desks of a hall that are asked how they are, and a connection to each of them.
 #[derive(Drop)]
 pub struct AskedDesks<'a, R> {
     pub desks: HallDesks,

@@ -1,4 +1,4 @@
--- The forms that lead to the withdrawal of those who never came.
+-- The forms that lead to the withdrawal of those who never came (the project's own).
 use Rattle.std.specs.Prelude.{ℕ, Bool, not, nat_le, if◌then◌else◌, List, [], ◌∷◌, ◌++◌}
 use Rattle.std.specs.Prelude.{codes, filter, flat_map, get_or, is_some}
 use Rattle.commands.specs.Accepted.{round_by, who_wait}

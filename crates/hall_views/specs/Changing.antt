@@ -1,4 +1,4 @@
--- The form that changes how a round is run.
+-- The form that changes how a round is run (the project's own).
 use Rattle.std.specs.Prelude.{ℕ, Bool, true, false, if◌then◌else◌, List, [], ◌++◌, codes, get_or}
 use Rattle.std.specs.Prelude.{Some}
 use Rattle.formats.specs.declared.events.Event.{Event}
@@ -17,7 +17,7 @@ settings_head =
     codes "<h2>Change format, cutoff and limit</h2>\n<p>The button sets these to what the fields "
     ++ codes "say, until the first attempt.</p>\n"
 
--- what stands is chosen beforehand
+-- what holds now is chosen beforehand
 unfoldable pub settings_form : List ℕ → ℕ → RoundId → Settings → List ℕ
 settings_form token form id settings =
     settings_head ++ form_start token form (codes "SET") (path_of id) ++ round_value id

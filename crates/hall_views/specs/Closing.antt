@@ -1,4 +1,4 @@
--- The forms of a round that is open.
+-- The forms of a round that is open (the project's own).
 use Rattle.std.specs.Prelude.{ℕ, Bool, true, false, ◌==◌, if◌then◌else◌, nat_le, List, [], ◌∷◌}
 use Rattle.std.specs.Prelude.{◌++◌, codes, decimal, filter, flat_map, get_or, length}
 use Rattle.std.specs.Prelude.{Option, None, Some, option_map}
@@ -85,7 +85,7 @@ these_go_on count = joined (
     codes "<h2>Who advances, as it stands: " ∷ decimal count ∷ codes "</h2>\n<ol>\n" ∷ []
     )
 
--- these go on, of so many who could
+-- these go on, of this many who could
 unfoldable pub list_through : List Command → RoundId → Table → Advance → ℕ → List ℕ → List ℕ
 list_through accepted id t advance most numbers =
     these_go_on (length numbers) ++ flat_map (entrant_line accepted id) numbers
@@ -100,7 +100,7 @@ through_by (Percent percent) accepted id t =
     list_through accepted id t (Percent percent) (quota (Percent percent) (started t))
     (advancing t (Percent percent))
 
--- who goes on, if the round is closed as it stands
+-- who goes on, if the round is closed as it is
 abbrev pub through : List Command → RoundId → Settings × Table → List ℕ
 through accepted id round = through_by round.0.advance accepted id round.1
 

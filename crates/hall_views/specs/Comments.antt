@@ -1,4 +1,5 @@
--- What comments in a list of commands propose: how a later round is held, as `# OPEN 333 2 ..`.
+-- What comments in a list of commands propose: how a later round is held, as `# OPEN 333 2 ..` (the
+-- project's own).
 use Rattle.std.specs.Prelude.{ℕ, ◌-◌, ◌==◌, ◌||◌, Bool, if◌then◌else◌, List, [], ◌∷◌}
 use Rattle.std.specs.Prelude.{length, map, take, drop, get_or, codes, bytes_eq}
 use Rattle.std.specs.Prelude.{Option, None, Some, Result, Ok, Err}

@@ -1,4 +1,4 @@
--- Lists of entrants.
+-- Lists of entrants (the project's own).
 use Rattle.std.specs.Prelude.{ℕ, List, [], ◌∷◌, ◌++◌, codes, decimal, filter, flat_map}
 use Rattle.markup.specs.board_page.Escaped.{escaped}
 use Rattle.rounds.specs.Tables.{Table, standings}

@@ -1,4 +1,4 @@
--- Forms that send commands.
+-- Forms that send commands (the project's own).
 use Rattle.std.specs.Prelude.{ℕ, ◌==◌, if◌then◌else◌, List, [], ◌∷◌, ◌++◌, codes, decimal}
 use Rattle.markup.specs.board_page.Escaped.{escaped}
 use Rattle.round_words.specs.Words.{round_name}

@@ -1,4 +1,4 @@
--- The page that takes a competition's file, or lines of commands.
+-- The page that takes a competition's file, or lines of commands (the project's own).
 use Rattle.std.specs.Prelude.{ℕ, List, ◌++◌, codes, get_or}
 use Rattle.table_views.specs.declared.around.Around.{Around}
 use Rattle.table_views.specs.Frame.{top, bottom}

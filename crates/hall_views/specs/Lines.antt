@@ -1,4 +1,5 @@
--- The form that sends several commands, one a line, or shows what would become of them.
+-- The form that sends several commands, one a line, or shows what would become of them (the
+-- project's own).
 use Rattle.std.specs.Prelude.{ℕ, List, [], ◌∷◌, ◌++◌, codes}
 use Rattle.markup.specs.board_page.Escaped.{escaped}
 use Rattle.markup.specs.Pieces.{joined}

@@ -1,4 +1,4 @@
--- The form that opens a round.
+-- The form that opens a round (the project's own).
 use Rattle.std.specs.Prelude.{ℕ, Bool, true, false, ◌==◌, if◌then◌else◌, List, [], ◌∷◌, ◌++◌, codes}
 use Rattle.std.specs.Prelude.{decimal, flat_map, take, Option, None, Some}
 use Rattle.attempts.specs.Texts.{number_text, time_text}
@@ -47,7 +47,7 @@ format_choice event proposed format =
     else []
 
 -- how the option goes on of a number of attempts, which is chosen beforehand if the cutoff that
--- stands is after so many
+-- holds is after this many
 abbrev pub after_mark : Option (ℕ × ℕ) → ℕ → List ℕ
 after_mark None attempts = codes ">"
 after_mark (Some cutoff) attempts =
@@ -94,7 +94,7 @@ cutoff_for Multi most cutoff = []
 cutoff_for Time most cutoff = cutoff_select most Time cutoff
 cutoff_for Moves most cutoff = cutoff_select most Moves cutoff
 
--- the fields of a cutoff, which multi-blind has not; what stands of it is filled in
+-- the fields of a cutoff, which multi-blind has not; what holds of it is filled in
 abbrev pub cutoff_fields : Event → Option (ℕ × ℕ) → List ℕ
 cutoff_fields event cutoff = cutoff_for (unit_of event) (most_attempts event) cutoff
 

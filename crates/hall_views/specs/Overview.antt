@@ -1,4 +1,4 @@
--- The page of all rounds.
+-- The page of all rounds (the project's own).
 use Rattle.std.specs.Prelude.{ℕ, Bool, true, false, List, [], ◌∷◌, ◌++◌, codes, decimal, flat_map}
 use Rattle.std.specs.Prelude.{Option, None, Some}
 use Rattle.commands.specs.Accepted.{round_by}
@@ -21,7 +21,7 @@ use Rattle.table_views.specs.Recent.{recent_section}
 abbrev pub link_end : List ℕ → List ℕ
 link_end words = joined (codes "\">" ∷ words ∷ codes "</a></td>" ∷ [])
 
--- a link to what stands of a round under a path
+-- a link to what there is of a round under a path
 unfoldable pub link_cell : List ℕ → RoundId → List ℕ → List ℕ
 link_cell path id words = codes "<td><a href=\"" ++ path ++ round_name id ++ link_end words
 
@@ -41,7 +41,7 @@ row_head id advance =
     codes "<tr><th scope=\"row\"><a href=\"/card/" ++ round_name id ++ codes "\">"
     ++ round_words id advance ++ codes "</a></th>"
 
--- whether a round is open, how far its entrants have come, and links to what stands of it
+-- whether a round is open, how far its entrants have come, and links to what there is of it
 unfoldable pub round_line : RoundId → Settings × Table → List ℕ
 round_line id round =
     row_head id round.0.advance ++ state_cell round.1.is_closed

@@ -1,4 +1,4 @@
--- The page of competitors.
+-- The page of competitors (the project's own).
 use Rattle.std.specs.Prelude.{◌≡◌, ◌≤◌, ◌<◌, ℕ, suc, IsSome, if◌then◌else◌, List, [], ◌∷◌, ◌++◌}
 use Rattle.std.specs.Prelude.{codes, decimal, flat_map, get_or, is_some, Option, None, Some}
 use Rattle.std.specs.Prelude.{option_map, unwrap_or}

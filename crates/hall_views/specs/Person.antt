@@ -1,4 +1,4 @@
--- The page of a competitor.
+-- The page of a competitor (the project's own).
 use Rattle.std.specs.Prelude.{ℕ, if◌then◌else◌, List, [], ◌∷◌, ◌++◌, codes, decimal, flat_map}
 use Rattle.std.specs.Prelude.{get_or, is_some, Option, None, Some, option_map}
 use Rattle.markup.specs.board_page.Escaped.{escaped}

@@ -1,4 +1,4 @@
--- The page that shows which commands would be entered.
+-- The page that shows which commands would be entered (the project's own).
 use Rattle.std.specs.Prelude.{ℕ, ◌-◌, Bool, true, false, if◌then◌else◌, nat_lt, List, [], ◌∷◌, ◌++◌}
 use Rattle.std.specs.Prelude.{codes, count_by, decimal, flat_map, get_or, length}
 use Rattle.std.specs.Prelude.{Option, None, Some, Result, Ok, Err}

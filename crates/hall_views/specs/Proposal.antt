@@ -1,4 +1,4 @@
--- What is proposed for a round that is to be opened.
+-- What is proposed for a round that is to be opened (the project's own).
 use Rattle.std.specs.Prelude.{ℕ, ◌-◌, Bool, true, false, if◌then◌else◌, nat_le, length}
 use Rattle.std.specs.Prelude.{List, Option, None, Some}
 use Rattle.std.specs.List.{list_any, range_with_len}

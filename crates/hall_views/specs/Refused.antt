@@ -1,11 +1,11 @@
--- The pages of a form that asks for no command.
+-- The pages of a form that asks for no command (the project's own).
 use Rattle.std.specs.Prelude.{ℕ, List, [], ◌∷◌, ◌++◌, codes}
 use Rattle.markup.specs.board_page.Escaped.{escaped}
 use Rattle.markup.specs.Pieces.{joined}
 use Rattle.table_views.specs.declared.around.Around.{Around}
 use Rattle.table_views.specs.Frame.{top, bottom}
 
--- what stands before why, and after it, with a link back to the page of the form
+-- what is before why, and after it, with a link back to the page of the form
 abbrev pub why_section : List ℕ → List ℕ → List ℕ → List ℕ → List ℕ
 why_section start end back why = joined (
     start ∷ escaped why ∷ end ∷ codes "<p><a href=\"" ∷ escaped back

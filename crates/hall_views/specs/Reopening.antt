@@ -1,4 +1,4 @@
--- The form that opens a closed round again.
+-- The form that opens a closed round again (the project's own).
 use Rattle.std.specs.Prelude.{ℕ, ◌+◌, Bool, false, if◌then◌else◌, is_some, nat_le, List, []}
 use Rattle.std.specs.Prelude.{◌++◌, codes, get_or}
 use Rattle.commands.specs.Accepted.{round_by}

@@ -1,4 +1,4 @@
--- The page that opens and closes rounds.
+-- The page that opens and closes rounds (the project's own).
 use Rattle.std.specs.Prelude.{ℕ, ◌+◌, ◌-◌, Bool, true, false, if◌then◌else◌, nat_le, nat_lt, List}
 use Rattle.std.specs.Prelude.{[], ◌∷◌, ◌++◌, codes, decimal, flat_map, get_or}
 use Rattle.std.specs.Prelude.{Option, None, Some}

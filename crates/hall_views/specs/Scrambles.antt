@@ -1,4 +1,4 @@
--- The scrambles of fewest moves.
+-- The scrambles of fewest moves (the project's own).
 use Rattle.std.specs.Prelude.{ℕ, Bool, true, false, if◌then◌else◌, nat_le, List, [], ◌∷◌, ◌++◌}
 use Rattle.std.specs.Prelude.{codes, decimal, get_or, Option, None, Some}
 use Rattle.markup.specs.board_page.Escaped.{escaped}

@@ -1,4 +1,4 @@
--- The page of what was sent and is not decided yet.
+-- The page of what was sent and is not decided yet (the project's own).
 use Rattle.std.specs.Prelude.{ℕ, List, ◌++◌, codes}
 use Rattle.round_words.specs.Words.{round_name}
 use Rattle.table_views.specs.declared.around.Around.{Around}

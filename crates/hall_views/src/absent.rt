@@ -115,8 +115,8 @@ fn outside(alloc: Global, table: &RoundTable, numbers: &[u16]) -> Result<Vec<u16
         .collect(alloc)
 }
 
-/// Those of the round before who wait for a place in this one and are not in it. Whoever took a
-/// place and withdrew again is among them, and that nothing in the round before was changed since
+/// Those of the round before who wait for a place in this one and are not in it. Somebody who took
+/// a place and withdrew again is among them, and that nothing in the round before was changed since
 /// this one was opened is taken for granted: what the commands would be answered says the rest.
 fn to_come(
     alloc: Global,

@@ -19,7 +19,7 @@ use texts::RoundId;
 /// The rounds that an event can have.
 const ROUNDS: [u8; 4] = [1, 2, 3, 4];
 
-/// Adds a link to what stands of a round under a path.
+/// Adds a link to what there is of a round under a path.
 fn push_link(out: &mut Vec<u8>, path: &[u8], id: RoundId, words: &[u8]) -> Result<(), NoMemory>
     ensures { OnOk result (out.new.items
         ≡ out.old.items ++ link_cell path.now id words.now) }

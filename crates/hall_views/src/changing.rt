@@ -12,7 +12,7 @@ use round_counts::Opened;
 use table_views::{Around, is_latest};
 use texts::{RoundId, Settings};
 
-/// Adds the form that changes format, cutoff and limit, with what stands chosen beforehand.
+/// Adds the form that changes format, cutoff and limit, with what holds now chosen beforehand.
 fn push_settings_form(
     out: &mut Vec<u8>,
     token: &[u8],

@@ -65,7 +65,7 @@ fn sharing(alloc: Global, table: &RoundTable, numbers: &[u16]) -> Result<Vec<u16
     }
 }
 
-/// Adds that these are tied at the border where so many could go on.
+/// Adds that these are tied at the border where this many could advance.
 fn push_tied_list(
     out: &mut Vec<u8>,
     meet: &Meet,
@@ -91,7 +91,7 @@ fn push_tied_list(
     out.extend_from_slice(b"</ul>\n")
 }
 
-/// Adds that nobody is tied where so many could go on.
+/// Adds that nobody is tied where this many could advance.
 fn push_untied(out: &mut Vec<u8>, most: u16) -> Result<(), NoMemory>
     ensures { OnOk result (out.new.items ≡ out.old.items ++ untied most) }
 {
@@ -105,7 +105,7 @@ fn push_untied(out: &mut Vec<u8>, most: u16) -> Result<(), NoMemory>
     )
 }
 
-/// Adds who is tied at the border where so many could go on, or that nobody is.
+/// Adds who is tied at the border where this many could advance, or that nobody is.
 fn push_tied(
     out: &mut Vec<u8>,
     meet: &Meet,
@@ -123,7 +123,7 @@ fn push_tied(
     }
 }
 
-/// Adds who is tied at the border of a rule by which so many could go on.
+/// Adds who is tied at the border of a rule by which this many could advance.
 fn push_tied_by(
     out: &mut Vec<u8>,
     meet: &Meet,
@@ -159,7 +159,7 @@ fn push_tie(
     push_tied_by(out, meet, id, table, advance, most)
 }
 
-/// Adds these as those who go on by a rule, of so many who could.
+/// Adds these as those who go on by a rule, of this many who could.
 fn push_list_through(
     out: &mut Vec<u8>,
     meet: &Meet,
@@ -201,7 +201,7 @@ fn push_through_by(
     push_list_through(out, meet, id, table, advance, most, &numbers)
 }
 
-/// Adds who goes on, if the round is closed as it stands.
+/// Adds who goes on, if the round is closed as it is.
 pub(crate) fn push_through(
     out: &mut Vec<u8>,
     meet: &Meet,

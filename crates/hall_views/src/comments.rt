@@ -42,7 +42,7 @@ fn begins_line(text: &[u8], place: usize) -> bool
     place == 0 || text[place - 1] == b'\n'
 }
 
-/// What stands before the first line feed or carriage return.
+/// What is before the first line feed or carriage return.
 fn line_of(bytes: &[u8]) -> &[u8]
     ensures { result.now ≡ line_of bytes.now }
 {

@@ -42,7 +42,7 @@ pub(crate) fn push_unseen<'a>(
 }
 
 /// Adds the beginning of a form for a command of this word. After it the browser goes to the path
-/// of the page that the form stands on.
+/// of the page that the form is on.
 #[tactic(auto, unfolding(crate::specs::Forms::form_start))]
 pub(crate) fn push_form(
     out: &mut Vec<u8>,

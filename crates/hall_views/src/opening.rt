@@ -173,7 +173,7 @@ fn push_cutoff_select(
     push_border(out, unit, &border)
 }
 
-/// Adds the fields of a cutoff, which multi-blind has not. What stands of it is filled in.
+/// Adds the fields of a cutoff, which multi-blind has not. What holds of it is filled in.
 fn push_cutoff(out: &mut Vec<u8>, event: Event, cutoff: Option<(u8, u32)>) -> Result<(), NoMemory>
     ensures { OnOk result (out.new.items ≡ out.old.items ++ cutoff_fields event cutoff) }
 {

@@ -254,7 +254,7 @@ fn push_told(out: &mut Vec<u8>, entered: usize, refused: usize) -> Result<(), No
     )
 }
 
-/// Adds the section of commands of which so many would be entered, and so many refused.
+/// Adds the section of commands of which this many would be entered, and this many refused.
 fn push_lists(
     out: &mut Vec<u8>,
     around: &Around<'_>,

@@ -128,7 +128,7 @@ fn push_scramble(
     }
 }
 
-/// Adds the scramble of an attempt, or its form, where the round has so many attempts.
+/// Adds the scramble of an attempt, or its form, where the round has this many attempts.
 fn push_scramble_if(
     out: &mut Vec<u8>,
     around: &Around<'_>,
@@ -148,7 +148,7 @@ fn push_scramble_if(
     }
 }
 
-/// Adds the scrambles of a round of so many attempts, at most three.
+/// Adds the scrambles of a round of this many attempts, at most three.
 fn push_all(out: &mut Vec<u8>, around: &Around<'_>, id: RoundId, count: u8) -> Result<(), NoMemory>
     ensures { OnOk result (out.new.items
         ≡ out.old.items ++ all_scrambles around.entry.now id count) }

@@ -24,9 +24,9 @@ fn push_section(out: &mut Vec<u8>, round: RoundId) -> Result<(), NoMemory>
     out.extend_from_slice(b"\">The next card</a></p></section>\n")
 }
 
-/// The page that stands in the place of a round's card while what was sent is not decided yet,
-/// without scripts: it asks for its place again after a second, and nothing can be typed into
-/// it that would be lost then.
+/// The page that is in the place of a round's card while what was sent is not decided yet, without
+/// scripts: it asks for its place again after a second, and nothing can be typed into it that would
+/// be lost then.
 pub fn waiting_page(alloc: Global, around: &Around<'_>, round: RoundId) -> Result<Vec<u8>, NoMemory>
     ensures { IfOk result (λ page. page.items ≡ waiting_page around.entry.now round) }
 {

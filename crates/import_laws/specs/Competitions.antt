@@ -1,4 +1,5 @@
--- A competition: its persons, with their registrations, and its events, with their rounds.
+-- A competition: its persons, with their registrations, and its events, with their rounds (the
+-- project's own).
 use Rattle.std.specs.Prelude.{ℕ, Bool, true, false, List, filter, Option}
 use Rattle.formats.specs.declared.events.Event.{Event}
 use Rattle.texts.specs.declared.command.Settings.{Settings}

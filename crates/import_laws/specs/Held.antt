@@ -1,4 +1,4 @@
--- The competitions of which a desk can hold all.
+-- The competitions of which a desk can hold all (the project's own).
 use Rattle.std.specs.Prelude.{◌≡◌, ◌≤◌, ◌-◌, ◌==◌, ◌&&◌, ℕ, Bool, true, false, List, [], ◌∷◌}
 use Rattle.std.specs.Prelude.{length, bytes_eq, count_by, map, Option, Some, None}
 use Rattle.std.specs.List.{list_any, AllByRecursion}
@@ -77,7 +77,7 @@ pub record IsEntrant (events : List Event) (p : Person) : Type 0 where
   pub among : AllByRecursion (IsAmong events) p.events
   pub once : AreApart same_event p.events
 
--- the number of whoever has one is of 64 bits, and the texts are UTF-8
+-- each number is of 64 bits, and the texts are UTF-8
 abbrev pub IsNumber : Option ℕ → Type 0
 IsNumber None = Unit {0}
 IsNumber (Some n) = n ≤ 9999

@@ -1,4 +1,4 @@
--- What a competition's file is imported to.
+-- What a competition's file is imported to (the project's own).
 use Rattle.std.specs.Prelude.{◌≡◌, List}
 use Rattle.texts.specs.declared.command.Command.{Command}
 use Rattle.wcif.specs.declared.file.FileFault.{FileFault}

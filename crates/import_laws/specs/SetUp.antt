@@ -1,6 +1,7 @@
 -- The commands that set a competition up: the edition; REG of each accepted person, in the order of
 -- the numbers; OPEN of the first round of each event, in the order of the events; ENT for each
--- event of each accepted person, in the order of the numbers and then of the registration.
+-- event of each accepted person, in the order of the numbers and then of the registration (the
+-- project's own).
 use Rattle.std.specs.Prelude.{ℕ, nat_lt, if◌then◌else◌, List, [], ◌∷◌, ◌++◌, map}
 use Rattle.std.specs.Prelude.{flat_map, unwrap_or}
 use Rattle.formats.specs.declared.events.Event.{Event}

@@ -69,7 +69,7 @@ limit_json (Some limit) =
     object (member (codes "centiseconds") (whole limit)
     (member (codes "cumulativeRoundIds") (list []) no_members))
 
--- so many attempts, and the result that one of them has to be below
+-- this many attempts, and the result that one of them has to be below
 abbrev pub cutoff_json : Option (ℕ × ℕ) → Json
 cutoff_json None = null
 cutoff_json (Some cutoff) =

@@ -1,7 +1,7 @@
 -- A competition and its file, which was written by hand in the words of the WCA Competition
--- Interchange Format (https://github.com/thewca/wcif, specification.md), byte for byte. Number 2
--- stands in front of number 1, each with an e-mail address before the name; one person is pending,
--- and one is deleted and has a number; 3x3x3 has two rounds, fewest moves has one.
+-- Interchange Format (https://github.com/thewca/wcif, specification.md), byte for byte. Number 2 is
+-- in front of number 1, each with an e-mail address before the name; one person is pending, and one
+-- is deleted and has a number; 3x3x3 has two rounds, fewest moves has one.
 use Rattle.std.specs.Prelude.{◌≡◌, ℕ, List, [], ◌∷◌, ◌++◌, codes, Some, None}
 use Rattle.formats.specs.declared.advance.Advance.TheVariants.{Final, Top}
 use Rattle.formats.specs.declared.events.Event.TheVariants.{Cube3, FewestMoves}

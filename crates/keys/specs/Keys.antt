@@ -1,4 +1,4 @@
--- A key's file: hexadecimal digits, and at most one line feed after them.
+-- A key's file: hexadecimal digits, and at most one line feed after them (the project's own).
 use Rattle.std.specs.Prelude.{◌≡◌, ℕ, ◌-◌, ◌==◌, if◌then◌else◌, List, [], ◌∷◌, ◌++◌, length, take}
 use Rattle.std.specs.Prelude.{slice_index, Ok}
 use Rattle.hex.specs.Hex.{decode_of}

@@ -1,4 +1,4 @@
--- Where an id stands first, after one more entry.
+-- Where an id is first, after one more entry.
 use Rattle.std.proofs.Common.{◌≡◌, ℕ, ◌+◌, Bool, true, false, if◌then◌else◌, ◌==◌, List, [], ◌∷◌}
 use Rattle.std.proofs.Common.{◌++◌, Option, Some, None, is_some, length, refl, sym, ap, ◌∙◌, subst}
 use Rattle.std.proofs.Common.{arith}
@@ -64,7 +64,7 @@ indexed_again entries e old indexed there id =
         let some : is_some (old id) ≡ true = subst (λ k. is_some (old k) ≡ true) same there in
         absurd cc
 
--- an id that the entries did not have stands first at their length
+-- an id that the entries did not have is first at their length
 pub indexed_new : (entries : List Entry) (e : Entry) (old new : ℕ → Option ℕ)
     → ((id : ℕ) → old id ≡ position_of entries id) → is_some (old e.id) ≡ false
     → ((id : ℕ) → new id ≡ (if e.id == id then Some (length entries) else old id)) → (id : ℕ)

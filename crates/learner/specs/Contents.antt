@@ -1,5 +1,5 @@
--- Where entries and ballots stand in desks and messages: P is a property of entries, Q one of
--- ballots.
+-- Where entries and ballots are in desks and messages: P is a property of entries, Q one of ballots
+-- (the project's own).
 use Rattle.std.specs.Prelude.{ℕ, ◌≡◌, ◌≤◌, ◌⊎◌, List, [], ◌∷◌, Option, Some, None}
 use Rattle.acceptor.specs.declared.ballot.Ballot.{Ballot}
 use Rattle.acceptor.specs.declared.entry.Entry.{Entry}

@@ -1,4 +1,5 @@
--- What holds of the desks and of all that they sent, after every list of events.
+-- What holds of the desks and of all that they sent, after every list of events (the project's
+-- own).
 use Rattle.std.specs.Prelude.{◌≡◌, ℕ, ◌<◌, ◌≤◌, List, [], ◌∷◌, ◌⊎◌, Option, Some, None, slice_get}
 use Rattle.std.specs.Prelude.{length}
 use Rattle.learner.specs.Order.{IsAtMost, IsBelow}

@@ -1,4 +1,5 @@
--- What the desks of a hall agree on, after every list of events, for every number n of desks.
+-- What the desks of a hall agree on, after every list of events, for every number n of desks (the
+-- safety of 'Paxos Made Simple', section 2.1, of every position).
 use Rattle.std.specs.Prelude.{ℕ, ◌≡◌, ◌≤◌, ◌<◌, ◌⊎◌, List, ◌++◌, Some, slice_get, take, length}
 use Rattle.acceptor.specs.declared.entry.Entry.{Entry}
 use Rattle.acceptor.specs.declared.message.Message.{Message}
@@ -12,7 +13,7 @@ use Rattle.learner.specs.declared.event.DeskEvent.{DeskEvent}
 use Rattle.learner.specs.Desks.{Desk}
 use Rattle.learner.specs.Steps.{IsDesk, step}
 
--- what stands in a log is chosen: nobody learns that a value is chosen unless it is ('Paxos Made
+-- what is in a log is chosen: nobody learns that a value is chosen unless it is ('Paxos Made
 -- Simple', section 2.1)
 abbrev pub LogsAreChosen : Type 0
 LogsAreChosen =
@@ -25,8 +26,8 @@ OneIsChosen =
     (n : ℕ) (events : List WorldEvent) (pos : ℕ) (e f : Entry)
     → IsChosen n (after n events).sent pos e → IsChosen n (after n events).sent pos f → e ≡ f
 
--- what stands in a log was submitted before, to a desk that took it: only what was proposed is
--- chosen ('Paxos Made Simple', section 2.1)
+-- what is in a log was submitted before, to a desk that took it: only what was proposed is chosen
+-- ('Paxos Made Simple', section 2.1)
 abbrev pub LogsAreSubmitted : Type 0
 LogsAreSubmitted =
     (n : ℕ) (events : List WorldEvent) (d pos : ℕ) (e : Entry)
@@ -49,7 +50,7 @@ LogsGrow =
     (n : ℕ) (events : List WorldEvent) (i j d : ℕ)
     → i ≤ j → IsPrefix (log_of n (take i events) d) (log_of n (take j events) d)
 
--- what stands at a position of one log stands there in every longer log, at every moment
+-- what is at a position of one log is there in every longer log, at every moment
 abbrev pub EntriesStay : Type 0
 EntriesStay =
     (n : ℕ) (events : List WorldEvent) (i j d k pos : ℕ) (e : Entry)

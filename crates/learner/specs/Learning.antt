@@ -31,8 +31,8 @@ told d from pos (e ∷ es) = message d from (Decided pos e) ∷ told d from (suc
 abbrev pub longest_run : ℕ
 longest_run = 16
 
--- a desk that lacks entries is told the next of them, so many at most, in order of position; one
--- that has more is told the log's length
+-- a desk that lacks entries is sent the next of them, this many at most, in order of position; one
+-- that has more is sent the log's length
 abbrev pub on_behind : ℕ → List Entry → Passing → ℕ → ℕ → Plan
 on_behind d log p from len =
     if nat_lt (length log) len

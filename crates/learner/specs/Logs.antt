@@ -1,4 +1,4 @@
--- A log: its entries by position, and the room for more.
+-- A log: its entries by position, and the room for more (the project's own).
 use Rattle.std.specs.Prelude.{ℕ, ◌-◌, List, [], ◌∷◌, ◌++◌, Option, ◌==◌}
 use Rattle.std.specs.List.{position_from}
 use Rattle.acceptor.specs.declared.entry.Entry.{Entry}

@@ -1,5 +1,5 @@
 -- The parts of the invariant, each in words of its own. It is proved as one (IsSound), since its
--- parts rest on one another; what it says of submissions and of numbers that were tried stands in
+-- parts rest on one another; what it says of submissions and of numbers that were tried is in
 -- Contents.
 use Rattle.std.specs.Prelude.{ℕ, ◌≡◌, ◌≤◌, ◌<◌, Option, Some, slice_get, length}
 use Rattle.acceptor.specs.declared.ballot.Ballot.{Ballot}

@@ -1,4 +1,4 @@
--- Positions, log lengths, ballots and desk numbers in their ranges.
+-- Positions, log lengths, ballots and desk numbers in their ranges (the project's own).
 use Rattle.std.specs.Prelude.{ℕ, ◌≡◌, ◌<◌, ◌≤◌, ⊤, IsTrue, length, List, [], ◌∷◌, Option, Some}
 use Rattle.std.specs.Prelude.{None, Result, Ok, Err}
 use Rattle.acceptor.specs.declared.ballot.Ballot.{Ballot}

@@ -1,4 +1,4 @@
--- When an entry was submitted.
+-- When an entry was submitted (the project's own).
 use Rattle.std.specs.Prelude.{ℕ, ◌≡◌, IsOk, List, Some, slice_get, take}
 use Rattle.acceptor.specs.declared.entry.Entry.{Entry}
 use Rattle.learner.specs.declared.event.DeskEvent.TheVariants.{Submit}

@@ -8,7 +8,7 @@ use acceptor::message::Message;
 pub enum DeskEvent {
     /// A client hands in an entry, to be decided at some position.
     Submit(Entry),
-    /// The desk is told to propose: by a new ballot, or by the one that it leads by.
+    /// The desk is to propose: by a new ballot, or by the one that it leads by.
     Start,
     /// Some time has passed.
     Tick,
@@ -22,7 +22,7 @@ pub enum DeskEvent {
 pub enum WorldEvent {
     /// At this desk an entry is handed in.
     Submit(u8, Entry),
-    /// This desk is told to propose.
+    /// This desk is to propose.
     Start(u8),
     /// At this desk some time has passed.
     Tick(u8),

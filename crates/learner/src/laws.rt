@@ -34,7 +34,7 @@ pub fn logs_grow()
     ensures { LogsGrow }
 {}
 
-/// An entry at a position of one log stands there in every longer log, at every moment.
+/// An entry at a position of one log is there in every longer log, at every moment.
 pub fn entries_stay()
     ensures { EntriesStay }
 {}

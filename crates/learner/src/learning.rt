@@ -13,7 +13,7 @@ use proposer::proposer::Proposer;
 use proposer::role::Role;
 use std::alloc::Global;
 
-/// The most entries that a desk is told at once.
+/// The most entries that a desk is sent at once.
 const LONGEST_RUN: u32 = 16;
 
 /// What the desk plans at a Decided. Another message plans nothing here.
@@ -51,7 +51,7 @@ pub fn on_decided(
     Ok(proposer.nothing())
 }
 
-/// What a desk is told whose log ends at position `first`: the entries from there on, at most 16,
+/// What a desk is sent whose log ends at position `first`: the entries from there on, at most 16,
 /// in order of position, each by a message of its own.
 fn tell(alloc: Global, log: &Log, from: u8, to: u8, first: u32) -> Result<Messages, NoMemory>
     requires { first ≤ MOST_ENTRIES }
@@ -71,7 +71,7 @@ fn tell(alloc: Global, log: &Log, from: u8, to: u8, first: u32) -> Result<Messag
 
 /// What the desk plans at a Behind. Another message plans nothing here.
 ///
-/// A desk whose log is shorter is told the entries from its length on, at most 16 and up to the end
+/// A desk whose log is shorter is sent the entries from its length on, at most 16 and up to the end
 /// of this log, each by a message of its own, in order of position. One whose log is longer is
 /// answered by this log's length, so that it tells what is missing here. At equal lengths nothing
 /// is sent, and no memory is taken. Where memory is refused, the answer is NoMemory.

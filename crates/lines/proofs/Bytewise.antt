@@ -27,7 +27,7 @@ onto_end text x =
 abbrev pub parts : List ℕ → List ℕ → List (List ℕ) × List ℕ
 parts line bs = onto line (lines_and_rest bs)
 
--- a byte ends the line, or stands in it
+-- a byte ends the line, or is in it
 pub parts_end : (line bs : List ℕ)
     → onto line ([] ∷ (lines_and_rest bs).0, (lines_and_rest bs).1)
     ≡ (line ∷ (parts [] bs).0, (parts [] bs).1)
@@ -45,7 +45,7 @@ moved_parts t p b bs =
     onto p.line
     (cond t ([] ∷ (lines_and_rest bs).0, (lines_and_rest bs).1) (onto (b ∷ []) (lines_and_rest bs)))
 
--- the line that has begun is what stands after the last line feed
+-- the line that has begun is what is after the last line feed
 pub line_of_rest : (p : Progress) (bs : List ℕ) → (after_bytes p bs).line ≡ (parts p.line bs).1
 unfolding next after_line
 line_of_rest p [] = sym (append-nil p.line)

@@ -12,7 +12,7 @@ use Rattle.lines.proofs.Bytewise.{parts, moved, moved_parts, onto_nothing, onto_
 abbrev is_short : List ℕ → Bool
 is_short line = nat_le (length line) 10000
 
--- so many lines and bytes, after those of a state, are within the limits
+-- this many lines and bytes, after those of a state, are within the limits
 record Fits (p : Progress) (lines : List (List ℕ)) (n : ℕ) : Type 0 where
   bytes : p.bytes + n ≤ 39387136
   count : p.lines + length lines ≤ 65536

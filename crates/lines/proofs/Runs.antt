@@ -23,7 +23,7 @@ held_front xs next end n m same low high few =
     ∙ ap (take n) (drop-append-le next (take end xs) (drop end xs) inside)
     ∙ take-append-le n (drop next (take end xs)) (drop end xs) few
 
--- so many of the bytes that are held are taken
+-- this many of the bytes that are held are taken
 pub takes : (p q : Reading) (before now : List ℕ) (count : ℕ) → now ≡ before ++ take count p.held
     → q ≡ record p { held = drop count p.held; bytes = p.bytes + count }
     → count ≤ length p.held → ((k : ℕ) → k < count → slice_index p.held k ≢ 10)

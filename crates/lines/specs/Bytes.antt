@@ -1,4 +1,4 @@
--- What a writer was given of a text, and what a reader has left.
+-- What a writer was given of a text, and what a reader has left (the project's own).
 use Rattle.std.specs.Prelude.{◌≡◌, ℕ, List, ◌++◌, Option, None, Some}
 use Rattle.std.specs.Io.KnownBytes.{Appends}
 
@@ -21,7 +21,7 @@ HasLeft None bs = Unit {0}
 HasLeft (Some xs) bs = xs ≡ bs
 
 -- the two sides of a run: what its reader had and has left, and what its writer had and has, each
--- where it is told
+-- where it is known
 pub record Sides : Type 0 where
   pub had : Option (List ℕ)
   pub left : Option (List ℕ)

@@ -8,7 +8,7 @@ abbrev pub onto : List ℕ → List (List ℕ) × List ℕ → List (List ℕ) �
 onto text ([], rest) = ([], text ++ rest)
 onto text (line ∷ lines, rest) = ((text ++ line) ∷ lines, rest)
 
--- the lines that a line feed ends, and what stands after the last line feed
+-- the lines that a line feed ends, and what is after the last line feed
 abbrev pub lines_and_rest : List ℕ → List (List ℕ) × List ℕ
 lines_and_rest [] = ([], [])
 lines_and_rest (b ∷ bs) =
@@ -39,14 +39,14 @@ most_in_line = 10000
 abbrev pub most_bytes : ℕ
 most_bytes = 39387136
 
--- the input has at most so many bytes in all, so many lines, and so many bytes a line
+-- the input has at most this many bytes in all, this many lines, and this many bytes a line
 abbrev pub is_within : List ℕ → Bool
 is_within bs =
     nat_le (length bs) most_bytes
     && nat_le (length (lines_of bs)) most_lines
     && list_all (λ line. nat_le (length line) most_in_line) (lines_of bs)
 
--- the longest front part, of at most so many bytes, that is within the limits
+-- the longest front part, of at most this many bytes, that is within the limits
 abbrev pub longest_within : ℕ → List ℕ → List ℕ
 longest_within zero bs = []
 longest_within (suc n) bs =
@@ -64,8 +64,8 @@ lines_read bs = if is_within bs then lines_of bs else whole_lines (part_within b
 abbrev pub is_line : List ℕ → Bool
 is_line line = not (list_any (λ b. b == 10) line)
 
--- the whole lines, a line feed after each, and then the rest, are the input; and a line feed
--- stands nowhere else
+-- the whole lines, a line feed after each, and then the rest, are the input; and a line feed is
+-- nowhere else
 pub record AreParts (input : List ℕ) (lines : List (List ℕ)) (rest : List ℕ) : Type 0 where
   pub joined : flat_map (λ line. line ++ 10 ∷ []) lines ++ rest ≡ input
   pub parted : list_all is_line lines ≡ true

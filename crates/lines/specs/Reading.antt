@@ -1,4 +1,4 @@
--- What a reader of lines has read of an input, and which lines it gave.
+-- What a reader of lines has read of an input, and which lines it gave (the project's own).
 use Rattle.std.specs.Prelude.{◌≡◌, ℕ, ◌+◌, Bool, true, false, nat_lt, ◌==◌, ◌&&◌, ◌||◌, List, []}
 use Rattle.std.specs.Prelude.{◌∷◌, ◌++◌, length, Option, Result, Ok, Err}
 use Rattle.std.specs.Io.KnownBytes.{Consumes, IsAtEnd}
@@ -18,7 +18,8 @@ pub record Reading : Type 0 where
 abbrev pub nothing_read : Reading
 nothing_read = record { lines = 0; bytes = 0; held = []; over = false }
 
--- after so many bytes and lines, and so many bytes of a line, one more byte is within the limits
+-- after this many bytes and lines, and this many bytes of a line, one more byte is within the
+-- limits
 abbrev pub has_room : (bytes lines in_line : ℕ) → ℕ → Bool
 has_room bytes lines in_line byte =
     nat_lt bytes most_bytes && nat_lt lines most_lines
@@ -46,7 +47,7 @@ pub record GivesNone (p : Reading) (given : List ℕ) (start now : Option (List 
   pub read : HasGiven p given start now
   pub over : p.over ≡ true
 
--- one byte of the rest that was read is above the limits, whatever stands after it, and no line in
+-- one byte of the rest that was read is above the limits, whatever is after it, and no line in
 -- front of it is left
 pub record IsAbove (given rest : List ℕ) (start now : Option (List ℕ)) : Type 0 where
   pub consumed : Consumes start now (given ++ rest)

@@ -125,7 +125,7 @@ impl LineReader {
         }
     }
 
-    /// How many of the bytes that were read stand in a line after so many: those up to its line
+    /// How many of the bytes that were read are in a line after this many: those up to its line
     /// feed, as far as the limits have room.
     fn run_length(&self, in_line: usize) -> usize
         ensures held { result ≤ length self.now.held }
@@ -143,7 +143,7 @@ impl LineReader {
         memchr(b'\n', &self.piece[self.next..self.next + most]).unwrap_or(most)
     }
 
-    /// Takes those that stand in the line out of the bytes that were read, puts them after it, and
+    /// Takes those that are in the line out of the bytes that were read, puts them after it, and
     /// counts them.
     fn take_run(&mut self, line: &mut Vec<u8>) -> Result<(), RunFault>
         ensures ok { OnOk result (TakesRun self.old self.new line.old.items line.new.items) }
@@ -157,7 +157,7 @@ impl LineReader {
         Ok(())
     }
 
-    /// Counts one more byte, after so many of its line, where it is within the limits.
+    /// Counts one more byte, after this many of its line, where it is within the limits.
     fn count_byte(&mut self, in_line: usize, byte: u8) -> bool
         ensures room { result ≡ has_room self.old.bytes self.old.lines in_line byte }
         ensures counted { result ≡ true

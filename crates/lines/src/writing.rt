@@ -38,9 +38,9 @@ fn write_bytes<W: Write>(writer: &mut W, text: &[u8]) -> Result<(), WriteFailed>
 /// Gives the writer a whole text, and then asks it to flush. Where either fails, a front part of
 /// the text was given.
 ///
-/// What was given stands in the writer's contents before the flush, and the flush leaves them as
-/// they are. So the contract says nothing of the flush itself: a writer that holds bytes back hands
-/// them on where its own `flush` does.
+/// What was given is in the writer's contents before the flush, and the flush leaves them as they
+/// are. So the contract says nothing of the flush itself: a writer that holds bytes back hands them
+/// on where its own `flush` does.
 pub fn write_text<W: Write>(writer: &mut W, text: &[u8]) -> Result<(), WriteFailed>
     ensures ok { OnOk result (Appends (W.contents writer.old) (W.contents writer.new) text.now) }
     ensures err { OnErr result

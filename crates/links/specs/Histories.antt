@@ -1,4 +1,5 @@
--- What becomes of the frames that are pushed to a link, whatever calls are made.
+-- What becomes of the frames that are pushed to a link, whatever calls are made (the project's
+-- own).
 use Rattle.std.specs.Prelude.{◌≡◌, ◌⊎◌, ℕ, ◌+◌, ◌<◌, ◌≤◌, List, [], ◌∷◌, ◌++◌, length}
 use Rattle.std.specs.Prelude.{◌==◌, if◌then◌else◌}
 use Rattle.std.specs.List.{flat_map}
@@ -132,7 +133,7 @@ OrderAt count (SentOn m) ts = (m ≤ count) × ((n : ℕ) → n < m → sent_on 
 OrderAt count (Dropped cause) ts = Unit {0}
 OrderAt count Waits ts = (n : ℕ) → sent_on n ts ≡ []
 
--- frames are sent in the order of their pushes, on so many connections, one after the other
+-- frames are sent in the order of their pushes, on this many connections, one after the other
 abbrev pub AreInOrder : ℕ → List Told → Type 0
 AreInOrder count [] = Unit {0}
 AreInOrder count (t ∷ ts) = OrderAt count t.fate ts × AreInOrder count ts

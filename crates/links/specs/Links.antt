@@ -1,4 +1,5 @@
--- A link: the frames that wait, what of the first was sent, and what the connection has come to.
+-- A link: the frames that wait, what of the first was sent, and what the connection has come to
+-- (the project's own).
 use Rattle.std.specs.Prelude.{◌≡◌, ℕ, ◌+◌, ◌-◌, ◌*◌, ◌<◌, ◌≤◌, List, [], ◌∷◌, ◌++◌, length, drop}
 use Rattle.std.specs.Prelude.{min}
 use Rattle.std.specs.Prelude.{remove, map, nat_lt, nat_le, Option, None, Some, Bool, true, false}
@@ -95,7 +96,7 @@ with_waiting s fs = record {
   down = s.down;
 }
 
--- where the oldest frame of which nothing was sent stands: first, or after the one begun
+-- where the oldest frame of which nothing was sent is: first, or after the one begun
 abbrev pub oldest_at : ℕ → ℕ
 oldest_at begun = if nat_lt 0 begun then 1 else 0
 
@@ -116,7 +117,7 @@ abbrev pub has_some : List (List ℕ) → Bool
 has_some [] = false
 has_some (f ∷ fs) = true
 
--- so many milliseconds have gone since then
+-- this many milliseconds have gone since then
 abbrev pub is_over : ℕ → ℕ → ℕ → Bool
 is_over now since millis = nat_le millis (now - since)
 
@@ -135,7 +136,7 @@ wish_at (Open frames quiet) waits now =
 abbrev pub wish_of : LinkState → ℕ → Wish
 wish_of s now = wish_at s.stage (has_some s.waiting) now
 
--- what is left of so many milliseconds from then on
+-- what is left of this many milliseconds from then on
 abbrev pub left_of : ℕ → ℕ → ℕ → ℕ
 left_of now since millis = millis - (now - since)
 
@@ -190,7 +191,7 @@ after_opened s now = opened_at s.stage s now
 abbrev pub pending : LinkState → List ℕ
 pending s = if has_room s.stage then drop s.begun (first_of s.waiting) else []
 
--- so many bytes more of the first frame were sent, and it isn't whole yet
+-- this many bytes more of the first frame were sent, and it isn't whole yet
 abbrev pub part_sent : LinkState → ℕ → ℕ → LinkState
 part_sent s now count = record {
   waiting = s.waiting;

@@ -1,4 +1,4 @@
--- What is told of another desk, and when.
+-- What is said of another desk, and when (the project's own).
 use Rattle.std.specs.Prelude.{ℕ, ◌-◌, ◌/◌, nat_le, Option, None, Some, Bool, true}
 use Rattle.std.specs.Prelude.{if◌then◌else◌}
 use Rattle.links.specs.declared.notices.Notice.{Notice}

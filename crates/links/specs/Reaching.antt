@@ -1,4 +1,4 @@
--- How soon a desk that comes back is reached.
+-- How soon a desk that comes back is reached (the project's own).
 use Rattle.std.specs.Prelude.{◌≡◌, ℕ, ◌+◌, ◌≤◌, true}
 use Rattle.links.specs.declared.stages.Stage.TheVariants as stage
 use Rattle.links.specs.declared.stages.Wish.TheVariants as wish

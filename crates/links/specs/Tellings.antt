@@ -1,4 +1,4 @@
--- The lines that are told of a desk, whatever calls are made.
+-- The lines that are written about a desk, whatever calls are made (the project's own).
 use Rattle.std.specs.Prelude.{◌≡◌, ℕ, ◌+◌, ◌≤◌, List, [], ◌∷◌, Bool, true, false, Option, None}
 use Rattle.std.specs.Prelude.{Some}
 use Rattle.links.specs.declared.notices.Notice.{Notice}

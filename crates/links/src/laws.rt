@@ -26,7 +26,7 @@ pub fn links_try_again()
 {}
 
 /// However notices are called, the lines that are due are a second apart or more; that the desk
-/// can't be reached is told once, and that it was reached again only after that.
+/// can't be reached is said once, and that it was reached again only after that.
 pub fn lines_are_few()
     ensures { LinesAreFew }
 {}

@@ -32,7 +32,7 @@ const FIRST_PAUSE: u64 = 100;
 const LONGEST_PAUSE: u64 = 1000;
 
 /// Drops the oldest frame of which nothing was sent, where as many wait as may wait, and says
-/// whether it did. So many bytes of the first frame were sent.
+/// whether it did. This many bytes of the first frame were sent.
 fn make_room(waiting: &mut VecDeque<Vec<u8>>, begun: usize) -> bool
     ensures full { result ≡ nat_le 256 (length waiting.old.items) }
     ensures dropped { OnTrue result
@@ -78,14 +78,14 @@ fn is_spent(stage: Stage, waits: bool) -> bool
     }
 }
 
-/// Whether so many milliseconds have gone since then.
+/// Whether this many milliseconds have gone since then.
 fn is_over(now: u64, since: u64, millis: u64) -> bool
     ensures { result ≡ is_over now since millis }
 {
     now.saturating_sub(since) >= millis
 }
 
-/// What is left of so many milliseconds from then on.
+/// What is left of this many milliseconds from then on.
 fn left_of(now: u64, since: u64, millis: u64) -> u64
     ensures { result ≡ left_of now since millis }
 {
@@ -153,10 +153,10 @@ fn wait_at(stage: Stage, waits: bool, now: u64) -> Option<u64>
 /// The link from this desk to one other desk. Frames that are pushed wait in a queue, and are sent
 /// in the order of their pushes, each once, on connections that the link asks for.
 ///
-/// It makes no system call. Whoever drives it asks for its `wish` after each call and each `wait`,
-/// fulfils it, and says what came of it. A call that doesn't belong to the connection's stage
-/// changes nothing. Times are milliseconds of a clock that doesn't go back; where it does, the link
-/// waits longer.
+/// It makes no system call. Its caller asks for its `wish` after each call and each `wait`, fulfils
+/// it, and says what came of it. A call that doesn't belong to the connection's stage changes
+/// nothing. Times are milliseconds of a clock that doesn't go back; where it does, the link waits
+/// longer.
 ///
 /// A contract sees the frames that wait, how much of the first was sent, and what the connection
 /// has come to.
@@ -275,7 +275,7 @@ impl Link {
         }
     }
 
-    /// Says that so many bytes of the output were sent. A frame that is sent whole leaves the
+    /// Says that this many bytes of the output were sent. A frame that is sent whole leaves the
     /// queue; an empty one does so with a count of 0.
     pub fn sent(&mut self, now: u64, count: usize)
         requires { count ≤ length (pending self.old) }

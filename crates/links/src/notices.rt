@@ -1,4 +1,4 @@
-//! Which lines about another desk are due, so that what goes on for hours isn't told each second.
+//! Which lines about another desk are due, so that what lasts for hours isn't said each second.
 
 ghost use Rattle.std.specs.Prelude.{◌≡◌, None, IsTrue, IsSome, OnSome, IfNone, Some};
 ghost use Rattle.links.specs.Outages.{is_free, told, line_of, failed_in, reached_in, new_telling};
@@ -15,22 +15,22 @@ const APART: u64 = 1000;
 pub enum Notice {
     /// It can't be reached.
     Unreachable,
-    /// It was reached again, so many whole seconds after the first failure.
+    /// It was reached again, this many whole seconds after the first failure.
     Reached { seconds: u64 },
     /// What answers there is no desk of this hall.
     Foreign,
 }
 
-/// What is known of another desk, and what of it was told. Times are milliseconds.
+/// What is known of another desk, and what of it was said. Times are milliseconds.
 #[derive(Clone, Copy, PartialEq, Eq, Debug)]
 pub enum Outage {
     /// It can be reached, as far as is known.
     Reachable,
-    /// It can't be reached since this time, which isn't told yet.
+    /// It can't be reached since this time, which isn't said yet.
     Untold { since: u64 },
-    /// It can't be reached since this time, which is told.
+    /// It can't be reached since this time, which is said.
     Told { since: u64 },
-    /// It couldn't be reached from the one time to the other. The first is told, the second isn't.
+    /// It couldn't be reached from the one time to the other. The first is said, the second isn't.
     Back { since: u64, until: u64 },
 }
 
@@ -47,7 +47,7 @@ fn line_of(outage: Outage) -> Option<Notice>
     }
 }
 
-/// The outage once its line is told.
+/// The outage once its line is written.
 fn told(outage: Outage) -> Outage
     ensures { result ≡ told outage }
 {
@@ -80,8 +80,8 @@ fn reached_in(outage: Outage, now: u64) -> Outage
 }
 
 /// The lines about one other desk: at most one in 1,000 milliseconds. That it can't be reached is
-/// told once, and that it was reached again is told only after that. What can't be told at once is
-/// told by a later call, unless it is no longer so.
+/// said once, and that it was reached again is said only after that. What can't be said at once is
+/// said by a later call, unless it is no longer so.
 #[derive(Drop)]
 pub struct Notices {
     last: Option<u64>,
@@ -97,7 +97,7 @@ impl Model for Notices {
 }
 
 impl Notices {
-    /// Nothing is told yet, and the desk can be reached, as far as is known.
+    /// Nothing is said yet, and the desk can be reached, as far as is known.
     pub fn new() -> Notices
         ensures { result ≡ new_telling }
     {
@@ -107,7 +107,7 @@ impl Notices {
         }
     }
 
-    /// Whether a line may be told now: none was told, or the last one 1,000 milliseconds ago.
+    /// Whether a line may be written now: none was written, or the last one 1,000 milliseconds ago.
     fn is_free(&self, now: u64) -> bool
         ensures { result ≡ is_free self.now.last now }
     {
@@ -151,7 +151,7 @@ impl Notices {
         line
     }
 
-    /// What answers there is no desk of this hall. The line, if one may be told now.
+    /// What answers there is no desk of this hall. The line, if one may be written now.
     pub fn foreign(&mut self, now: u64) -> Option<Notice>
         ensures line { result ≡ foreign_line self.old now }
         ensures new { self.new ≡ after_foreign self.old now }

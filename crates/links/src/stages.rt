@@ -5,11 +5,11 @@
 pub enum Stage {
     /// There is none.
     Closed,
-    /// There is none, and until so many milliseconds after this time none is opened.
+    /// There is none, and until this many milliseconds after this time none is opened.
     Paused { since: u64, millis: u64 },
     /// It is being opened since this time.
     Opening { since: u64 },
-    /// It is open, so many frames were sent whole on it, and it was opened, or something was last
+    /// It is open, this many frames were sent whole on it, and it was opened, or something was last
     /// sent on it, at this time.
     Open { frames: u32, quiet: u64 },
 }

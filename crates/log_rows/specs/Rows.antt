@@ -27,7 +27,7 @@ use Rattle.log_rows.specs.declared.writing.Shown.TheVariants.{All, ChangesOf}
 abbrev pub begins : ℕ → Bool
 begins b = not (nat_le 128 b && nat_lt b 192)
 
--- a text on the left of so many columns, one for each character
+-- a text on the left of this many columns, one for each character
 abbrev pub left : ℕ → List ℕ → List ℕ
 left width text = text ++ replicate (width - count_by begins text) 32
 

@@ -13,7 +13,7 @@ use itoa::Buffer;
 use std::alloc::{AllocError, Global};
 use texts::{Answer, CommandFault, Remarked, read};
 
-/// Adds so many spaces.
+/// Adds this many spaces.
 fn push_spaces(out: &mut Vec<u8>, count: usize) -> Result<(), NoMemory>
     ensures { OnOk result (out.new.items ≡ out.old.items ++ replicate count 32) }
 {
@@ -23,7 +23,7 @@ fn push_spaces(out: &mut Vec<u8>, count: usize) -> Result<(), NoMemory>
     Ok(())
 }
 
-/// Adds a number in decimal on the right of so many columns.
+/// Adds a number in decimal on the right of this many columns.
 fn push_right(out: &mut Vec<u8>, width: usize, number: u32) -> Result<(), NoMemory>
     ensures { OnOk result (out.new.items ≡ out.old.items ++ right width (decimal number)) }
 {
@@ -47,7 +47,7 @@ fn characters(text: &[u8]) -> usize
     text.iter().filter(|byte| begins(**byte)).count()
 }
 
-/// Adds a text on the left of so many columns, one for each character, and two spaces.
+/// Adds a text on the left of this many columns, one for each character, and two spaces.
 #[tactic(auto, unfolding(crate::specs::Rows::column))]
 fn push_column(out: &mut Vec<u8>, width: usize, text: &[u8]) -> Result<(), NoMemory>
     ensures { OnOk result (out.new.items ≡ out.old.items ++ column width text.now) }

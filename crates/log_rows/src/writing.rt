@@ -26,7 +26,7 @@ use std::alloc::Global;
 use std::io::Write;
 use texts::{Answer, RoundId};
 
-/// What stands above the columns.
+/// What is above the columns.
 const HEADING: &[u8] =
     b"result  id                   answer             remark                    command\n";
 

@@ -10,7 +10,7 @@ use Rattle.mio_sockets.specs.Wiring.{Wired, Line, IsDriven, AreDriven, KeepsLine
 use Rattle.mio_sockets.specs.Wiring.{told_all, told_each}
 use Rattle.polled.proofs.Telling.{Tells-as, Tells-nil, Tells-trans}
 
--- the first so many links were driven, and the others are as before
+-- the first this many links were driven, and the others are as before
 pub record SoFar (x y : Option (List Wired)) (old new : List Line) (i : ℕ) : Type 0 where
   pub kept : KeepsLines x y (take i old) (take i new)
   pub rest : drop i new ≡ drop i old

@@ -1,4 +1,4 @@
--- What comes of accepting a client.
+-- What comes of accepting a client (the project's own).
 use Rattle.std.specs.Prelude.{◌≡◌, Bool, true}
 use Rattle.multiplex.specs.declared.clients.Accepted.{Accepted}
 use Rattle.multiplex.specs.declared.clients.Accepted.TheVariants as accepted_is

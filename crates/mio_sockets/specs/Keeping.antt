@@ -1,4 +1,4 @@
--- What is left to be done of the links to the other desks once they were kept.
+-- What is left to be done of the links to the other desks once they were kept (the project's own).
 use Rattle.std.specs.Prelude.{◌≡◌, ◌⊎◌, ◌<◌, ℕ, ◌+◌, List, [], ◌∷◌, length, drop}
 use Rattle.std.specs.List.{AllByRecursion}
 use Rattle.links.specs.Links.{LinkState, wish_of}

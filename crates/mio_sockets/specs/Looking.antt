@@ -1,4 +1,5 @@
--- What the links to the other desks are told of their connections when they are kept.
+-- What the links to the other desks hear of their connections when they are kept (the project's
+-- own).
 use Rattle.std.specs.Prelude.{◌≡◌, ℕ, List, [], ◌∷◌, ◌++◌, Option}
 use Rattle.links.specs.Links.{LinkState, after_ended, after_failed, after_opened}
 use Rattle.links.specs.declared.stages.Stage.{Stage}
@@ -50,6 +51,6 @@ LookAtAll (l ∷ ls) looks =
     (first : List Look) × (more : List Look) × (looks ≡ first ++ more)
     × LooksIn l.desk l.link.stage first × LookAtAll ls more
 
--- this is what was looked at, where that is told
+-- this is what was looked at, where that is known
 abbrev pub Looks : {C : Type 0} → (C → Option (List Look)) → C → C → (List Look → Type 0) → Type 0
 Looks looked c later P = (looks : List Look) × Tells (looked c) (looked later) looks × P looks

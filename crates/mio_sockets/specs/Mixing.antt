@@ -1,4 +1,5 @@
--- The random bytes of a connection, with the numbers of the desk's start and of the connection.
+-- The random bytes of a connection, with the numbers of the desk's start and of the connection (the
+-- project's own).
 use Rattle.std.specs.Prelude.{◌≡◌, ◌<◌, ◌+◌, ◌%◌, ◌^◌, ◌++◌, ℕ, List, length, slice_index}
 use Rattle.std.specs.Int.{from_be_bytes, to_be_bytes, w64}
 

@@ -1,4 +1,4 @@
--- For how long the links to the other desks may be left.
+-- For how long the links to the other desks may be left (the project's own).
 use Rattle.std.specs.Prelude.{ℕ, ◌-◌, min, ◌&&◌, ◌||◌, Bool, true, false, List, [], ◌∷◌, Option}
 use Rattle.std.specs.Prelude.{None, Some}
 use Rattle.std.specs.Option.{is_none}

@@ -1,5 +1,5 @@
--- What comes of the connections to the other desks, where it is told, and how a link is driven over
--- its connection.
+-- What comes of the connections to the other desks, where it is known, and how a link is driven
+-- over its connection (the project's own).
 use Rattle.std.specs.Prelude.{◌≡◌, ◌≢◌, ◌⊎◌, ℕ, ◌+◌, ◌^◌, ◌-◌, ◌==◌, min, List, [], ◌∷◌, ◌++◌}
 use Rattle.std.specs.Prelude.{take}
 use Rattle.std.specs.Prelude.{Option, None, Some, Bool, true, false}
@@ -20,7 +20,7 @@ pub data Wired : Type 0 where
   Took : ℕ → List ℕ → Wired
   Closed : ℕ → Wired
 
--- the bytes that were taken stand first among those that were given
+-- the bytes that were taken are first among those that were given
 abbrev pub taken : ℕ → Taken → List ℕ → List Wired
 taken d (taken_is.Bytes count) bytes = Took d (take count bytes) ∷ []
 taken d taken_is.Later bytes = []

@@ -34,7 +34,7 @@ impl Asking {
     }
 
     /// Whether the front of a frame names another hall, or another desk as its sender. The hall's
-    /// four bytes stand after those of the length and the version, and the sender's after them.
+    /// four bytes are after those of the length and the version, and the sender's after them.
     pub(crate) fn is_foreign(self, front: &[u8]) -> bool {
         let [_, _, _, _, _, a, b, c, d, sender, ..] = front else {
             return false;

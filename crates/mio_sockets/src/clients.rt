@@ -51,9 +51,9 @@ fn round_of(ready: Ready, last: u64) -> u64 {
 
 /// The clients of a desk over TCP, and one poll that tells which of their sockets is ready.
 ///
-/// At most 512 connections are open at once, and 64 more are ending: the client was told that no
-/// more comes, and what it still sends is read and dropped, for two seconds at most, so that what
-/// it was sent isn't lost by a reset.
+/// At most 512 connections are open at once, and 64 more are ending: the client knows that no more
+/// comes, and what it still sends is read and dropped, for two seconds at most, so that what it was
+/// sent isn't lost by a reset.
 ///
 /// A contract sees how many connections may be open at once, which ones are, whether a round was
 /// begun and isn't over, and what of it is still to be named.

@@ -32,7 +32,7 @@ pub(crate) struct DeskWire {
     /// Whether a connection is open only once it is known who answers: with a key, and once the
     /// desk asked for one.
     doubted: bool,
-    /// Whether another hall or desk has answered, which isn't told yet.
+    /// Whether another hall or desk has answered, which isn't said yet.
     foreign: bool,
     /// What went wrong last, or would have if the connection were given up now.
     trouble: Trouble,

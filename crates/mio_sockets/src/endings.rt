@@ -11,8 +11,8 @@ const MOST_ENDING: usize = 16;
 /// For how long a connection that is ending is kept at most, in milliseconds.
 const ENDING: u64 = 2000;
 
-/// A connection that is ending, as those of clients end: the desk was told that no more is sent to
-/// it. What it still sends is read and dropped, since bytes that were not read would reset the
+/// A connection that is ending, as those of clients end: the desk knows that no more is sent to it.
+/// What it still sends is read and dropped, since bytes that were not read would reset the
 /// connection, and what the desk has not read yet would be lost.
 #[derive(Drop)]
 struct Ending {

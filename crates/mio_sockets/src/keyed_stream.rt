@@ -28,8 +28,8 @@ pub(crate) enum Came {
 /// A connection to another desk, and what goes over it.
 ///
 /// Of a frame that is sealed the last byte counts as taken only once the connection has taken the
-/// whole record. So whoever sends the frame knows that a part of it was taken, and that it isn't
-/// done.
+/// whole record. So the code that sends the frame knows that a part of it was taken, and that it
+/// isn't done.
 #[derive(Drop)]
 pub(crate) struct KeyedStream {
     stream: TcpStream,
@@ -77,7 +77,7 @@ impl KeyedStream {
         }
     }
 
-    /// Tells the desk that no more is sent. False: it can't be told.
+    /// Tells the desk that no more is sent. False: it isn't known.
     pub(crate) fn shut(&self) -> bool {
         self.stream.shutdown(Shutdown::Write).is_ok()
     }
@@ -97,7 +97,7 @@ impl KeyedStream {
         self.heard
     }
 
-    /// Whether the right desk answered: told once, after something came that a desk said.
+    /// Whether the right desk answered: said once, after something came that a desk said.
     pub(crate) fn take_answer(&mut self) -> Option<bool>
         ensures { own_key self.new.call ≡ own_key self.old.call }
     {

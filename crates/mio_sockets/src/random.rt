@@ -29,8 +29,8 @@ pub fn mixed(first: [u8; 8], second: [u8; 8], start: u64, count: u64) -> [u8; 16
     bytes
 }
 
-/// The random bytes of a connection of a desk's start, before which so many were begun: 16 that the
-/// system draws, mixed with both numbers.
+/// The random bytes of a connection of a desk's start, before which this many were begun: 16 that
+/// the system draws, mixed with both numbers.
 pub(crate) fn drawn<R: RandomSource>(system: &R, start: u64, count: u64) -> io::Result<[u8; 16]> {
     let mut first = [0; 8];
     let mut second = [0; 8];

@@ -45,9 +45,9 @@ impl<'a, R> Model for SocketWires<'a, R> {
 }
 
 impl<'a, R: Net + RandomSource> SocketWires<'a, R> {
-    /// No connections yet, at the desk's start of this number. Their sockets are told of by the
-    /// poll of this registry. The desks are those of this hall, and speak under its key, where it
-    /// has one, or under the one that it had, where that is given.
+    /// No connections yet, at the desk's start of this number. The poll of this registry names
+    /// their sockets. The desks are those of this hall, and speak under its key, where it has one,
+    /// or under the one that it had, where that is given.
     pub fn new(
         system: &'a R,
         alloc: Global,
@@ -129,7 +129,7 @@ impl<R: Net + RandomSource> Wires for SocketWires<'_, R> {
         self.wires.trouble(desk)
     }
 
-    /// The desk is told that no more is sent, and what it still sends is read.
+    /// It is said to the desk that no more is sent, and what it still sends is read.
     fn close(&mut self, desk: u8)
         ensures { self.new ≡ self.old }
     {

@@ -45,10 +45,10 @@ pub enum Trouble {
 
 /// The connections to other desks, one at most to each. No call waits.
 pub trait Wires {
-    /// What came of them, in order, where that is told.
+    /// What came of them, in order, where that is known.
     ghost wired: { Self → Option (List Wired) };
 
-    /// What was looked at, in order, and what was seen, where that is told.
+    /// What was looked at, in order, and what was seen, where that is known.
     ghost looked: { Self → Option (List Look) };
 
     /// Begins a connection to a desk that has none, at an address. False: it can't be opened.

@@ -1,4 +1,4 @@
--- What the entries of a log were answered.
+-- What the entries of a log were answered (the project's own).
 use Rattle.std.specs.Prelude.{ℕ, List, [], ◌∷◌, ◌++◌, take, slice_get, Option}
 use Rattle.std.specs.Option.{option_map}
 use Rattle.acceptor.specs.declared.entry.Entry.{Entry}

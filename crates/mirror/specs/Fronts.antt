@@ -1,4 +1,4 @@
--- Mirrors of logs of which one begins the other.
+-- Mirrors of logs of which one begins the other (the project's own).
 use Rattle.std.specs.Prelude.{ℕ, ◌≡◌, ◌≤◌, ◌⊎◌, List, [], ◌∷◌, length, take, drop, Option}
 use Rattle.std.specs.Prelude.{None, Some, slice_get}
 use Rattle.acceptor.specs.declared.entry.Entry.{Entry}

@@ -1,5 +1,5 @@
--- What a mirror does with entries that it is told: from a position of a log on, those that stand
--- there one after the other.
+-- What a mirror does with entries that it is given: from a position of a log on, those that are
+-- there one after the other (the project's own).
 use Rattle.std.specs.Prelude.{ℕ, ◌≡◌, ◌≢◌, ◌+◌, ◌-◌, ◌<◌, ◌≤◌, List, ◌∷◌, ◌++◌, length, drop}
 use Rattle.std.specs.Prelude.{slice_get, Some}
 use Rattle.acceptor.specs.declared.entry.Entry.{Entry}

@@ -17,23 +17,23 @@ use std::marker::Model;
 use texts::Answer;
 use wire::Entries;
 
-/// What came of entries that a mirror was told.
+/// What came of entries that a mirror was given.
 #[derive(Clone, Copy, PartialEq, Eq, Debug)]
 pub enum Taken {
-    /// The entries stand where the mirror ends, or overlap with what it holds and go on beyond its
+    /// The entries are where the mirror ends, or overlap with what it holds and go on beyond its
     /// end. It has grown by those beyond its end.
     Grew,
     /// The mirror holds all of them already, at their positions. It is as it was.
     Known,
-    /// The first of them stands above the mirror's end, which is at the position of its length.
-    /// The mirror is as it was, whatever the entries are.
+    /// The first of them is above the mirror's end, which is at the position of its length. The
+    /// mirror is as it was, whatever the entries are.
     Gap,
     /// The mirror holds another entry at `position`, 0 to 65,535, and at no position below it that
-    /// was told. It is as it was.
+    /// was given. It is as it was.
     Differs { position: u32 },
 }
 
-/// The first entries of a log, from position 0 on, as they were told.
+/// The first entries of a log, from position 0 on, as they were given.
 ///
 /// Contracts see it as the list of these entries. The meet that they come to is kept beside them,
 /// and what each was answered.
@@ -153,7 +153,7 @@ impl Mirror {
         self.log.is_empty()
     }
 
-    /// Takes entries of a log that stand there from `position` on, as an Entries of the wire says.
+    /// Takes entries of a log that are there from `position` on, as an Entries of the wire says.
     /// The work is that of these entries, however many are held.
     ///
     /// Where memory is refused, all that overlaps is as it is held, some are new, and of these the
@@ -178,7 +178,7 @@ impl Mirror {
         Ok(Taken::Grew)
     }
 
-    /// The first position at which another entry is told than the one that is held.
+    /// The first position at which another entry is given than the one that is held.
     fn first_other(&self, position: u32, entries: &[Entry]) -> Option<u32>
         requires { position + length entries.now ≤ 65536 }
         ensures differs { IfSome result (λ at. DiffersFirst self.now position entries.now at) }

@@ -1,4 +1,4 @@
--- What a mirror holds after calls of any kind, in any order.
+-- What a mirror holds after calls of any kind, in any order (the project's own).
 use Rattle.std.specs.Prelude.{ℕ, ◌≡◌, List, [], ◌∷◌, Option, Ok}
 use Rattle.acceptor.specs.declared.entry.Entry.{Entry}
 use Rattle.client.specs.Answers.{judged}

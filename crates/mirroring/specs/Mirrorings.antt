@@ -1,4 +1,5 @@
--- A mirror that is kept up over connections to the desks of a hall, one at a time.
+-- A mirror that is kept up over connections to the desks of a hall, one at a time (the project's
+-- own).
 use Rattle.std.specs.Prelude.{ℕ, ◌≡◌, ◌+◌, ◌-◌, List, [], Option, None, Some, Bool, true, false}
 use Rattle.std.specs.Prelude.{IfSome, length, nat_le, option_map}
 use Rattle.acceptor.specs.declared.entry.Entry.{Entry}
@@ -63,7 +64,7 @@ lost m = mirroring m.hall (after_lost m.follower) m.entries None None
 -- ---- what is done
 
 -- the desk that is followed is asked for what its log has from the last entry on that is held, or
--- to answer once the command stands there that is waited for, or after a second
+-- to answer once the command is there that is waited for, or after a second
 abbrev pub question_by : Option ℕ → MirroringOf → Frame
 question_by None m = log_request m.hall m.follower.desk (length m.entries - 1)
 question_by (Some id) m = await_request m.hall m.follower.desk id 1

@@ -45,7 +45,7 @@ impl Model for Mirroring {
     ghost invariant = { λ m. AreIds m.awaits };
 }
 
-/// Whether a mirror has grown, as far as is told.
+/// Whether a mirror has grown, as far as is known.
 fn is_growth(taken: Option<Taken>) -> bool
     ensures { result ≡ is_growth taken }
 {
@@ -61,7 +61,7 @@ fn is_within(position: u32, entries: &Entries) -> bool
 }
 
 impl Mirroring {
-    /// An empty mirror of a hall with so many desks, 1 to 5. The first desk comes first.
+    /// An empty mirror of a hall with this many desks, 1 to 5. The first desk comes first.
     pub fn new(alloc: Global, hall: u32, desks: u8) -> Result<Mirroring, AllocError>
         requires { IsPlace 1 desks }
         ensures { IfOk result (λ m. m ≡ new_mirroring hall desks) }
@@ -106,7 +106,7 @@ impl Mirroring {
         self.follower.wait(now)
     }
 
-    /// What is to be done now, at so many milliseconds of a clock that doesn't go back. It counts
+    /// What is to be done now, at this many milliseconds of a clock that doesn't go back. It counts
     /// as begun.
     pub fn act(&mut self, now: u64) -> Wish
         ensures { Acts result now self.old self.new }
@@ -127,7 +127,7 @@ impl Mirroring {
     }
 
     /// What the desk that is followed is asked: for a command, or for its log from the mirror's
-    /// last entry on: where the desk has another one there, it is told apart.
+    /// last entry on: if the desk has another one there, that is noticed.
     fn question(&self) -> Frame
         ensures question { result ≡ question_by self.now.awaits self.now }
         ensures spelled { IsFrame result }
@@ -193,7 +193,7 @@ impl Mirroring {
         }
     }
 
-    /// Says that so many bytes of the output were written.
+    /// Says that this many bytes of the output were written.
     pub fn sent(&mut self, count: usize)
         ensures { self.new ≡ sent_by self.old count }
     {
@@ -266,7 +266,7 @@ impl Mirroring {
         Came::Answer { changed: false }
     }
 
-    /// Takes entries that a desk told, whose log is so long.
+    /// Takes entries that a desk sent, whose log is this long.
     fn take(&mut self, now: u64, position: u32, len: u32, entries: Entries) -> Came
         requires { position + length entries ≤ 65536 }
         ensures { Grows result now position len entries self.old self.new }
@@ -281,8 +281,8 @@ impl Mirroring {
 
     /// Lets the next question come at once where the last one was answered with something of use:
     /// over the connection or, where that was closed or lost since, over a new one to the next
-    /// desk. So whoever knows that something new is to be told needn't wait for a quarter of a
-    /// second, also where the desk ended the connection after that answer.
+    /// desk. So a caller who knows of something new needn't wait for a quarter of a second, also
+    /// where the desk ended the connection after that answer.
     pub fn hurry(&mut self)
         ensures { self.new ≡ hurried self.old }
     {
@@ -290,8 +290,8 @@ impl Mirroring {
     }
 
     /// The same, and the next question is for this command, which the log does not have yet: the
-    /// desk answers it once it stands there, or after a second, and is asked for its log at once
-    /// then. The desk has to know version 5 of the wire: another one ends the connection at it.
+    /// desk answers it once it is there, or after a second, and is asked for its log at once then.
+    /// The desk has to know version 5 of the wire: another one ends the connection at it.
     pub fn await_next(&mut self, id: u64)
         requires { IsId id }
         ensures { self.new ≡ awaiting self.old id }

@@ -554,7 +554,7 @@ joined_more (one ∷ steps) asked =
     ap (λ (z : List Request). one ++ z) (joined_more steps asked)
     ∙ sym (append_assoc one (joined steps) asked)
 
--- what was asked in so many steps
+-- what was asked in this many steps
 abbrev pub AsksSteps : {C L : Type 0} → (C → Option (List Request))
     → (L → ℕ → Option ℕ → Type 0) → (L → Option (List ℕ)) → Terms → Home → ℕ → Stand L → Stand L
     → C → C → Type 0

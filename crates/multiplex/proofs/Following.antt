@@ -113,7 +113,7 @@ went {V} {way} k talks p q (t ∷ ts) at h =
 
 -- ---- what a step leads to
 
--- What is told of it grows by these. These deeds were done, and so it stands with each client.
+-- What is told of it grows by these. These deeds were done, and so it is with each client.
 record Led {V : Type 0} {way : Way V} (home : Home) (t : Terms) (before : List Happened)
     (frames : List Served) (a b : Room way) (js : List Happened) (ticks : List Bool)
     (deeds : List Deed) (new : ℕ → Guarding) : Type 0 where
@@ -185,7 +185,7 @@ kept_other doors o g came handed answers sent begun kept =
     (sent ++ []) begun (begun ++ []) refl (sym (append-nil came)) (sym (append-nil handed))
     (sym (append-nil answers)) (sym (append-nil sent)) (sym (append-nil begun)) kept
 
--- so it stands with each client
+-- so it is with each client
 visited : {V : Type 0} {way : Way V} (home : Home) (doors : Doors) (server : List ℕ)
     (before js : List Happened) (frames fs : List Served) (guards : ℕ → Guarding) (k : ℕ)
     (turns inner : List Turn) (p q : GuardTurns.Place way) (new : ℕ → Talk)

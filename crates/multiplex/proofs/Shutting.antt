@@ -121,7 +121,7 @@ shuts_one happened home t w over old new c later before after gone cause h = (
   },
 )
 
--- that of the client at this place, for a cause that holds of whoever stands there
+-- that of the client at this place, for a cause that holds of whoever is there
 pub shuts : {C : Type 0} (happened : C → Option (List Happened)) (home : Home) (t : Terms)
     (w : Why) (place : ℕ) (over : Option Over) (old new : Table) (c later : C)
     → ((before after : List Guest) (gone : Guest) → length before ≡ place
@@ -313,7 +313,7 @@ shut_fewer happened place over old new c later h =
 
 -- ---- all are ended
 
--- these stand in a lobby in place of those of a table, serving is over
+-- these are in a lobby in place of those of a table, serving is over
 abbrev over_with : Table → Over → List Guest → Lobby
 over_with t over guests = lobby guests t.next t.time t.own t.dear.spent t.differs (Some over)
 

@@ -1,4 +1,4 @@
--- What is delivered of a client stands in records that fit under one of the hall's keys.
+-- What is delivered of a client is in records that fit under one of the hall's keys.
 use Rattle.std.proofs.Common.{◌≡◌, sym, ap, subst, ◌∙◌, ℕ, List, [], ◌∷◌, ◌++◌, append_assoc}
 use Rattle.std.specs.Prelude.{IsTrue}
 use Rattle.std.specs.List.{flat_map}

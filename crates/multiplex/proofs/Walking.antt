@@ -643,7 +643,7 @@ seen_then d p differs node next peers more old new h free =
     (Turns.sides_at d p old.talk.wire (Turns.moment next more h.1)) h.2.0 h.1.frames)
     (still_open h.1 old new h.3 free) h.2.2).0.node
 
--- what is heard of one more, where it stands so before it
+-- what is heard of one more, where it is so before it
 record HeardOne (home : Home) (e : Ears) (one : Begun) (known : List ℕ)
     (differs : Option Difference) : Type 0 where
   lengths : known ≡ (hear home e one).known

@@ -1,4 +1,4 @@
--- Whose question for a sheet or for entries of the log is answered in a round.
+-- Whose question for a sheet or for entries of the log is answered in a round (the project's own).
 use Rattle.std.specs.Prelude.{ℕ, ◌+◌, ◌*◌, ◌-◌, Bool, true, false, ◌&&◌, ◌||◌, not, ltb, min}
 use Rattle.std.specs.Prelude.{if◌then◌else◌}
 use Rattle.multiplex.specs.declared.dear.DearTurns.{DearTurns}

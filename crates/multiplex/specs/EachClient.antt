@@ -1,4 +1,4 @@
--- What holds of each client of many that were served side by side.
+-- What holds of each client of many that were served side by side (the project's own).
 use Rattle.std.specs.Prelude.{◌≡◌, ℕ, ◌==◌, Bool, if◌then◌else◌, List, [], ◌∷◌, ◌++◌}
 use Rattle.std.specs.Prelude.{Option, None, Some, IsTrue}
 use Rattle.answers.specs.declared.desk.Desk.{Ghosts as DeskOf}
@@ -108,10 +108,10 @@ came_with k (Failed ∷ hs) = came_with k hs
 -- ---- one client
 
 -- A client that gave these bytes and took those, and of which these frames were begun. Its stream
--- was let in as the doors admit it, and the frames were served as far as whoever calls may ask:
--- what was let in are these frames, those that wait, and a rest. What it took, and then what was
--- still to be sent when its connection was ended, is the desk's preface, where there is one, and
--- then what is sent of the answers to these frames, in order, and of nothing else.
+-- was let in as the doors admit it, and the frames were served as far as the caller may ask: what
+-- was let in are these frames, those that wait, and a rest. What it took, and then what was still
+-- to be sent when its connection was ended, is the desk's preface, where there is one, and then
+-- what is sent of the answers to these frames, in order, and of nothing else.
 pub record IsServedBehind (home : Home) (doors : Doors) (server came sent : List ℕ)
     (all : List Served) : Type 0 where
   pub guard : Guarding
@@ -147,8 +147,8 @@ EachClientIsServed d =
     → IsServedClient home t.doors (came_with k (told_all steps)) (gave k (told_all steps))
     (took k (told_all steps)) (served_of k (frames_in deeds)))
 
--- At a desk with a key, each frame of a client that delivers a message stands in records that fit
--- under one of the hall's keys, of what the client gave.
+-- At a desk with a key, each frame of a client that delivers a message is in records that fit under
+-- one of the hall's keys, of what the client gave.
 abbrev pub EachDeliversUnderHall : Type 0
 EachDeliversUnderHall =
     (home : Home) (locks : Locks) (server came sent : List ℕ) (earlier later : List Served)

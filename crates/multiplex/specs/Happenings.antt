@@ -1,4 +1,4 @@
--- What comes of many clients, where it is told.
+-- What comes of many clients, where it is known (the project's own).
 use Rattle.std.specs.Prelude.{ℕ, Bool, true, false, List, [], ◌∷◌, take}
 use Rattle.polled.specs.declared.answers.Ready.{Ready}
 use Rattle.polled.specs.declared.answers.Ready.TheVariants as ready_is
@@ -11,7 +11,7 @@ use Rattle.polled.specs.declared.answers.Taken.TheVariants as taken_is
 
 -- A client is named by the number under which it was accepted.
 pub data Happened : Type 0 where
-  -- a round is over, so many milliseconds after the first one
+  -- a round is over, this many milliseconds after the first one
   Round : ℕ → Happened
   -- a client came, and has this number; these random bytes were drawn for it
   Came : ℕ → List ℕ → Happened
@@ -41,14 +41,14 @@ accepted k (accepted_is.Came random) = Came k random ∷ []
 accepted k accepted_is.Nobody = []
 accepted k accepted_is.Full = Full ∷ []
 
--- the bytes that were read stand first in the buffer
+-- the bytes that were read are first in the buffer
 abbrev pub given : ℕ → Given → List ℕ → List Happened
 given k (given_is.Bytes count) buffer = Gave k (take count buffer) ∷ []
 given k given_is.Later buffer = []
 given k given_is.Ended buffer = Ended k ∷ []
 given k given_is.Broke buffer = Broke k ∷ []
 
--- the bytes that were taken stand first among those that were given
+-- the bytes that were taken are first among those that were given
 abbrev pub taken : ℕ → Taken → List ℕ → List Happened
 taken k (taken_is.Bytes count) bytes = Took k (take count bytes) ∷ []
 taken k taken_is.Later bytes = []

@@ -1,4 +1,4 @@
--- What a desk has to ask of its clients and its links at each step.
+-- What a desk has to ask of its clients and its links at each step (the project's own).
 use Rattle.std.specs.Prelude.{◌≡◌, ◌≢◌, ◌⊎◌, ◌≤◌, ◌<◌, ℕ, ◌-◌, min, List, [], ◌∷◌, ◌++◌, length}
 use Rattle.std.specs.Prelude.{Option, None, Some, Bool, true, false, IfSome, ◌↔◌}
 use Rattle.std.specs.List.{AllByRecursion}
@@ -107,7 +107,7 @@ MakesPlace k count accepted_is.Full more =
 MakesPlace k count (accepted_is.Came random) more = (more ≡ []) ⊎ (more ≡ Closing k ∷ [])
 MakesPlace k count accepted_is.Nobody more = more ≡ []
 
--- it is accepted, where so many connections are open
+-- it is accepted, where this many connections are open
 abbrev pub Accepts : ℕ → ℕ → List Request → Type 0
 Accepts k count asked =
     (a : Accepted) × (more : List Request) × (asked ≡ Accepting k a ∷ more)
@@ -135,7 +135,7 @@ NoneIsSilent patience table =
     AllByRecursion
     (λ (g : Guest). table.time - g.ready ≤ waited_for patience (begun g.talk)) table.guests.items
 
--- the last moment at which the links were kept, where that is told
+-- the last moment at which the links were kept, where that is known
 abbrev pub WereKeptAt : ℕ → Option (List ℕ) → Type 0
 WereKeptAt now kept =
     IfSome kept (λ moments. (earlier : List ℕ) × (moments ≡ earlier ++ now ∷ []))
@@ -170,7 +170,7 @@ Follows t home x over old new kept ready_is.Failed more =
     (over ≡ Some over_is.Failed) × (more ≡ [])
 
 -- It is waited until something is ready, as long as may be, and then that is done which is to be
--- done. What the links say of when they are to be kept again stands first. This is seen of the desk
+-- done. What the links say of when they are to be kept again is first. This is seen of the desk
 -- behind the step.
 pub record Musts {L : Type 0} (due : L → ℕ → Option ℕ → Type 0) (kept : L → Option (List ℕ))
     (t : Terms) (home : Home) (x : Seen) (over : Option Over) (old new : Table) (links later : L)
@@ -184,8 +184,8 @@ pub record Musts {L : Type 0} (due : L → ℕ → Option ℕ → Type 0) (kept 
 
 -- ---- serving from its first client to its end
 
--- what stands between two steps: the clients whose connections are open, the links, and what is
--- seen of the desk
+-- what is between two steps: the clients whose connections are open, the links, and what is seen of
+-- the desk
 pub record Stand (L : Type 0) : Type 0 where
   pub table : Table
   pub links : L
@@ -206,8 +206,8 @@ abbrev pub joined : List (List Request) → List Request
 joined [] = []
 joined (asked ∷ steps) = asked ++ joined steps
 
--- After so many steps serving is over: as many clients as were asked for came and left; or it took
--- 2^64 - 1 steps; or a further step, at which this was asked, ended it.
+-- After this many steps serving is over: as many clients as were asked for came and left; or it
+-- took 2^64 - 1 steps; or a further step, at which this was asked, ended it.
 abbrev pub Ends : {L : Type 0} → (L → ℕ → Option ℕ → Type 0) → (L → Option (List ℕ)) → Terms
     → Home → Over → ℕ → Stand L → Stand L → List Request → Type 0
 Ends due kept t home over count a b last =

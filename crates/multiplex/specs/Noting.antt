@@ -1,4 +1,4 @@
--- What is kept of a client beside its connection.
+-- What is kept of a client beside its connection (the project's own).
 use Rattle.std.specs.Prelude.{◌≡◌, ◌≤◌, ℕ, ◌+◌, ◌*◌, Bool, true, false, not, ◌||◌, nat_le, min}
 use Rattle.std.specs.Prelude.{List, [], ◌∷◌, Option, None, Some, is_some}
 use Rattle.std.specs.List.{AllByRecursion}
@@ -45,7 +45,7 @@ awaited_of home (Some f) = awaited_by home f
 abbrev pub awaited_next : Home → Guarding → Option Awaited
 awaited_next home g = awaited_of home (next_of g)
 
--- it stands in the log, or the desk is down
+-- it is in the log, or the desk is down
 abbrev pub is_known : Seen → ℕ → Bool
 is_known x id = x.is_down || is_some (position_of x.desk.log id)
 
@@ -72,7 +72,7 @@ pub record IsOff (x : Seen) (time : ℕ) (g : Guarding) (until : Option ℕ) : T
   pub put : until ≡ Some moment
   pub early : is_due x awaited moment time ≡ false
 
--- whether a frame was put off is known from what stands there, and until when it is
+-- whether a frame was put off is known from what is there, and until when it is
 abbrev pub PutsOff : Bool → Home → Seen → ℕ → Guarding → Notes → Notes → Type 0
 PutsOff true home x time g old new =
     (put_off home x g time old ≡ true) × IsOff x time g new.until × (new.known ≡ old.known)
@@ -80,7 +80,7 @@ PutsOff false home x time g old new =
     (put_off home x g time old ≡ false) × (new.until ≡ None) × (new.known ≡ old.known)
 
 -- An Await that is begun at this time, which was put off until then or was not, is to be answered:
--- its id stands in the log, or the desk is down, or the seconds are over that it names.
+-- its id is in the log, or the desk is down, or the seconds are over that it names.
 abbrev pub IsDueFrame : Seen → ℕ → Option ℕ → Option Awaited → Type 0
 IsDueFrame x time until None = Unit {0}
 IsDueFrame x time until (Some a) = is_due x a (until_of a time until) time ≡ true
@@ -125,7 +125,8 @@ listened_to home g notes (Some f) =
 abbrev pub listened : Home → Guarding → Notes → Notes
 listened home g notes = listened_to home g notes (next_of g)
 
--- what is seen of this desk, the lengths that the hall's desks told, and how one of them differs
+-- what is seen of this desk, the lengths that the hall's desks reported, and how one of them
+-- differs
 pub record Ears : Type 0 where
   pub seen : Seen
   pub known : List ℕ

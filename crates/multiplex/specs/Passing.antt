@@ -1,4 +1,4 @@
--- Many clients that are served by one desk, side by side, step by step.
+-- Many clients that are served by one desk, side by side, step by step (the project's own).
 use Rattle.std.specs.Prelude.{◌≡◌, ◌≢◌, ◌⊎◌, ◌≤◌, ◌<◌, ℕ, ◌+◌, ◌-◌, List, [], ◌∷◌, ◌++◌, length}
 use Rattle.std.specs.Prelude.{Option, None, Some, suc, Bool, true, false, ◌||◌, IsTrue, IsFalse}
 use Rattle.std.specs.Prelude.{if◌then◌else◌}

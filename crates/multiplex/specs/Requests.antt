@@ -1,4 +1,4 @@
--- What is asked of many clients, and what comes of it, where that is told.
+-- What is asked of many clients, and what comes of it, where that is known (the project's own).
 use Rattle.polled.specs.Requests.{Asked}
 use Rattle.multiplex.specs.declared.clients.Accepted.{Accepted}
 pub use Rattle.polled.specs.Requests.{Asks, Waited, Accepting, Reading, Writing, Watching, Closing}

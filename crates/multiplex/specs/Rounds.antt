@@ -1,4 +1,4 @@
--- A desk that serves, step after step.
+-- A desk that serves, step after step (the project's own).
 use Rattle.std.specs.Prelude.{◌≡◌, ℕ, [], Option, None}
 use Rattle.answers.specs.declared.desk.Desk.{Ghosts as DeskOf}
 use Rattle.multiplex.specs.Dear.{fresh_dear}

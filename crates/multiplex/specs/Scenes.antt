@@ -1,4 +1,4 @@
--- Serving many clients, as a contract says it.
+-- Serving many clients, as a contract says it (the project's own).
 use Rattle.std.specs.Prelude.{ℕ, List, Option}
 use Rattle.answers.specs.declared.desk.Desk.{Ghosts as DeskOf}
 use Rattle.serving.specs.declared.peers.Peers.{Ghosts as PeersOf}

@@ -1,4 +1,4 @@
--- How much of others is done between two turns of a client.
+-- How much of others is done between two turns of a client (the project's own).
 use Rattle.std.specs.Prelude.{◌≤◌, ℕ, ◌+◌, suc, List, [], ◌∷◌, ◌++◌, if◌then◌else◌}
 use Rattle.answers.specs.declared.desk.Desk.{Ghosts as DeskOf}
 use Rattle.store.specs.declared.home.Home.{Home}

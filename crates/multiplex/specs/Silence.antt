@@ -1,4 +1,4 @@
--- How long it is waited for a client.
+-- How long it is waited for a client (the project's own).
 use Rattle.std.specs.Prelude.{ℕ, ◌==◌, min, if◌then◌else◌, Option, None, Some}
 
 -- when it was ready last, after a visit at this time: that stays where the record of it that has

@@ -24,10 +24,10 @@ pub enum Accepted {
 /// The clients of a desk, each by the number under which it was accepted, and their sockets. No
 /// call but `ready` waits.
 pub trait Clients {
-    /// What came of them, in order, where that is told.
+    /// What came of them, in order, where that is known.
     ghost happened: { Self → Option (List Happened) };
 
-    /// What was asked of them, in order, and what came of it, where that is told.
+    /// What was asked of them, in order, and what came of it, where that is known.
     ghost requests: { Self → Option (List Request) };
 
     /// Waits until something is ready, and names it. All that was ready at once is named one after

@@ -4,7 +4,7 @@ ghost use Rattle.std.specs.Prelude.{◌≡◌};
 ghost use Rattle.multiplex.specs.Dear.{asked, fresh_dear, is_next, renewed, rest_after};
 
 /// What a sheet or entries of the log take grows with the log, so one such question is answered in
-/// a round. Whoever has a key comes before those who have none; of each the clients have their
+/// a round. Those who have a key come before those who have none; of each the clients have their
 /// turns in the order of their numbers, from the one after the last on.
 ///
 /// Where others wait for such an answer, none is begun for three times as long as the last round

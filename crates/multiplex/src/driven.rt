@@ -18,7 +18,7 @@ use std::marker::Model;
 use ticking::Period;
 
 /// A desk that serves its clients side by side, one step after the other: `serve_each` takes all of
-/// them, and here whoever has it says when the next one is taken.
+/// them, and here its owner says when the next one is taken.
 ///
 /// A contract sees how clients are served, the clients, and the desk.
 #[derive(Drop)]
@@ -69,7 +69,7 @@ impl<D: Desk + Drop> Rounds<D> {
         &self.desk
     }
 
-    /// The desk, which serves nobody any more. Whoever closes the sockets ends the connections.
+    /// The desk, which serves nobody any more. Closing the sockets ends the connections.
     pub fn into_desk(self) -> D
         ensures { result ≡ self.desk }
     {

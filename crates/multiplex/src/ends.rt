@@ -3,8 +3,8 @@
 /// Why a client's connection is ended.
 #[derive(Clone, Copy, PartialEq, Eq, Debug)]
 pub enum Why {
-    /// By serving: a Stop was answered, 64 frames were served, what stands in the stream is no
-    /// frame, the desk is down, or memory was refused. All that was to be sent was taken.
+    /// By serving: a Stop was answered, 64 frames were served, what is in the stream is no frame,
+    /// the desk is down, or memory was refused. All that was to be sent was taken.
     Done,
     /// The client has sent all that it will send, and all of it is served and its answers taken.
     Ended,

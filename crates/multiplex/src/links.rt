@@ -9,13 +9,13 @@ use wire::Difference;
 /// The links to the other desks of a hall. A frame that is pushed waits in its link until the link
 /// is kept. No call waits.
 pub trait Links: Peers {
-    /// At which moments they were kept, in order, where that is told.
+    /// At which moments they were kept, in order, where that is known.
     ghost kept: { Self → Option (List ℕ) };
 
     /// What is said at a moment of how long it is until they are to be kept again.
     ghost due: { Self → ℕ → Option ℕ → Type 0 };
 
-    /// Opens, writes and closes what is due, at so many milliseconds after the first round.
+    /// Opens, writes and closes what is due, at this many milliseconds after the first round.
     fn keep(&mut self, now: u64)
         ensures handed { Self.handed self.new ≡ Self.handed self.old }
         ensures kept { Tells (kept self.old) (kept self.new) (now ∷ []) };

@@ -1,5 +1,5 @@
 //! What is kept of a client beside its connection: until when an Await of it is put off, and what
-//! the hall's desks told before.
+//! the hall's desks reported before.
 
 ghost use Rattle.std.specs.Prelude.{◌≡◌, ◌≤◌, None};
 ghost use Rattle.std.specs.List.{AllByRecursion};
@@ -18,8 +18,8 @@ pub(crate) struct Notes {
     /// Until when the Await that comes next is put off, in milliseconds after the first round,
     /// where one is.
     pub(crate) until: Option<u64>,
-    /// The lengths of their logs that the hall's desks told before the connection was opened, or on
-    /// it, that of desk 1 first.
+    /// The lengths of their logs that the hall's desks reported before the connection was opened,
+    /// or on it, that of desk 1 first.
     pub(crate) known: [u32; 5],
 }
 
@@ -46,8 +46,8 @@ pub(crate) fn awaited_next(talk: &Guard, home: Home) -> Option<Awaited>
     }
 }
 
-/// Whether what becomes of an id is known: it stands in the log, or nothing comes of it here, since
-/// the desk is down.
+/// Whether what becomes of an id is known: it is in the log, or nothing comes of it here, since the
+/// desk is down.
 fn is_known<D: Desk>(node: &D, id: u64) -> bool
     ensures { result ≡ is_known (D.seen node.now) id }
 {

@@ -1,4 +1,4 @@
--- What is seen of a node by whoever serves it.
+-- What is seen of a node by the code that serves it (the project's own).
 use Rattle.answers.specs.Seen.{Seen}
 use Rattle.replica.specs.Nodes.{NodeValue}
 

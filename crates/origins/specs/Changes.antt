@@ -1,4 +1,4 @@
--- Which entries of a log change the attempts of a competitor in a round.
+-- Which entries of a log change the attempts of a competitor in a round (the project's own).
 use Rattle.std.specs.Prelude.{◌≡◌, ◌<◌, ◌≤◌, ◌+◌, ℕ, ◌==◌, ◌&&◌, Bool, true, false, List}
 use Rattle.std.specs.Prelude.{length, slice_get}
 use Rattle.std.specs.Prelude.{Option, None, Some, Result, Ok, Err}

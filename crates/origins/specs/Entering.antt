@@ -1,4 +1,4 @@
--- What was entered last for an attempt of a competitor in a round.
+-- What was entered last for an attempt of a competitor in a round (the project's own).
 use Rattle.std.specs.Prelude.{◌≡◌, ◌<◌, ◌≤◌, ◌+◌, ℕ, suc, ◌==◌, ◌&&◌, if◌then◌else◌, Bool, true}
 use Rattle.std.specs.Prelude.{false, List, [], ◌∷◌, length, get_or, map, slice_get, unwrap_or}
 use Rattle.std.specs.Prelude.{is_some, Option, None, Some, Result, Ok, Err}
@@ -24,7 +24,7 @@ entered_by round number place entry =
     && entry.attempt == suc place
     then Some entry.outcome else None
 
--- a card enters nothing where what stands stays
+-- a card enters nothing where what counts stays
 abbrev pub entered_on : RoundId → ℕ → ℕ → CardEntry → Option Entered
 entered_on round number place card =
     if is_of round.event round.round card.id && card.number == number
@@ -76,7 +76,7 @@ IsLastFrom log round number place from (Some position) =
 abbrev pub IsLastEntering : List Entry → RoundId → ℕ → ℕ → Option ℕ → Type 0
 IsLastEntering log round number place found = IsLastFrom log round number place 0 found
 
--- the same of each of the first attempts, so many
+-- the same of each of the first attempts, this many
 abbrev pub AreLastEntering : List Entry → RoundId → ℕ → ℕ → List (Option ℕ) → Type 0
 AreLastEntering log round number stands found =
     (place : ℕ) → place < stands

@@ -58,7 +58,7 @@ fn entered_on<'a>(
 }
 
 /// What a command enters for the attempt at a place, counted from 0, of the competitor in the
-/// round; none where it leaves what stands.
+/// round; none where it leaves what counts.
 pub fn entered_at<'a>(
     round: RoundId,
     number: u16,
@@ -153,14 +153,14 @@ fn all_last(later: [Option<u32>; 5], enters: [bool; 5], position: u32) -> [Optio
     ]
 }
 
-/// Whether a position was found for each of the first attempts, so many.
+/// Whether a position was found for each of the first attempts, this many.
 fn are_found(last: &[Option<u32>; 5], stands: usize) -> bool
     ensures { result ≡ list_all is_some (take stands last.now) }
 {
     last.iter().take(stands).all(|found| found.is_some())
 }
 
-/// For each of the first attempts of a competitor in a round, so many: the position of the last
+/// For each of the first attempts of a competitor in a round, this many: the position of the last
 /// entry that was accepted and entered something for it, by `ATT`, `COR`, `CARD` or `FIX`; none
 /// where there is no such entry. `=` in a card enters nothing.
 ///

@@ -1,4 +1,4 @@
--- What stands in the front of a log stands there in the whole.
+-- What is in the front of a log is there in the whole.
 use Rattle.std.proofs.Common.{◌≡◌, ℕ, zero, suc, ◌+◌, ◌<◌, ◌≤◌, Bool, true, false, List, []}
 use Rattle.std.proofs.Common.{◌∷◌, ◌++◌, Option, Some, length, slice_get, take, refl, ap}
 use Rattle.std.proofs.Common.{◌∙◌, arith, if◌then◌else◌}

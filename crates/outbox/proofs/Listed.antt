@@ -73,7 +73,7 @@ pub none_known : (q : ItemsOf) (id : ℕ) (found : Option (Bor Item))
 none_known q id None e h = sym e
 none_known q id (Some item) e h = absurd cc
 
--- one more item that stands in the journal
+-- one more item that is in the journal
 pub restored_more : (q : ItemsOf) (entry : Entry) (now : ℕ) (items more : List (ℕ × Item))
     (kept : ℕ) (lines answered : List ℕ) → items_of items kept lines answered ≡ q
     → item_in q entry.id ≡ None

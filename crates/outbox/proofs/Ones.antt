@@ -26,7 +26,7 @@ not_hall hall entry e =
 
 module _ (hall : HallOf) (desks : List ℕ) (p : PromisesOf) (w : World)
     (s : IsSound hall desks p w) where
-  -- an entry whose line stands in the file is read from it
+  -- an entry whose line is in the file is read from it
   in_file : (entry : Entry) → IsEntry entry → Contains (whole_lines w.file) (item_line entry)
       → IsIn s.step.file.left.items entry
   in_file entry is there =

@@ -111,7 +111,7 @@ module _ (P : ItemsOf → Type 0) (now : ℕ) (all : List (List ℕ))
 
 -- ---- what is read
 
--- an entry of a program stands under its id
+-- an entry of a program is under its id
 pub record IsKeyed (pair : ℕ × Item) : Type 0 where
   pub is : pair.0 ≡ pair.1.entry.id
   pub first : 1 ≤ pair.1.entry.id

@@ -21,7 +21,7 @@ use Rattle.outbox.specs.Lines.{answered_line, id_of, answered_of, item_by, item_
 use Rattle.outbox.specs.Lines.{said, said_after, said_by}
 use Rattle.outbox.proofs.Pieces.{IsNoEnd}
 
--- an entry that can stand on a line
+-- an entry that can be on a line
 pub record IsFit (entry : Entry) : Type 0 where
   pub first : 1 ≤ entry.id
   pub last : entry.id < 2 ^ 63

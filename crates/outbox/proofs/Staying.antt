@@ -1,4 +1,4 @@
--- What stands in the journal stays there.
+-- What is in the journal stays there.
 use Rattle.std.proofs.Common.{◌≡◌, ◌∙◌, ℕ, List, [], ◌∷◌, Some, ap, sym, subst, take}
 use Rattle.std.specs.Prelude.{Contains, nat_eq}
 use Rattle.std.specs.Map.{lookup}
@@ -50,7 +50,7 @@ held_on hall entry (call ∷ calls) old new h (next, lead, more) =
       made = made_more call h.p entry h.made;
     }) more
 
--- an item that stands in the journal stands there under the id of its entry
+-- an item that is in the journal is there under the id of its entry
 keyed : (hall : HallOf) (desks : List ℕ) (p : PromisesOf) (w : World) (id : ℕ) (entry : Entry)
     → IsSound hall desks p w → (i : StandsUnder w.outbox.list id entry) → IsKeyed (id, i.item)
 keyed hall desks p w id entry s i =

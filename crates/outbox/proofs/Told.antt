@@ -91,7 +91,7 @@ so_text held log entry p t false is = record {
   text = other_text t.there.text entry.text is;
 }
 
--- what the state is, by what stands there
+-- what the state is, by what is there
 state_is : (held log : List Entry) (entry : Entry) (p : ℕ) (t : IsThere held log entry p)
     → state_at held entry (Some p)
     ≡ (if bytes_eq t.there.text entry.text then answered_as p (Some t.told) else state.OtherText p)
@@ -116,7 +116,7 @@ never_by_guess held log entry (rest, is) =
 
 -- ---- what is told stays
 
--- what stands there is told
+-- what is there is told
 ends : (p : ℕ) (told : Answer) (same : Bool)
     → (if same then answered_as p (Some told) else state.OtherText p) ≢ state.Waits
 ends p answer.Done true h = absurd cc

@@ -1,4 +1,4 @@
--- A command that is told saved, and above all a card.
+-- A command that is reported saved, and above all a card (the project's own).
 use Rattle.std.specs.Prelude.{◌≡◌, ℕ, ◌+◌, true, List, [], ◌∷◌, ◌++◌, take, None, Some, Ok}
 use Rattle.acceptor.specs.declared.entry.Entry.{Entry}
 use Rattle.answers.specs.Answers.{texts}
@@ -31,7 +31,7 @@ pub record IsEnteredAt (log : List Entry) (position : ℕ) (command : Command) :
   pub accepted : refusal (accepted_of log position) command ≡ None
   pub added : accepted_of log (position + 1) ≡ accepted_of log position ++ command ∷ []
 
--- a command that is told saved was entered there, in every log that begins with what the mirror
+-- a command that is reported saved was entered there, in every log that begins with what the mirror
 -- holds
 abbrev pub SavedIsEntered : Type 0
 SavedIsEntered =
@@ -47,8 +47,9 @@ pub record AreSeen (cs : List Command) (card : CardEntry) : Type 0 where
   pub held : entrant round.1 card.number ≡ Some one
   pub seen : are_values card.was one.values ≡ true
 
--- Where the card of an entry is told saved, just in front of it the entrant had the values that the
--- confirmed page showed. What he has just after it `card_laws` says of the next accepted command.
+-- Where the card of an entry is reported saved, just in front of it the entrant had the values that
+-- the confirmed page showed. What he has just after it `card_laws` says of the next accepted
+-- command.
 abbrev pub SavedOverWhatWasSeen : (CardEntry → Command) → Type 0
 SavedOverWhatWasSeen command =
     (held log : List Entry) (entry : Entry) (position : ℕ) (card : CardEntry)

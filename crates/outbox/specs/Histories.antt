@@ -1,4 +1,5 @@
--- An outbox and the file of its journal, after calls of any kind in any order, and after restarts.
+-- An outbox and the file of its journal, after calls of any kind in any order, and after restarts
+-- (the project's own).
 use Rattle.std.specs.Prelude.{ℕ, ◌≡◌, List, [], ◌∷◌, ◌++◌, Bool, Ok}
 use Rattle.acceptor.specs.declared.entry.Entry.{Entry}
 use Rattle.learner.specs.Laws.{IsPrefix}
@@ -35,11 +36,11 @@ pub data Call : Type 0 where
   -- a call of its dialogue
   InDialogue : DialogueCall → Call
   -- The program, or its machine, ends, and is started again, over this desk. After the lines of the
-  -- file stand these bytes: a part of the lines that were to be put there, or whatever a write that
-  -- failed has left; what stands after the last whole line is cut off.
+  -- file are these bytes: a part of the lines that were to be put there, or whatever a write that
+  -- failed has left; what is after the last whole line is cut off.
   Restart : (more : List ℕ) → (desk now : ℕ) → Call
 
--- a file has the whole lines of these bytes, and nothing stands after them
+-- a file has the whole lines of these bytes, and nothing is after them
 pub record IsCutFrom (bytes file : List ℕ) : Type 0 where
   pub lines : whole_lines file ≡ whole_lines bytes
   pub ends : cut_line file ≡ []
@@ -96,7 +97,7 @@ LooksAt log (Then h call) = LooksAt log h × LooksBy log call
 
 -- ---- what was promised
 
--- entries that were taken: those of which it may be answered that they are, since their lines stand
+-- entries that were taken: those of which it may be answered that they are, since their lines are
 -- in the file; and those whose lines are on the way there
 pub record PromisesOf : Type 0 where
   pub made : List Entry

@@ -1,4 +1,4 @@
--- The items of an outbox: each is one entry, and stands on one line of the journal.
+-- The items of an outbox: each is one entry, and is on one line of the journal (the project's own).
 use Rattle.std.specs.Prelude.{◌≡◌, ◌==◌, ℕ, ◌≤◌, Bool, true, false, not, nat_eq, nat_le}
 use Rattle.std.specs.Prelude.{if◌then◌else◌, bytes_eq, take, length, List, [], ◌∷◌, ◌++◌, Option}
 use Rattle.std.specs.Prelude.{None, Some}
@@ -11,9 +11,9 @@ use Rattle.outbox.specs.declared.item.Taken.{Taken}
 use Rattle.outbox.specs.declared.item.Taken.TheVariants as taken
 use Rattle.outbox.specs.Lines.{answered_line, item_line, with_end}
 
--- the items by their ids, in the order in which they were taken; how many of the first of them
--- stand in the journal; the lines that are to be put there; and the ids of those that a scoretaker
--- has answered
+-- the items by their ids, in the order in which they were taken; how many of the first of them are
+-- in the journal; the lines that are to be put there; and the ids of those that a scoretaker has
+-- answered
 pub record ItemsOf : Type 0 where
   pub items : List (ℕ × Item)
   pub kept : ℕ
@@ -27,11 +27,11 @@ items_of items kept lines answered =
 abbrev pub no_items : ItemsOf
 no_items = items_of [] 0 [] []
 
--- an item stands under the id of its entry
+-- an item is under the id of its entry
 abbrev pub IsUnderItsId : ℕ × Item → Type 0
 IsUnderItsId pair = pair.0 ≡ pair.1.entry.id
 
--- memory has a bound; and what stands in the journal are items
+-- memory has a bound; and what is in the journal are items
 pub record IsInBounds (q : ItemsOf) : Type 0 where
   pub few : length q.items ≤ 65536
   pub kept : q.kept ≤ length q.items
@@ -52,7 +52,7 @@ is_full q = nat_le 65536 (length q.items)
 abbrev pub is_no_end : ℕ → Bool
 is_no_end byte = not (byte == 10)
 
--- a text can stand on a line
+-- a text can be on a line
 abbrev pub is_line : List ℕ → Bool
 is_line text = list_all is_no_end text
 
@@ -91,7 +91,7 @@ Takes old entry now came new = TakesBy (item_in old entry.id) old entry now came
 
 -- ---- what is kept
 
--- all lines stand in the journal
+-- all lines are in the journal
 abbrev pub all_kept : ItemsOf → ItemsOf
 all_kept q = items_of q.items (length q.items) [] q.answered
 

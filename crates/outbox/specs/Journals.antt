@@ -1,4 +1,4 @@
--- What a journal says: the items that its lines come to.
+-- What a journal says: the items that its lines come to (the project's own).
 use Rattle.std.specs.Prelude.{◌≡◌, ℕ, ◌+◌, ◌||◌, bytes_eq, codes, if◌then◌else◌, is_some, nat_eq}
 use Rattle.std.specs.Prelude.{List}
 use Rattle.std.specs.Prelude.{Bool, true, false, [], ◌∷◌, ◌++◌, Option, None, Some, Result, Ok, Err}
@@ -12,7 +12,7 @@ use Rattle.outbox.specs.declared.journal_lines.Line.TheVariants as line
 use Rattle.outbox.specs.Items.{ItemsOf, is_full, item_in, items_of, no_items, taken_at}
 use Rattle.outbox.specs.Lines.{HallOf, hall_line, said, whole_lines}
 
--- an item that stands in the journal
+-- an item that is in the journal
 abbrev pub with_item : ItemsOf → Entry → ℕ → ItemsOf
 with_item q entry now =
     items_of (q.items ++ (entry.id, taken_at entry now) ∷ []) (q.kept + 1) q.lines q.answered

@@ -1,5 +1,5 @@
 -- What holds of an outbox, whatever calls are made, whatever comes from desks, and whatever the log
--- is.
+-- is (the project's own).
 use Rattle.std.specs.Prelude.{ℕ, ◌≡◌, ◌≢◌, ◌⊎◌, ◌^◌, ◌<◌, List, [], ◌∷◌, drop, true, Some}
 use Rattle.std.specs.Prelude.{None, Ok}
 use Rattle.std.specs.Prelude.{Contains, not, ◌==◌, ◌||◌, ◌++◌, is_some, slice_get, take}
@@ -28,12 +28,12 @@ use Rattle.outbox.specs.States.{state_of}
 
 -- ---- what is told of an item
 
--- the entry stands at a position of a log, and was answered so
+-- the entry is at a position of a log, and was answered so
 pub record StandsAs (log : List Entry) (position : ℕ) (entry : Entry) (told : Answer) : Type 0 where
   pub there : slice_get log position ≡ Some entry
   pub answered : answer_at log position ≡ Some told
 
--- another entry of its id stands there
+-- another entry of its id is there
 pub record StandsOther (log : List Entry) (position : ℕ) (entry : Entry) : Type 0 where
   pub other : Entry
   pub there : slice_get log position ≡ Some other
@@ -56,7 +56,7 @@ NeverByGuess =
     (held log : List Entry) (entry : Entry) → IsPrefix held log
     → IsSo log entry (state_of held entry)
 
--- and it is told, as long as an entry of its id stands there, and stays as it was told
+-- and it is told, as long as an entry of its id is there, and stays as it was told
 abbrev pub ToldAtOnce : Type 0
 ToldAtOnce =
     (held : List Entry) (entry : Entry) → state_of held entry ≡ state.Waits
@@ -76,7 +76,7 @@ CountsOnce =
 -- ---- what is submitted
 
 -- These bytes are the end of a Submit of an entry to one of the desks, in this hall. The line of
--- the entry stands in the file: `item`, its id and its text.
+-- the entry is in the file: `item`, its id and its text.
 pub record IsOfSubmit (hall : HallOf) (desks : List ℕ) (file bytes : List ℕ) : Type 0 where
   pub desk : ℕ
   pub entry : Entry
@@ -148,14 +148,14 @@ NothingTakenIsLost =
     (hall : HallOf) (h : History) (w : World) (entry : Entry) → Leads hall h w
     → Contains (promises h).made entry → IsListed w.outbox.list entry
 
--- the item of an id stands in the journal, and is this entry
+-- the item of an id is in the journal, and is this entry
 pub record StandsUnder (q : ItemsOf) (id : ℕ) (entry : Entry) : Type 0 where
   pub item : Item
   pub found : item_in (taken_back q) id ≡ Some item
   pub is : item.entry ≡ entry
 
--- an item that stands in the journal stays there as it is, whatever calls are made after that, a
--- start after a crash at any moment among them
+-- an item that is in the journal stays there as it is, whatever calls are made after that, a start
+-- after a crash at any moment among them
 abbrev pub StaysInTheJournal : Type 0
 StaysInTheJournal =
     (hall : HallOf) (h : History) (calls : List Call) (old new : World) (id : ℕ) (entry : Entry)

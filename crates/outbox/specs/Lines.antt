@@ -1,5 +1,5 @@
--- The lines of a journal. The first names the hall; each further one is an item, or says that a
--- scoretaker has answered one.
+-- The lines of a journal (the project's own). The first names the hall; each further one is an
+-- item, or says that a scoretaker has answered one.
 use Rattle.std.specs.Prelude.{◌≡◌, ◌==◌, ℕ, ◌-◌, ◌^◌, ◌<◌, if◌then◌else◌, List, [], ◌∷◌, ◌++◌}
 use Rattle.std.specs.Prelude.{bytes_eq, codes, decimal, length, nat_le, Option, None, Some}
 use Rattle.std.specs.List.{flat_map, slice_split}
@@ -82,7 +82,7 @@ last_of (x ∷ y ∷ others) = last_of (y ∷ others)
 abbrev pub whole_lines : List ℕ → List (List ℕ)
 whole_lines bytes = all_but_last (parts bytes)
 
--- what stands after the last line's end: a line that was not written to its end, or nothing
+-- what is after the last line's end: a line that was not written to its end, or nothing
 abbrev pub cut_line : List ℕ → List ℕ
 cut_line bytes = last_of (parts bytes)
 

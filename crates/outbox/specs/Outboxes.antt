@@ -1,4 +1,4 @@
--- An outbox: the items, and the one that is on its way to a desk.
+-- An outbox: the items, and the one that is on its way to a desk (the project's own).
 use Rattle.std.specs.Prelude.{ℕ, ◌≡◌, ◌+◌, ◌&&◌, ◌==◌, ◌||◌, List, [], ◌∷◌, length, drop}
 use Rattle.std.specs.Prelude.{take, max, slice_get, not, nat_eq, nat_lt, if◌then◌else◌}
 use Rattle.std.specs.Prelude.{Option, None, Some, Bool, true, false}
@@ -140,7 +140,7 @@ abbrev pub is_decided_at : ItemsOf → List ℕ → Option (ℕ × Item) → Boo
 is_decided_at list decided None = false
 is_decided_at list decided (Some pair) = is_decided list decided pair
 
--- the items that stand in the journal, from a place on
+-- the items that are in the journal, from a place on
 abbrev pub kept_from : ItemsOf → ℕ → List (ℕ × Item)
 kept_from list place = drop place (take list.kept list.items)
 
@@ -195,7 +195,7 @@ abbrev pub IsEntryAt : Option (ℕ × Item) → Entry → Type 0
 IsEntryAt None entry = ⊥
 IsEntryAt (Some pair) entry = entry ≡ pair.1.entry
 
--- The next item that stands in the journal is submitted. Where there is no connection, or memory is
+-- The next item that is in the journal is submitted. Where there is no connection, or memory is
 -- refused, the connection is lost.
 abbrev pub AsksNext : List (ℕ × Item) → ℕ → OutboxOf → OutboxOf → Type 0
 AsksNext [] now old new = ⊥

@@ -1,4 +1,4 @@
--- What became of an item: what the log says, and nothing else.
+-- What became of an item: what the log says, and nothing else (the project's own).
 use Rattle.std.specs.Prelude.{ℕ, if◌then◌else◌, bytes_eq, slice_get, List, Option, None, Some}
 use Rattle.acceptor.specs.declared.entry.Entry.{Entry}
 use Rattle.learner.specs.Logs.{position_of}

@@ -23,14 +23,14 @@ five = entry 5 (codes "CLOSE 333 1")
 abbrev pub six : Entry
 six = entry 6 (codes "CLOSE 222 1")
 
--- a file with the hall's line, and one in which an item stands too
+-- a file with the hall's line, and one in which an item is too
 abbrev pub new_file : List ℕ
 new_file = with_end (codes "hall 7 10.0.0.1:7001 10.0.0.2:7001")
 
 abbrev pub file_of_five : List ℕ
 file_of_five = new_file ++ with_end (codes "item 5 CLOSE 333 1")
 
--- the item, which was taken at this time, and whose line stands in the file
+-- the item, which was taken at this time, and whose line is in the file
 abbrev pub five_since : ℕ → ItemsOf
 five_since now = items_of ((5, taken_at five now) ∷ []) 1 [] []
 
@@ -60,7 +60,7 @@ ending = Then (Then submitting (Take six 6 taken.New)) (Restart (codes "item 6 C
 abbrev pub started_again : World
 started_again = world (new_outbox 7 2 (five_since 8)) file_of_five
 
--- the first command stands in the log, which is looked through
+-- the first command is in the log, which is looked through
 abbrev pub looking : History
 looking = Then ending (Look (five ∷ []))
 

@@ -2,7 +2,7 @@
 
 use acceptor::entry::Entry;
 
-/// What is to be entered: an entry, as it stands in the journal, and when it was taken.
+/// What is to be entered: an entry, as it is in the journal, and when it was taken.
 #[derive(Drop)]
 pub struct Item {
     pub entry: Entry,

@@ -22,7 +22,7 @@ const MOST_ITEMS: usize = 65_536;
 pub(crate) struct Items {
     alloc: Global,
     items: IndexMap<u64, Item>,
-    /// How many of the first items stand in the journal.
+    /// How many of the first items are in the journal.
     kept: usize,
     /// The lines that are to be put into the journal.
     lines: Vec<u8>,
@@ -48,7 +48,7 @@ fn is_no_end(byte: u8) -> bool
     byte != b'\n'
 }
 
-/// Whether a text can stand on a line.
+/// Whether a text can be on a line.
 fn is_line(text: &[u8]) -> bool
     ensures { result ≡ is_line text.now }
 {
@@ -111,7 +111,7 @@ impl Items {
         self.items.len()
     }
 
-    /// How many of the first items stand in the journal.
+    /// How many of the first items are in the journal.
     pub(crate) fn kept(&self) -> usize
         ensures kept { result ≡ self.now.kept }
         ensures most { result ≤ length self.now.items }
@@ -174,7 +174,7 @@ impl Items {
         &self.lines
     }
 
-    /// Says that all lines stand in the journal.
+    /// Says that all lines are in the journal.
     pub(crate) fn keep(&mut self)
         ensures kept { self.new ≡ all_kept self.old }
         ensures more { self.old.kept ≤ self.new.kept }
@@ -204,8 +204,8 @@ impl Items {
         Ok(())
     }
 
-    /// Puts an item that stands in the journal after the others. Whether its id is new, and there
-    /// is room.
+    /// Puts an item that is in the journal after the others. Whether its id is new, and there is
+    /// room.
     pub(crate) fn restore(&mut self, entry: Entry, now: u64) -> Result<bool, NoMemory>
         ensures { IfOk result (λ fits. FollowsIf self.old now (Some (Line.Item entry)) fits
             self.new) }

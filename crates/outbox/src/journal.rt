@@ -25,7 +25,7 @@ pub struct Journal {
     pub outbox: Outbox,
     /// The bytes of its whole lines. The file is to be cut there before more is appended.
     pub whole: usize,
-    /// Whether something stands after the whole lines: a line that was not written to its end.
+    /// Whether something is after the whole lines: a line that was not written to its end.
     pub cut: bool,
 }
 
@@ -119,7 +119,7 @@ fn is_of_hall(alloc: Global, hall: &HallName, line: &[u8]) -> Result<bool, Alloc
     Ok(line == named.as_slice())
 }
 
-/// What the lines after the first say, and how many bytes stand after them.
+/// What the lines after the first say, and how many bytes are after them.
 fn read_items(alloc: Global, bytes: &[u8], now: u64) -> Result<(Items, usize), JournalFault>
     ensures items { IfOk result (λ read.
         after_lines no_items now 2 (whole_lines bytes.now) ≡ Ok read.0) }

@@ -80,7 +80,7 @@ fn item_of(alloc: Global, id: u64, text: &[u8]) -> Result<Option<Line>, AllocErr
     }
 }
 
-/// The item of what stands after the first word.
+/// The item of what is after the first word.
 fn item_by(alloc: Global, rest: &[u8]) -> Result<Option<Line>, AllocError>
     ensures { IfOk result (λ line. line ≡ item_by (cut 32 rest.now)) }
 {
@@ -94,7 +94,7 @@ fn item_by(alloc: Global, rest: &[u8]) -> Result<Option<Line>, AllocError>
     }
 }
 
-/// What a line says by its first word, and what stands after that.
+/// What a line says by its first word, and what is after that.
 fn said_after(alloc: Global, word: &[u8], rest: &[u8]) -> Result<Option<Line>, AllocError>
     ensures { IfOk result (λ line. line ≡ said_after word.now rest.now) }
 {

@@ -10,19 +10,19 @@ ghost use Rattle.outbox.specs.WorkedRuns.{WorkedRun};
 
 use commands::every_id_is_seen;
 
-/// A law: what is told of an item is so in every log of the hall that begins with what the mirror
+/// A law: what is said of an item is so in every log of the hall that begins with what the mirror
 /// holds. Saved: the entry at that position is its id and its text, and was answered Done. Changed
-/// or Refused: it is that entry, and was answered so. Where an entry of its id stands, it is told,
-/// and stays as it was told.
+/// or Refused: it is that entry, and was answered so. Where the log has an entry of its id, it is
+/// said, and stays as it was said.
 pub fn told_by_the_log()
     ensures never_by_guess { NeverByGuess }
     ensures at_once { ToldAtOnce }
     ensures for_good { ToldForGood }
 {}
 
-/// A law: a command that is told saved was accepted at that position, in every log of the hall that
-/// begins with what the mirror holds. Where it is a card, just in front of it the entrant had the
-/// values that the confirmed page showed.
+/// A law: a command that is reported saved was accepted at that position, in every log of the hall
+/// that begins with what the mirror holds. Where it is a card, just in front of it the entrant had
+/// the values that the confirmed page showed.
 pub fn saved_is_entered()
     ensures entered { SavedIsEntered }
     ensures card { SavedCardIsOverWhatWasSeen }
@@ -39,15 +39,15 @@ pub fn counts_once()
 
 /// A law: whatever calls were made, whatever bytes came, and however often the program was started
 /// again after a crash, what is to be written to a desk is nothing but the end of a Submit, for
-/// this hall, of an entry whose line stands in the journal: its id and its text, byte for byte. Of
-/// an id the journal has one such line at most.
+/// this hall, of an entry whose line is in the journal: its id and its text, byte for byte. Of an
+/// id the journal has one such line at most.
 pub fn submits_what_is_kept()
     ensures { Fixed }
 {}
 
-/// A law: an item that stands in the journal is passed over where the log has an entry of its id,
-/// as far as it was looked through since the program was started, or where a scoretaker has
-/// answered the item. Each other one is submitted when its turn comes.
+/// A law: an item that is in the journal is passed over where the log has an entry of its id, as
+/// far as it was looked through since the program was started, or where a scoretaker has answered
+/// the item. Each other one is submitted when its turn comes.
 pub fn passes_over_by_the_log()
     ensures { PassesOverByTheLog }
 {}
@@ -61,16 +61,16 @@ pub fn names_one_hall()
 
 /// A law: each entry of which it may be answered that it is taken, since its line was kept, is in
 /// the list, whatever calls were made, and after a crash at any moment, at whatever byte the file
-/// was cut. An item that stands in the journal stays there, those among them that were there when
-/// the program was started. What a crash leaves of the file is read.
+/// was cut. An item that is in the journal stays there, those among them that were there when the
+/// program was started. What a crash leaves of the file is read.
 pub fn loses_nothing()
     ensures listed { NothingTakenIsLost }
     ensures stays { StaysInTheJournal }
     ensures reads { ReadsAfterCrash }
 {}
 
-/// A journal that was read by hand, and what a log says of entries: no code of this crate stands
-/// behind these values.
+/// A journal that was read by hand, and what a log says of entries: no code of this crate is behind
+/// these values.
 pub fn worked()
     ensures journal { WorkedJournal }
     ensures states { WorkedStates }
@@ -78,7 +78,7 @@ pub fn worked()
 
 /// A run that was worked by hand, which meets what the laws ask of a history: a command is taken,
 /// kept and submitted; the program ends while a second one's line is written; it is started again,
-/// and passes over the first, which stands in the log.
+/// and passes over the first, which is in the log.
 pub fn worked_run()
     ensures { WorkedRun }
 {}

@@ -1,9 +1,9 @@
 //! What was entered at a score table and is under way to the hall's log: one list, from the journal
 //! beside the program to the desks.
 //!
-//! An item is one entry, an id and a text. It is never changed. Its line stands in the journal
-//! before it is submitted; it is submitted until the log has an entry of its id; and what became of
-//! it is what the log answered. The crate makes no system call and has no clock.
+//! An item is one entry, an id and a text. It is never changed. Its line is in the journal before
+//! it is submitted; it is submitted until the log has an entry of its id; and what became of it is
+//! what the log answered. The crate makes no system call and has no clock.
 #![tactic(auto)]
 
 mod hall_name;

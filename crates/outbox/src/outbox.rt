@@ -149,14 +149,14 @@ impl Outbox {
 
     // ---- the journal
 
-    /// The lines that are to be put into the journal, after all that stands there.
+    /// The lines that are to be put into the journal, after all that is there.
     pub fn lines(&self) -> &[u8]
         ensures { result.now ≡ self.now.list.lines }
     {
         self.items.lines()
     }
 
-    /// Says that these lines stand in the journal, and will after a crash. Only then are their
+    /// Says that these lines are in the journal, and will be after a crash. Only then are their
     /// items submitted, and only then may it be answered that they are taken.
     pub fn kept(&mut self)
         ensures { self.new ≡ with_list self.old (all_kept self.old.list) }

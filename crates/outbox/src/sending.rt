@@ -56,8 +56,8 @@ fn is_decided_at(items: &Items, decided: &IndexSet<u64>, place: usize) -> bool
     }
 }
 
-/// The place of the first item from `next` on that stands in the journal and needs to be submitted;
-/// the number of those in the journal where there is none.
+/// The place of the first item from `next` on that is in the journal and needs to be submitted; the
+/// number of those in the journal where there is none.
 fn needed_from(items: &Items, decided: &IndexSet<u64>, next: usize) -> usize
     requires { next ≤ items.now.kept }
     ensures place { result ≡ next
@@ -119,10 +119,10 @@ impl Outbox {
         self.next
     }
 
-    /// The place of the first item that stands in the journal and that waits: the log, as far as it
-    /// was looked through, has no entry of its id. The number of those in the journal where there
-    /// is none. Where it waits for long, another desk is to be aimed at: the one that took it may
-    /// have lost it.
+    /// The place of the first item that is in the journal and that waits: the log, as far as it was
+    /// looked through, has no entry of its id. The number of those in the journal where there is
+    /// none. Where it waits for long, another desk is to be aimed at: the one that took it may have
+    /// lost it.
     pub fn oldest(&self) -> usize
         ensures oldest { result ≡ oldest self.now }
         ensures most { result ≤ self.now.list.kept }
@@ -158,7 +158,7 @@ impl Outbox {
         }
     }
 
-    /// What is to be done now, at so many milliseconds of a clock that doesn't go back. It counts
+    /// What is to be done now, at this many milliseconds of a clock that doesn't go back. It counts
     /// as begun.
     pub fn act(&mut self, now: u64) -> Wish
         ensures { Acts result now self.old self.new }
@@ -259,7 +259,7 @@ impl Outbox {
         self.line.output()
     }
 
-    /// Says that so many bytes of the output were written.
+    /// Says that this many bytes of the output were written.
     pub fn sent(&mut self, count: usize)
         ensures { self.new ≡ sent_by self.old count }
     {

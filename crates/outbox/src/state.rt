@@ -10,16 +10,16 @@ use texts::{Answer, Code};
 /// What became of an item, by the hall's log.
 #[derive(Clone, Copy, Debug, PartialEq, Eq)]
 pub enum State {
-    /// No entry of its id stands in the log yet.
+    /// No entry of its id is in the log yet.
     Waits,
-    /// Its entry stands at this position, 0 to 65,535, and was answered Done.
+    /// Its entry is at this position, 0 to 65,535, and was answered Done.
     Saved { position: u32 },
-    /// Its entry stands at this position and was refused, since what it changes was changed
-    /// meanwhile: code Changed.
+    /// Its entry is at this position and was refused, since what it changes was changed meanwhile:
+    /// code Changed.
     Changed { position: u32 },
-    /// Its entry stands at this position and was refused with this other code.
+    /// Its entry is at this position and was refused with this other code.
     Refused { position: u32, code: Code },
-    /// An entry of its id with another text stands at this position: nothing will come of it.
+    /// An entry of its id with another text is at this position: nothing will come of it.
     OtherText { position: u32 },
 }
 

@@ -18,8 +18,8 @@ use std::time::Clock;
 /// The sockets of browsers over TCP, and one poll that tells which of them is ready.
 ///
 /// At most as many connections are open at once as was asked for, and 64 more are ending: the
-/// browser was told that no more comes, and what it still sends is read and dropped, for two
-/// seconds at most, so that what it was sent isn't lost by a reset.
+/// browser knows that no more comes, and what it still sends is read and dropped, for two seconds
+/// at most, so that what it was sent isn't lost by a reset.
 ///
 /// A contract sees how many connections may be open at once, which ones are, whether a round was
 /// begun and isn't over, and what of it is still to be named.
@@ -37,7 +37,7 @@ impl<'a, R> Model for BrowserSockets<'a, R> {
 }
 
 impl<'a, R: Net + Clock> BrowserSockets<'a, R> {
-    /// Listens at this address. At most so many connections are open at once. No round was begun.
+    /// Listens at this address. At most this many connections are open at once. No round was begun.
     pub fn listen(
         runtime: &'a R,
         alloc: Global,
@@ -70,7 +70,7 @@ impl<R: Clock + Drop> Sockets for BrowserSockets<'_, R> {
     // The system tells nothing of what browsers send and take beyond what its calls answer.
     ghost happened = { λ _. None };
 
-    // Nor is it told what they are asked.
+    // Nor is it known what they are asked.
     ghost requests = { λ _. None };
 
     /// A round is begun where the last one is over. First of a round is named that somebody waits,

@@ -41,7 +41,7 @@ module _ {C : Type 0} (t : Table C) where
     | inr apart ↦ below i e (omega (arith, few, apart)) at
   ]
 
-  -- the entry of each browser stands at a place
+  -- the entry of each browser is at a place
   pub each_place : (place : ℕ) (P : Entry → Type 0) → index_map_len t.browsers ≤ place
       → EachBelow t place P → (k : ℕ) (b : Browser) → places_of t k ≡ Some b → P (k, b)
   each_place place P all below k b at =

@@ -135,7 +135,7 @@ Moved-ended k goes a b old new told x = (
   x.none_lost,
 )
 
--- the first of the bytes that stand first are the first of all
+-- the first of the bytes that are first are the first of all
 pub take_of_chunk : (n : ℕ) (xs all : List ℕ) → take (length xs) all ≡ xs → n ≤ length xs
     → take n xs ≡ take n all
 take_of_chunk n xs all front few =

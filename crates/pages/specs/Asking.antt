@@ -1,4 +1,4 @@
--- What is asked in the parts of a step.
+-- What is asked in the parts of a step (the project's own).
 use Rattle.std.specs.Prelude.{◌≡◌, ◌⊎◌, ℕ, ◌+◌, Bool, true, false, not}
 use Rattle.std.specs.Prelude.{List, [], ◌∷◌, length, Option, None, Some, All, map}
 use Rattle.indexmap.specs.IndexMap.{index_map_len}
@@ -95,7 +95,7 @@ module _ {C : Type 0} where
     pub stay : (k : ℕ) (b : Browser) → places_of old k ≡ Some b → is_late_at old now b ≡ false
         → places_of new k ≡ Some b
 
-  -- so many steps, after each of which the round goes on
+  -- this many steps, after each of which the round goes on
   pub record AsksSteps (wait count : ℕ) (a b : Table C) (asked : List Request) : Type 0 where
     pub steps : List (List Request)
     pub goes : GoesOn wait a steps b

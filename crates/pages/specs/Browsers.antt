@@ -1,4 +1,4 @@
--- Many browsers, as a contract sees them.
+-- Many browsers, as a contract sees them (the project's own).
 use Rattle.std.specs.Prelude.{◌≡◌, ℕ, List, [], Option, None, Some, ⊤}
 use Rattle.http.specs.declared.request.Request.{Request}
 use Rattle.http_server.specs.declared.response.Response.{Response}
@@ -25,7 +25,7 @@ terms_of b = b.table.terms
 abbrev pub turns_of : {C : Type 0} {g : sockets.Ghosts C} → Browsers C g → List Turn
 turns_of b = b.table.turns.items
 
--- nothing has happened at the sockets, where that is told
+-- nothing has happened at the sockets, where that is known
 abbrev pub IsUntold : Option (List Happened) → Type 0
 IsUntold None = ⊤
 IsUntold (Some hs) = hs ≡ []

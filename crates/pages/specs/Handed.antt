@@ -1,4 +1,4 @@
--- What each browser of many was handed.
+-- What each browser of many was handed (the project's own).
 use Rattle.std.specs.Prelude.{◌≡◌, ℕ, List, ◌++◌, Option, None, Some, ⊤}
 use Rattle.http_server.specs.declared.state.Config.{Config}
 use Rattle.http_server.specs.History.{History, IsServed}
@@ -6,12 +6,12 @@ use Rattle.pages.specs.Happenings.{Happened, gave, took}
 use Rattle.pages.specs.Turns.{Turn, history_at}
 
 -- The browser took what its connection handed out, no more and no less. What the connection heard
--- stands first in what the browser gave.
+-- is first in what the browser gave.
 pub record IsMoved (k : ℕ) (hs : List Happened) (h : History) : Type 0 where
   pub taken : took k hs ≡ h.sent
   pub given : (lost : List ℕ) × (gave k hs ≡ h.received ++ lost)
 
--- the same where it is told what happened
+-- the same where it is known what happened
 abbrev pub IsMovedAsTold : ℕ → Option (List Happened) → History → Type 0
 IsMovedAsTold k None h = ⊤
 IsMovedAsTold k (Some hs) h = IsMoved k hs h

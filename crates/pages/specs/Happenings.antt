@@ -1,4 +1,4 @@
--- What comes of the sockets of browsers, where it is told.
+-- What comes of the sockets of browsers, where it is known (the project's own).
 use Rattle.std.specs.Prelude.{ℕ, ◌==◌, if◌then◌else◌, List, [], ◌∷◌, take, flat_map}
 use Rattle.polled.specs.declared.answers.Accepted.{Accepted}
 use Rattle.polled.specs.declared.answers.Accepted.TheVariants as accepted_is
@@ -23,14 +23,14 @@ accepted k accepted_is.Came = Came k ∷ []
 accepted k accepted_is.Nobody = []
 accepted k accepted_is.Full = []
 
--- the bytes that were read stand first in the buffer
+-- the bytes that were read are first in the buffer
 abbrev pub given : ℕ → Given → List ℕ → List Happened
 given k (given_is.Bytes count) buffer = Gave k (take count buffer) ∷ []
 given k given_is.Later buffer = []
 given k given_is.Ended buffer = Ended k ∷ []
 given k given_is.Broke buffer = []
 
--- the bytes that were taken stand first among those that were given
+-- the bytes that were taken are first among those that were given
 abbrev pub taken : ℕ → Taken → List ℕ → List Happened
 taken k (taken_is.Bytes count) bytes = Took k (take count bytes) ∷ []
 taken k taken_is.Later bytes = []

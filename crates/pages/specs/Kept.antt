@@ -1,4 +1,4 @@
--- What holds of many browsers between two steps.
+-- What holds of many browsers between two steps (the project's own).
 use Rattle.std.specs.Prelude.{◌≡◌, ◌≤◌, ◌<◌, ℕ, nat_eq, List, [], ◌++◌}
 use Rattle.std.specs.Prelude.{Option, None, Some, ⊤}
 use Rattle.indexmap.specs.IndexMap.{get}
@@ -16,7 +16,7 @@ use Rattle.pages.specs.Turns.{Answers, Turn, history_at}
 
 -- ---- one browser
 
--- what it gave is what its connection heard, where it is told
+-- what it gave is what its connection heard, where it is known
 abbrev pub IsHeard : ℕ → Option (List Happened) → History → Type 0
 IsHeard k None h = ⊤
 IsHeard k (Some hs) h = gave k hs ≡ h.received

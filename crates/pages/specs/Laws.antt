@@ -1,4 +1,4 @@
--- What follows of rounds, one after the other.
+-- What follows of rounds, one after the other (the project's own).
 use Rattle.std.specs.Prelude.{List, [], ℕ, All}
 use Rattle.http.specs.declared.request.Request.{Request}
 use Rattle.http_server.specs.declared.response.Response.{Response}

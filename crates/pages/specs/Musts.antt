@@ -1,4 +1,4 @@
--- What has to be asked of browsers in a round.
+-- What has to be asked of browsers in a round (the project's own).
 use Rattle.std.specs.Prelude.{◌≡◌, ◌≢◌, ◌⊎◌, ℕ, ◌+◌, ◌≤◌, ◌<◌, ◌==◌, ◌&&◌, Bool, true, false}
 use Rattle.std.specs.Prelude.{if◌then◌else◌, List, [], ◌∷◌, ◌++◌, length, Option, None, Some, map}
 use Rattle.std.specs.Prelude.{All}
@@ -103,7 +103,7 @@ module _ {C : Type 0} where
   abbrev pub IsGone : ℕ → Table C → Table C → Type 0
   IsGone k old new = (places_of new k ≡ None) × IsSameBut k old new
 
-  -- which is open, and stands so
+  -- which is open, and is so
   abbrev pub IsAt : ℕ → Browser → Table C → Table C → Type 0
   IsAt k b old new = (places_of new k ≡ Some b) × IsSameBut k old new
 
@@ -261,7 +261,8 @@ Follows (ready_is.Round now) old new more =
     EndsRound now old new more × (new.next ≡ old.next)
 Follows ready_is.Failed old new more = more ≡ []
 
--- it is waited until something is ready, so long at most, and then that is done which is to be done
+-- it is waited until something is ready, this long at most, and then that is done which is to be
+-- done
 pub record Musts {C : Type 0} (wait : ℕ) (ready : Ready) (old new : Table C)
     (asked : List Request) : Type 0 where
   pub terms : new.terms ≡ old.terms

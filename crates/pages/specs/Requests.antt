@@ -1,4 +1,5 @@
--- What is asked of the sockets of browsers, and what comes of it, where that is told.
+-- What is asked of the sockets of browsers, and what comes of it, where that is known (the
+-- project's own).
 use Rattle.polled.specs.Requests.{Asked}
 use Rattle.polled.specs.declared.answers.Accepted.{Accepted}
 pub use Rattle.polled.specs.Requests.{Asks, Waited, Accepting, Reading, Writing, Watching, Closing}

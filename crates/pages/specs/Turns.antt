@@ -1,4 +1,4 @@
--- The turns of browsers: what moved, and what the service was asked.
+-- The turns of browsers: what moved, and what the service was asked (the project's own).
 use Rattle.std.specs.Prelude.{◌≡◌, ◌≢◌, ℕ, ◌==◌, if◌then◌else◌, Bool, List, [], ◌∷◌, ◌++◌, IsTrue}
 use Rattle.std.specs.Prelude.{Option}
 use Rattle.http.specs.declared.request.Request.{Request}

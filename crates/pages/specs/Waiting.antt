@@ -1,4 +1,4 @@
--- For how long a browser is waited for.
+-- For how long a browser is waited for (the project's own).
 use Rattle.std.specs.Prelude.{ℕ, ◌-◌, ◌==◌, ◌&&◌, ◌||◌, ltb, Bool, true, false, if◌then◌else◌}
 use Rattle.pages.specs.declared.waiting.Turned.{Turned}
 use Rattle.pages.specs.declared.waiting.Turned.TheVariants as turn

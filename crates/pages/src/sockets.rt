@@ -12,10 +12,10 @@ use polled::{Accepted, Given, Ready, Taken};
 /// The sockets of browsers, each by the number under which it was accepted. No call but `ready`
 /// waits.
 pub trait Sockets: Drop {
-    /// What came of them, in order, where that is told.
+    /// What came of them, in order, where that is known.
     ghost happened: { Self → Option (List Happened) };
 
-    /// What was asked of them, in order, and what came of it, where that is told.
+    /// What was asked of them, in order, and what came of it, where that is known.
     ghost requests: { Self → Option (List Request) };
 
     /// Waits until something is ready, and names it. All that was ready at once is named one after

@@ -51,7 +51,7 @@ pub(crate) struct Table<C> {
 #[derive(Clone, Copy, PartialEq, Eq, Debug)]
 enum Step {
     GoesOn,
-    /// The round is over, so many milliseconds after the first one.
+    /// The round is over, this many milliseconds after the first one.
     Over { now: u64 },
     Failed,
 }

@@ -83,7 +83,7 @@ impl Waiting {
         }
     }
 
-    /// Whether the browser is waited for longer than so many milliseconds.
+    /// Whether the browser is waited for longer than this many milliseconds.
     pub(crate) fn is_late(self, now: u64, patience: u64) -> bool
         ensures { result ≡ is_late now patience self }
     {

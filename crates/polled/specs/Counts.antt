@@ -1,4 +1,4 @@
--- How many bytes are read and written at once.
+-- How many bytes are read and written at once (the project's own).
 use Rattle.std.specs.Prelude.{◌≤◌, ℕ}
 use Rattle.polled.specs.declared.answers.Given.{Given}
 use Rattle.polled.specs.declared.answers.Given.TheVariants as given_is

@@ -1,4 +1,4 @@
--- What is asked of sockets, and what comes of it, where that is told.
+-- What is asked of sockets, and what comes of it, where that is known (the project's own).
 use Rattle.std.specs.Prelude.{ℕ, Bool, List, Option}
 use Rattle.polled.specs.Telling.{Tells}
 use Rattle.polled.specs.declared.answers.Ready.{Ready}
@@ -8,13 +8,13 @@ use Rattle.polled.specs.declared.answers.Taken.{Taken}
 -- A peer is named by the number under which it is accepted. What comes of that (A) may be more than
 -- that it came.
 pub data Asked (A : Type 0) : Type 0 where
-  -- what is ready next, for which it is waited so many milliseconds at most
+  -- what is ready next, for which it is waited this many milliseconds at most
   Waited : ℕ → Ready → Asked A
   -- the peer that waits, to be accepted under this number
   Accepting : ℕ → A → Asked A
   -- bytes of this peer
   Reading : ℕ → Given → Asked A
-  -- that this peer take so many bytes
+  -- that this peer take this many bytes
   Writing : ℕ → ℕ → Taken → Asked A
   -- that this peer be named when it can take bytes (true), or be read from (false); the system does
   -- so, or refuses

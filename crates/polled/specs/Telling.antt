@@ -1,4 +1,4 @@
--- How what is told grows.
+-- How what is known grows (the project's own).
 use Rattle.std.specs.Prelude.{◌≡◌, List, ◌++◌, Option, None, Some, ⊤}
 
 -- what is told grows by these, in order; who tells it may stop, and never begins

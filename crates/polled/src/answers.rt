@@ -7,8 +7,8 @@ pub enum Ready {
     Waits,
     /// The peer with this number may have something to be read, may take bytes, or has gone.
     Peer { number: u64 },
-    /// A round is over: each socket that was ready has been named. It is so many milliseconds after
-    /// the first round.
+    /// A round is over: each socket that was ready has been named. It is this many milliseconds
+    /// after the first round.
     Round { now: u64 },
     /// The system doesn't tell what is ready any more.
     Failed,
@@ -28,7 +28,7 @@ pub enum Accepted {
 /// What came of a read.
 #[derive(Clone, Copy, PartialEq, Eq, Debug)]
 pub enum Given {
-    /// So many bytes were read, at least 1.
+    /// This many bytes were read, at least 1.
     Bytes { count: usize },
     /// There is nothing to be read now.
     Later,
@@ -41,7 +41,7 @@ pub enum Given {
 /// What came of a write.
 #[derive(Clone, Copy, PartialEq, Eq, Debug)]
 pub enum Taken {
-    /// So many of the bytes were taken, at least 1.
+    /// This many of the bytes were taken, at least 1.
     Bytes { count: usize },
     /// The peer can take nothing now.
     Later,

@@ -1,4 +1,4 @@
--- What desk d aims at: that its first entry is decided, with help alone and in so many events.
+-- What desk d aims at: that its first entry is decided, with help alone and in this many events.
 use Rattle.std.proofs.Common.{◌≡◌, ℕ, zero, suc, ◌≤◌, ◌<◌, ◌+◌, ◌*◌, Bool, true, false}
 use Rattle.std.proofs.Common.{if◌then◌else◌, ◌==◌, ◌&&◌, List, [], ◌∷◌, ◌++◌, inl, inr, Option}
 use Rattle.std.proofs.Common.{Some, None, Ok, length, slice_get, refl, sym, ap, ◌∙◌, subst, arith}
@@ -61,7 +61,7 @@ pub record Aim : Type 0 where
 abbrev pub lack : Aim → World → ℕ
 lack a w = 2 * lacking w a.top a.desks
 
--- the first entry stands in the log, past what stood there, and there is room for another
+-- the first entry is in the log, past what stood there, and there is room for another
 pub record IsDecided (a : Aim) (w : World) : Type 0 where
   pub reached : IsReached a.n w
   pub late : a.start ≤ length w.sent
@@ -74,7 +74,7 @@ pub record IsDecided (a : Aim) (w : World) : Type 0 where
   pub tried : (w.desks a.d).stored.tried ≤ a.number + 2
   pub seen : (w.desks a.d).seen ≤ a.number + 2
 
--- with help in so many events it is decided; what the desks then lack counts with these
+-- with help in this many events it is decided; what the desks then lack counts with these
 pub record Decides (a : Aim) (most : ℕ) (w : World) : Type 0 where
   pub events : List WorldEvent
   pub help : AreHelp a.n a.d a.desks a.start w events
@@ -185,7 +185,7 @@ get_left [] ys i m h = absurd cc
 get_left (x ∷ xs) ys zero m h = h
 get_left (x ∷ xs) ys (suc i) m h = get_left xs ys i m h
 
--- and what is sent stands behind it
+-- and what is sent is behind it
 get_right : (xs ys : List Message) (i : ℕ) (m : Message) → slice_get ys i ≡ Some m
     → slice_get (xs ++ ys) (length xs + i) ≡ Some m
 get_right [] ys i m h = subst (λ (j : ℕ). slice_get ys j ≡ Some m) (omega arith) h

@@ -1,4 +1,4 @@
--- Desk d gathers promises of a ballot against which nothing stands, until it can ask for votes.
+-- Desk d gathers promises of a ballot against which nothing is, until it can ask for votes.
 use Rattle.std.proofs.Common.{◌≡◌, ℕ, zero, suc, ◌≤◌, ◌<◌, ◌+◌, ◌*◌, Bool, true, false}
 use Rattle.std.proofs.Common.{if◌then◌else◌, ◌==◌, List, [], ◌∷◌, ◌⊎◌, inl, inr, Option, Some, None}
 use Rattle.std.proofs.Common.{length, slice_get, refl, sym, ap, ◌∙◌, subst, arith}
@@ -112,7 +112,7 @@ pub record Gathers (a : Aim) (r : ℕ) (b : Ballot) (m : ℕ) (left : List ℕ) 
   pub clear : IsClear a b m w
   pub tried : b.number ≤ r
 
--- desk d has asked all for their votes, and nothing stands against its ballot
+-- desk d has asked all for their votes, and nothing is against its ballot
 pub record Proposes (a : Aim) (r : ℕ) (b : Ballot) (m : ℕ) (f : Entry) (w : World) : Type 0 where
   pub fit : Fit a r w
   pub role : (w.desks a.d).role ≡ Proposing b m f []

@@ -31,7 +31,7 @@ record Hall : Type 0 where
 abbrev each : Hall → ℕ
 each h = 15 * length h.desks + 10
 
--- these entries come to stand in the log, and these are left in the queue
+-- these entries come to be in the log, and these are left in the queue
 record AllDecide (h : Hall) (most : ℕ) (es rest : List Entry) (w : World) : Type 0 where
   pub events : List WorldEvent
   pub help : AreHelp h.n h.d h.desks h.start w events

@@ -1,5 +1,5 @@
--- What stands after every list of events: a desk's vote is at its log's length or before, and a
--- desk that waits for votes has not heard a majority.
+-- What is after every list of events: a desk's vote is at its log's length or before, and a desk
+-- that waits for votes has not heard a majority.
 use Rattle.std.proofs.Common.{◌≡◌, ℕ, ◌≤◌, ◌+◌, Bool, true, false, if◌then◌else◌, ◌==◌, nat_lt}
 use Rattle.std.proofs.Common.{List, [], ◌∷◌, ◌++◌, Option, Some, None, Result, Ok, Err, length}
 use Rattle.std.proofs.Common.{slice_get, take, drop, refl, arith, length-append}

@@ -481,12 +481,12 @@ free_once a c w h free leads = go (greatest (λ j. length (w.desks j).log) a.des
                         let o = r.2 j p in
                         let l = q.here in omega (arith, e, d, g1, o, l)
 
--- so many numbers are enough for so many rounds
+-- this many numbers are enough for this many rounds
 abbrev pub cost : ℕ → ℕ
 cost zero = 0
 cost (suc t) = suc (suc (suc (suc (cost t))))
 
--- from every world in which desk d is free, in so many rounds
+-- from every world in which desk d is free, in this many rounds
 pub free_decides : (a : Aim) (t : ℕ) (w : World) → Fit a (cost t) w → IsFree (w.desks a.d)
     → (k : ℕ) → Has a.desks k → a.old + 2 ≤ t + length (w.desks k).log → Comes a w
 free_decides a zero w h free k i tall =

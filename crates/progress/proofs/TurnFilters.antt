@@ -147,7 +147,7 @@ get_after log (Some (Voted v)) i e h = h
 get_after log (Some (Tried r)) i e h = h
 get_after log (Some (Appended f)) i e h = get_left log (f ∷ []) i e h
 
--- the first entry stands at this position of desk d's log
+-- the first entry is at this position of desk d's log
 abbrev pub Kept : Aim → ℕ → World → Type 0
 Kept a at w = slice_get (w.desks a.d).log at ≡ Some a.first
 

@@ -26,7 +26,7 @@ use Rattle.progress.proofs.Turning.{Stands, IsDone}
 abbrev pub lacks : Aim → World → ℕ
 lacks a w = lacking w a.top a.desks
 
--- above this number there are enough left for the entries that the desks lack, and so many more
+-- above this number there are enough left for the entries that the desks lack, and this many more
 abbrev pub Low : Aim → ℕ → World → ℕ → Type 0
 Low a c w number = number + lacks a w + c + a.number ≤ 4294967295
 
@@ -222,7 +222,7 @@ fit_appended a c w k e role ms h i reached low other =
 
 -- ---- once it is decided
 
--- the entry stands in desk d's log, the others wait, and numbers are left
+-- the entry is in desk d's log, the others wait, and numbers are left
 pub record Mid (a : Aim) (c : ℕ) (w : World) : Type 0 where
   pub two : 2 ≤ a.n
   pub stands : Stands a w

@@ -1,5 +1,5 @@
--- Desk d gathers promises by turns, of a ballot against which nothing stands, until it has asked
--- for votes.
+-- Desk d gathers promises by turns, of a ballot against which nothing is, until it has asked for
+-- votes.
 use Rattle.std.proofs.Common.{◌≡◌, ℕ, ◌≤◌, ◌<◌, ◌+◌, ◌*◌, ◌||◌, Bool, true, false}
 use Rattle.std.proofs.Common.{if◌then◌else◌, ◌==◌, List, [], ◌∷◌, ◌⊎◌, inl, inr, Option, Some}
 use Rattle.std.proofs.Common.{length, refl, sym, ap, ◌∙◌, subst, arith}
@@ -53,7 +53,7 @@ pub record Gathers (a : Aim) (c : ℕ) (b : Ballot) (m : ℕ) (left : List ℕ) 
   pub low : Low a c w b.number
   pub self : was_heard heard a.d ≡ true
 
--- desk d has asked for votes, and nothing stands against its ballot
+-- desk d has asked for votes, and nothing is against its ballot
 pub record Proposes (a : Aim) (c : ℕ) (b : Ballot) (m : ℕ) (f : Entry) (v : World) : Type 0 where
   pub asks : Asks a c (Unit {0}) b m f (unheard a.desks (a.d ∷ [])) (a.d ∷ []) v
 

@@ -19,7 +19,7 @@ use Rattle.progress.proofs.TurnFilters.{stands_on}
 use Rattle.progress.proofs.TurnFits.{known, Fit}
 use Rattle.progress.proofs.TurnRoles.{first_comes}
 
--- where all are at most so long, so is the longest
+-- where all are at most this long, so is the longest
 longest_under : (w : World) (len : ℕ) (ks : List ℕ)
     → ((k : ℕ) → Has ks k → length (w.desks k).log ≤ len) → longest w ks ≤ len
 longest_under w len [] h = omega arith
@@ -49,7 +49,7 @@ record IsRoomy (h : Hall) (old : ℕ) (es rest : List Entry) (w : World) : Type 
       → known (w.desks k) + lacking w h.top h.desks + 8 * length es ≤ 4294967295
   pub logs : old + 2 * length es ≤ h.top
 
--- these entries come to stand in the log, and these are left in the queue
+-- these entries come to be in the log, and these are left in the queue
 record AllCome (h : Hall) (es rest : List Entry) (w : World) : Type 0 where
   pub turns : List WorldEvent
   pub help : AreTurns h.n h.d h.desks h.start w turns

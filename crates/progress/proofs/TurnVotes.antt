@@ -57,7 +57,7 @@ even_at a b m w k p s t h j i = (
   put_at (λ x. length x.log ≡ m) w.desks k (adopt (w.desks k) p) j (λ e. t) (h j i).1,
 )
 
--- desk d has asked for votes for this entry, and has still to hear these desks. C: nothing stands
+-- desk d has asked for votes for this entry, and has still to hear these desks. C: nothing is
 -- against its ballot
 pub record Asks (a : Aim) (c : ℕ) (C : Type 0) (b : Ballot) (m : ℕ) (f : Entry)
     (left heard : List ℕ) (w : World) : Type 0 where

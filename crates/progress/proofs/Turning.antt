@@ -28,14 +28,14 @@ use Rattle.progress.specs.Turns.{turn_of, takes_turn, take_turns, AreTurns}
 use Rattle.progress.proofs.Aims.{Aim, IsReached, reached_more, carried, IsPending, desk_test}
 use Rattle.progress.proofs.Aims.{heeded_test, deliver_is, tick_is}
 
--- the first entry stands in desk d's log, past what stood there
+-- the first entry is in desk d's log, past what stood there
 pub record Stands (a : Aim) (w : World) : Type 0 where
   pub at : ℕ
   pub past : a.from ≤ at
   pub entry : slice_get (w.desks a.d).log at ≡ Some a.first
 
--- it stands there, the others wait, and there is room for these: in the logs, and in numbers, as
--- many as `number`
+-- it is there, the others wait, and there is room for these: in the logs, and in numbers, as many
+-- as `number`
 pub record IsDone (a : Aim) (w : World) : Type 0 where
   pub stands : Stands a w
   pub reached : IsReached a.n w

@@ -60,7 +60,7 @@ clear_at a b m l w k p s t u h j i = (
       (let o = (h j i).1 in omega (arith, o, u)),
 )
 
--- desk d has asked for votes for this entry, and has still to hear these desks. C: nothing stands
+-- desk d has asked for votes for this entry, and has still to hear these desks. C: nothing is
 -- against its ballot
 pub record Asks (a : Aim) (r : ℕ) (C : Type 0) (b : Ballot) (m : ℕ) (f : Entry)
     (left heard : List ℕ) (w : World) : Type 0 where

@@ -1,6 +1,7 @@
 -- That no desk is stuck: from every world that any events have led to, every majority of the desks
 -- whose logs have room, and that has enough numbers left, can decide what a desk of it has queued,
--- by Ticks of that desk and messages that are sent from then on among that majority.
+-- by Ticks of that desk and messages that are sent from then on among that majority (the project's
+-- own).
 use Rattle.std.specs.Prelude.{ℕ, suc, ◌≡◌, ◌≤◌, ◌<◌, ◌+◌, ◌-◌, ◌*◌, max, List, [], ◌∷◌, ◌++◌}
 use Rattle.std.specs.Prelude.{Option, Some, None, length, slice_get}
 use Rattle.acceptor.specs.declared.entry.Entry.{Entry}
@@ -33,7 +34,7 @@ AreHelp n d desks start w [] = Unit {0}
 AreHelp n d desks start w (e ∷ es) =
     IsHelp d desks start w e × AreHelp n d desks start (happens n w e) es
 
--- the entries stand in the log at this position or later ones, in their order
+-- the entries are in the log at this position or later ones, in their order
 abbrev pub StandFrom : ℕ → List Entry → List Entry → Type 0
 StandFrom from [] log = Unit {0}
 StandFrom from (e ∷ es) log =
@@ -49,12 +50,12 @@ abbrev pub lacking : World → ℕ → List ℕ → ℕ
 lacking w len [] = 0
 lacking w len (k ∷ ks) = (len - length (w.desks k).log) + lacking w len ks
 
--- so many events are enough for so many entries
+-- this many events are enough for this many entries
 abbrev pub enough : World → List ℕ → ℕ → ℕ
 enough w desks count = 2 * lacking w (longest w desks) desks + count * (19 * length desks + 10)
 
--- with such events alone, and no more of them than that, these entries come to stand in desk d's
--- log, past what stands there, and these are left in its queue
+-- with such events alone, and no more of them than that, these entries come to be in desk d's log,
+-- past what is there, and these are left in its queue
 pub record CanDecide (n d : ℕ) (desks : List ℕ) (w : World) (es rest : List Entry) : Type 0 where
   pub events : List WorldEvent
   pub help : AreHelp n d desks (length w.sent) w events

@@ -1,6 +1,6 @@
 -- A world that meets all that the laws ask: three desks, of which one has restarted, one has a
--- higher ballot than the others, and one has an old vote, and most of what they sent was lost. So
--- the laws say something of it; and here are the turns.
+-- higher ballot than the others, and one has an old vote, and most of what they sent was lost (the
+-- project's own). So the laws say something of it; and here are the turns.
 use Rattle.std.specs.Prelude.{ℕ, ◌≡◌, List, [], ◌∷◌, Some, None}
 use Rattle.acceptor.specs.declared.ballot.Ballot.{Ballot}
 use Rattle.acceptor.specs.declared.entry.Entry.{Entry}

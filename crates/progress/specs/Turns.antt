@@ -1,5 +1,6 @@
--- That no desk is stuck, of desks that serve. A desk that serves takes an event together with all
--- that it then delivers to itself, and gives itself a Start where its log has grown.
+-- That no desk is stuck, of desks that serve (the project's own). A desk that serves takes an event
+-- together with all that it then delivers to itself, and gives itself a Start where its log has
+-- grown.
 use Rattle.std.specs.Prelude.{ℕ, zero, suc, ◌≡◌, ◌≤◌, ◌+◌, ◌*◌, ◌==◌, ◌&&◌, nat_lt, Bool}
 use Rattle.std.specs.Prelude.{if◌then◌else◌, List, [], ◌∷◌, ◌++◌, Option, Some, None, Result, Ok}
 use Rattle.std.specs.Prelude.{Err}
@@ -50,11 +51,11 @@ settled n d (suc left) w [] = record { world = w; left = suc left }
 settled n d (suc left) w (m ∷ ms) =
     settled n d left (at_desk n w d (Deliver m)) (ms ++ says_itself n w d (Deliver m))
 
--- the log has more than so many entries, and entries wait in the queue
+-- the log has more than this many entries, and entries wait in the queue
 abbrev pub has_grown : ℕ → Desk → Bool
 has_grown before x = nat_lt before (length x.log) && nat_lt 0 (length x.queue)
 
--- a Start, with what comes of it, where the log has more than so many entries
+-- a Start, with what comes of it, where the log has more than this many entries
 abbrev pub started : ℕ → ℕ → ℕ → Settled → World
 started n d before s =
     if has_grown before (s.world.desks d)
@@ -97,16 +98,16 @@ AreTurns n d desks start w [] = Unit {0}
 AreTurns n d desks start w (e ∷ es) =
     IsHelp d desks start w e × AreTurns n d desks start (takes_turn n w e) es
 
--- by such turns alone, these entries come to stand in desk d's log, past what stands there, and
--- these are left in its queue
+-- by such turns alone, these entries come to be in desk d's log, past what is there, and these are
+-- left in its queue
 pub record TurnsDecide (n d : ℕ) (desks : List ℕ) (w : World) (es rest : List Entry) : Type 0 where
   pub turns : List WorldEvent
   pub help : AreTurns n d desks (length w.sent) w turns
   pub decided : StandFrom (length (w.desks d).log) es ((take_turns n w turns).desks d).log
   pub queue : ((take_turns n w turns).desks d).queue ≡ rest
 
--- So many ballot numbers are enough for so many entries: one for each entry that these desks lack
--- of logs that are longer than the longest of theirs by two for each entry, since a desk that
+-- This many ballot numbers are enough for this many entries: one for each entry that these desks
+-- lack of logs that are longer than the longest of theirs by two for each entry, since a desk that
 -- learns an entry may start; and eight for each.
 abbrev pub numbers_needed : World → List ℕ → ℕ → ℕ
 numbers_needed w desks count = lacking w (longest w desks + 2 * count) desks + 8 * count

@@ -12,7 +12,7 @@ ghost use Rattle.progress.specs.Turns.{NoServingDeskIsStuck};
 ///
 /// The logs of the majority need room for two entries more, no desk of it may have promised one of
 /// the last two numbers, and the desk that ticks may neither have tried nor have seen one of them;
-/// for so many entries, so many times two.
+/// for this many entries, this many times two.
 pub fn no_desk_is_stuck()
     ensures first { NoDeskIsStuck }
     ensures queue { NoQueueIsStuck }

@@ -1,10 +1,10 @@
--- What is written of a line that is written at once or not at all.
+-- What is written of a line that is written at once or not at all (the project's own).
 use Rattle.std.specs.Prelude.{◌≡◌, ◌⊎◌, ◌++◌, ◌+◌, ◌-◌, ◌^◌, ℕ, List, Option, Bool, true, min}
 use Rattle.std.specs.Prelude.{◌==◌, if◌then◌else◌, codes, decimal}
 use Rattle.std.specs.Io.KnownBytes.{Appends}
 use Rattle.lines.specs.Bytes.{AppendsPart}
 
--- how a line ends after so many in a row that could not be written
+-- how a line ends after this many in a row that could not be written
 abbrev pub ending_of : ℕ → List ℕ
 ending_of missed =
     if missed == 0 then codes "\n" else (

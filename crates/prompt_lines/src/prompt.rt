@@ -1,4 +1,4 @@
-//! A writer of lines that never waits for whoever reads standard error.
+//! A writer of lines that never waits for the reader of standard error.
 
 use crate::line::tell_line;
 use libc::net::{POLLOUT, poll};

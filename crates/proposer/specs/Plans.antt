@@ -1,4 +1,4 @@
--- What a desk loses at a restart, and what a step plans to change and to send.
+-- What a desk loses at a restart, and what a step plans to change and to send (the project's own).
 use Rattle.std.specs.Prelude.{ℕ, max, Bool, false, if◌then◌else◌, ◌≡◌, List, [], ◌∷◌, Option, Some}
 use Rattle.std.specs.Prelude.{None}
 use Rattle.acceptor.specs.declared.entry.Entry.{Entry}

@@ -1,4 +1,4 @@
--- How the answer of a call goes with the step that it stands for.
+-- How the answer of a call goes with the step that it stands for (the project's own).
 use Rattle.std.specs.Prelude.{◌≡◌, ◌↔◌, Result, Ok, Err, IfOk, IsErrOf}
 use Rattle.proposer.specs.declared.fault.Refusal.{Refusal}
 use Rattle.proposer.specs.declared.fault.StepFault.{StepFault}

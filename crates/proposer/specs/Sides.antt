@@ -1,4 +1,4 @@
--- The proposing side of a desk, and what it plans at each event.
+-- The proposing side of a desk, and what it plans at each event (the project's own).
 use Rattle.std.specs.Prelude.{ℕ, [], Result}
 use Rattle.acceptor.specs.declared.message.Body.{Body}
 use Rattle.acceptor.specs.declared.message.Body.TheVariants.{Prepare, Promise, Accept, Accepted}
@@ -10,7 +10,7 @@ use Rattle.proposer.specs.declared.plan.Plan.{Plan}
 use Rattle.proposer.specs.Plans.{Passing, only_say}
 use Rattle.proposer.specs.Proposing.{start, tick, on_promise, on_accepted, on_nack}
 
--- this desk of so many, and what it loses at a restart
+-- this desk of this many, and what it loses at a restart
 pub record Side : Type 0 where
   pub desk : ℕ
   pub desks : ℕ

@@ -16,7 +16,7 @@ impl Proposer {
     ghost use Rattle.proposer.specs.Proposing.{start_idle, tick_idle, new_ballot};
     ghost use Rattle.proposer.specs.Proposing.{tell_length, wants_ballot};
 
-    /// The plan of an idle desk that is told to start.
+    /// The plan of an idle desk at a Start.
     pub(crate) fn start_idle(&self, stored: &Stored, len: u32) -> Result<Plan, StepFault>
         ensures plan { let p = self.now in
             PlansAs result (start_idle p.desks p.desk stored.now len p.passing) }

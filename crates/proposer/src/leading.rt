@@ -14,7 +14,7 @@ impl Proposer {
     ghost use Rattle.proposer.specs.Refusals.{PlansAs, RefusesAs};
     ghost use Rattle.proposer.specs.Proposing.{start_leading, tick_leading, ask_next};
 
-    /// The plan of a desk that leads by this ballot and is told to start.
+    /// The plan of a desk that leads by this ballot, at a Start.
     pub(crate) fn start_leading(
         &self,
         stored: &Stored,

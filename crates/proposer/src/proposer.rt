@@ -147,7 +147,7 @@ impl Proposer {
         self.seen = seen;
     }
 
-    /// Whether so many desks are more than half of all.
+    /// Whether this many desks are more than half of all.
     pub(crate) fn is_majority(&self, count: usize) -> bool
         ensures { result ≡ is_majority self.now.desks count }
     {

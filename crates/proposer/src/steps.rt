@@ -15,8 +15,7 @@ impl Proposer {
     ghost use Rattle.proposer.specs.Sides.{start_plan, tick_plan, promise_plan};
     ghost use Rattle.proposer.specs.Sides.{accepted_plan, nack_plan};
 
-    /// What the desk plans when it is told to start, where this is stored and the log is `len`
-    /// long.
+    /// What the desk plans at a Start, where this is stored and the log is `len` long.
     ///
     /// An idle desk makes a new ballot. One that leads proposes the first of its queue by its own
     /// ballot, or does nothing where the queue is empty; but where it has promised a higher ballot,
@@ -93,9 +92,9 @@ impl Proposer {
     /// What the desk plans at an Accepted. Another message plans nothing here.
     ///
     /// An Accepted of the ballot and position that the desk proposes for, from a desk not yet
-    /// heard, is recorded. At a majority the log grows by the entry, all other desks are told, and
-    /// the desk leads by its ballot. A message that plans nothing takes no memory. Where memory is
-    /// refused, the answer is NoMemory.
+    /// heard, is recorded. At a majority the log grows by the entry, all other desks are sent it,
+    /// and the desk leads by its ballot. A message that plans nothing takes no memory. Where memory
+    /// is refused, the answer is NoMemory.
     pub fn on_accepted(&self, message: &Message) -> Result<Plan, NoMemory>
         ensures plan { IfOk result (λ plan. plan ≡ accepted_plan self.now message.now) }
         ensures quiet { IsNothing (accepted_plan self.now message.now) → IsOk result }

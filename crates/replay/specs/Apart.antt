@@ -1,4 +1,4 @@
--- A replay that writes the refused lines to one place and the sheet to another.
+-- A replay that writes the refused lines to one place and the sheet to another (the project's own).
 use Rattle.std.specs.Prelude.{◌≡◌, ◌⊎◌, true, false, ℕ, List, ◌++◌, is_some, Option, None}
 use Rattle.std.specs.Io.KnownBytes.{Appends, IsAtEnd, Keeps}
 use Rattle.formats.specs.declared.events.Event.{Event}
@@ -26,7 +26,7 @@ run_refused r = refused_text r.input
 abbrev pub run_alone : Run → List ℕ
 run_alone r = sheet_text r.style r.event r.round r.input
 
--- all was read and is within the limits, the round is there; the refused lines are told, and the
+-- all was read and is within the limits, the round is there; the refused lines are written, and the
 -- sheet alone is written
 pub record ReplaysApart (r : Run) (t : Told) : Type 0 where
   pub end : IsAtEnd r.left
@@ -35,7 +35,7 @@ pub record ReplaysApart (r : Run) (t : Told) : Type 0 where
   pub told : Appends t.before t.now (run_refused r)
   pub written : Appends r.old r.new (run_alone r)
 
--- all was read and is within the limits, and the round is not there; the refused lines are told
+-- all was read and is within the limits, and the round is not there; the refused lines are written
 pub record LacksRoundApart (r : Run) (t : Told) : Type 0 where
   pub end : IsAtEnd r.left
   pub within : is_within r.input ≡ true
@@ -60,11 +60,11 @@ pub record ReadsPartApart (r : Run) (t : Told) : Type 0 where
   pub told : Appends t.before t.now (refusals (whole_lines front))
   pub kept : Keeps r.old r.new
 
--- a front part of the refused lines is told, and nothing is written
+-- a front part of the refused lines is written, and nothing is written
 abbrev pub TellsPart : Run → Told → Type 0
 TellsPart r t = AppendsPart t.before t.now (run_refused r) × Keeps r.old r.new
 
--- all refused lines are told, and a front part of the sheet is written
+-- all refused lines are written, and a front part of the sheet is written
 abbrev pub WritesPart : Run → Told → Type 0
 WritesPart r t = Appends t.before t.now (run_refused r) × AppendsPart r.old r.new (run_alone r)
 

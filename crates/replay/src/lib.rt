@@ -90,7 +90,7 @@ pub(crate) fn apply_lines<R: Read, W: Write>(
 ///
 /// Lines are parted by line feeds; a last line without one counts where it is not empty. Line `n`,
 /// counted from 1, is the command with the id `n`. A refused one is written as `refused`, `n` and
-/// the name of the refusal. The sheet stands after all of them, and its position is the number of
+/// the name of the refusal. The sheet is after all of them, and its position is the number of
 /// lines.
 ///
 /// # Errors

@@ -1,4 +1,4 @@
--- The arguments of subcommands, as the parser knows them.
+-- The arguments of subcommands, as the parser knows them (in the words of the crate `clap`).
 use Rattle.std.specs.Prelude.{◌≡◌, ◌∷◌, [], true, false, Bool, List, codes, map, Option, Some, None}
 use Rattle.std.specs.Borrow.{Bor}
 use Rattle.clap.specs.Words.{App, Row, Rule, Text, app_of, new_rule, one_of}

@@ -1,4 +1,4 @@
--- What an exit status says of the run.
+-- What an exit status says of the run (the project's own).
 use Rattle.std.specs.Prelude.{◌⊎◌, ℕ, List}
 use Rattle.std.specs.Io.KnownBytes.{Keeps}
 use Rattle.clap.specs.Words.{Text}

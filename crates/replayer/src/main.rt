@@ -1,4 +1,4 @@
-//! The subcommand `replay` of the results desk as a program of its own: it stands on the results
+//! The subcommand `replay` of the results desk as a program of its own: it depends on the results
 //! half alone, so it is proved and built sooner than the whole program.
 #![tactic(auto)]
 

@@ -1,4 +1,4 @@
--- What a call of `Node::handle` answers, and what it leaves.
+-- What a call of `Node::handle` answers, and what it leaves (the project's own).
 use Rattle.std.specs.Prelude.{ℕ, ◌≡◌, ◌↔◌, ◌<◌, ⊤, true, false, if◌then◌else◌, List, [], Result, Ok}
 use Rattle.std.specs.Prelude.{Err, IsOk, IfOk, OnErr, IsErrOf}
 use Rattle.std.specs.List.{All}

@@ -1,4 +1,4 @@
--- The lengths of logs that a desk was told by the desks of its hall.
+-- The lengths of logs that the desks of a hall reported to a desk (the project's own).
 use Rattle.std.specs.Prelude.{ℕ, ◌+◌, ◌-◌, max, if◌then◌else◌, List, [], ◌∷◌, Result, Ok, Err}
 use Rattle.std.specs.Prelude.{slice_index, slice_set}
 use Rattle.acceptor.specs.declared.message.Body.{Body}

@@ -1,4 +1,4 @@
--- What opening a node gives, and what a refusal leaves of its keeper.
+-- What opening a node gives, and what a refusal leaves of its keeper (the project's own).
 use Rattle.std.specs.Prelude.{◌≡◌, ◌≢◌, ◌<◌, false, IsTrue}
 use Rattle.store.specs.declared.fault.LoadFault.{LoadFault}
 use Rattle.store.specs.declared.fault.LoadFault.TheVariants.{Device, NoMemory}

@@ -1,4 +1,5 @@
--- What the store of a desk holds, before a change and after it, by the ghosts of its keeper.
+-- What the store of a desk holds, before a change and after it, by the ghosts of its keeper (the
+-- project's own).
 use Rattle.std.specs.Prelude.{◌≡◌, List, Option, Result, IsOkAnd}
 use Rattle.acceptor.specs.Storing.{stored_after, log_after}
 use Rattle.acceptor.specs.declared.entry.Entry.{Entry}

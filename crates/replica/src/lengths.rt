@@ -1,4 +1,4 @@
-//! The lengths of logs that a desk was told by the desks of its hall.
+//! The lengths of logs that the desks of a hall reported to a desk.
 
 ghost use Rattle.std.specs.Prelude.{◌≡◌, ◌≤◌, true};
 ghost use Rattle.std.specs.List.{AllByRecursion};
@@ -56,8 +56,8 @@ fn heard(home: Home, message: &Message, told: [u32; 5]) -> [u32; 5]
     raised(told, message.from, len)
 }
 
-/// The lengths that a desk was told after an event that is not refused, where they were these
-/// before it. There is one for each of five desks, that of desk 1 first.
+/// The lengths that were reported to a desk after an event that is not refused, where they were
+/// these before it. There is one for each of five desks, that of desk 1 first.
 pub fn told_by(home: Home, event: &DeskEvent, told: [u32; 5]) -> [u32; 5]
     requires few { home.desks ≤ 5 }
     requires most { AllByRecursion (λ len. len ≤ 65536) told }

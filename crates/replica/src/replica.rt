@@ -31,7 +31,7 @@ use store::keeper::Keeper;
 
 /// One desk of a hall and its log, over a keeper. It takes one event at a time.
 ///
-/// What is said of the store stands under the keeper's premise, `is_honest`: so far the store has
+/// What is said of the store holds under the keeper's premise, `is_honest`: so far the store has
 /// given back what was written to it, and nobody else has written it. A keeper in memory needs
 /// none.
 pub struct Replica<K: Keeper> {
@@ -195,10 +195,10 @@ impl<K: Keeper + Drop> Replica<K> {
         self.desk.promised()
     }
 
-    /// The greatest length of its log that each desk told this one, that of desk 1 first, at most
-    /// 65,536: a Behind tells the length of its sender's log, and a Decided that it is above a
-    /// position. It is 0 for a desk that told none since this one was opened, and for one that the
-    /// hall does not have.
+    /// The greatest length of its log that each desk reported to this one, that of desk 1 first, at
+    /// most 65,536: a Behind reports the length of its sender's log, and a Decided that it is above
+    /// a position. It is 0 for a desk that reported none since this one was opened, and for one
+    /// that the hall does not have.
     pub fn told(&self) -> [u32; 5]
         ensures told { result ≡ self.now.told }
         ensures most { AllByRecursion (λ len. len ≤ 65536) result }
@@ -213,7 +213,7 @@ impl<K: Keeper + Drop> Replica<K> {
     /// of the hall, with its fields in the ranges of a frame. A message for another desk, from none
     /// of the hall, or with a field out of its range does nothing, as does any message that the
     /// protocol ignores: the answer is Ok, and nothing is stored. Where the answer is Ok, what a
-    /// message of a desk of the hall tells of that desk's log is seen in `told` from then on.
+    /// message of a desk of the hall reports of that desk's log is seen in `told` from then on.
     ///
     /// At a desk that is Down every event is Down. Else a submission is Busy with 64 entries in the
     /// queue, and it is LogFull with 65,536 in the log; a Start is LogFull at an idle or leading

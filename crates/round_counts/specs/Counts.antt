@@ -1,4 +1,4 @@
--- How far the entrants of a round have come.
+-- How far the entrants of a round have come (the project's own).
 use Rattle.std.specs.Prelude.{ℕ, Bool, true, false, List, [], ◌∷◌, length, nat_lt, if◌then◌else◌}
 use Rattle.std.specs.Prelude.{Option, count_by}
 use Rattle.std.specs.Option.{option_map_or}

@@ -1,4 +1,4 @@
--- Events, rounds and their settings in people's words.
+-- Events, rounds and their settings in people's words (the project's own).
 use Rattle.std.specs.Prelude.{ℕ, Bool, true, false, List, [], ◌++◌, codes, decimal, Option, None}
 use Rattle.std.specs.Prelude.{Some}
 use Rattle.attempts.specs.Texts.{number_text, time_text}

@@ -174,7 +174,7 @@ is_done k vs = nat_le 1 k && nat_le k (length vs)
 abbrev pub replaced : ℕ → Value → List Value → List Value
 replaced k v vs = slice_set vs (k - 1) v
 
--- more attempts stand than the cutoff's, and these values don't meet it
+-- more attempts count than the cutoff's, and these values don't meet it
 abbrev pub loses_cutoff : Option (ℕ × ℕ) → List Value → Bool
 loses_cutoff None vs = false
 loses_cutoff (Some cutoff) vs = nat_lt cutoff.0 (length vs) && not (meets cutoff vs)

@@ -32,7 +32,7 @@ pub(crate) fn allotted(format: Format, cutoff: Option<(u8, u32)>, values: &[Valu
     }
 }
 
-/// Whether more attempts stand than the cutoff's, though these values don't meet it.
+/// Whether more attempts count than the cutoff's, though these values don't meet it.
 pub(crate) fn loses_cutoff(cutoff: Option<(u8, u32)>, values: &[Value]) -> bool
     ensures { result ≡ loses_cutoff cutoff values.now }
 {

@@ -35,7 +35,7 @@ pub enum CorrectFault {
     NotEntered,
     /// The attempt is not done.
     NoSuchAttempt,
-    /// More attempts stand than the cutoff's, and the cutoff would no longer be met.
+    /// More attempts count than the cutoff's, and the cutoff would no longer be met.
     CutoffLost,
 }
 

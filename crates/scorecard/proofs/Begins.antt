@@ -16,7 +16,7 @@ use Rattle.texts.proofs.FieldSpellings.{decimal_digits}
 use Rattle.scorecard.specs.Spelling.{EndsInPair, IsFilled, IsSeconds, IsMinutes, IsTimed}
 use Rattle.scorecard.specs.Spelling.{points, colons, IsMulti, is_word, is_dnf, is_dns}
 
--- a digit stands first
+-- a digit is first
 abbrev pub BeginsWithDigit : List ℕ → Type 0
 BeginsWithDigit [] = ⊥
 BeginsWithDigit (b ∷ bs) = is_ascii_digit b ≡ true

@@ -281,7 +281,7 @@ multi_spelled s a t two few all some most = record {
   some = some;
 }
 
--- what stands before the time
+-- what is before the time
 abbrev cubes_text : ℕ → ℕ → List ℕ
 cubes_text s a = decimal s ++ codes "/" ++ decimal a ++ codes " "
 

@@ -21,7 +21,7 @@ use Rattle.texts.proofs.Spelled.{bytes_eq-equal}
 use Rattle.scorecard.specs.Spelling.{is_among, mended, is_dnf}
 use Rattle.scorecard.specs.Spelling.{is_dns, IsSolution}
 
--- what may stand second in moves: nothing, a space, `w`, an apostrophe or `2`
+-- what may be second in moves: nothing, a space, `w`, an apostrophe or `2`
 abbrev pub is_start : List ℕ → Bool
 is_start text =
     is_among (codes "URFDLBxyz") (get_or text 0 0)

@@ -1,4 +1,5 @@
--- What holds of all readings: a text has at most one, and what a sheet prints is read back.
+-- What holds of all readings: a text has at most one, and what a sheet prints is read back (the
+-- project's own).
 use Rattle.std.specs.Prelude.{◌≡◌, ℕ, ◌≤◌, List, Option, None}
 use Rattle.attempts.specs.declared.Outcome.{Outcome}
 use Rattle.attempts.specs.declared.Outcome.TheVariants as outcome

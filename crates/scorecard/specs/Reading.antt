@@ -1,5 +1,6 @@
 -- What is read of a scorecard, or what is wrong with it: the first fault in the order of these
--- definitions. Which text spells which outcome stands in `Spelling`, apart from this.
+-- definitions (the project's own). Which text spells which outcome is in `Spelling`, apart from
+-- this.
 use Rattle.std.specs.Prelude.{◌≡◌, ◌⊎◌, ℕ, ◌+◌, ◌-◌, ◌*◌, ◌/◌, ◌%◌, ◌==◌, ◌&&◌, ◌||◌, nat_le}
 use Rattle.std.specs.Prelude.{if◌then◌else◌, List, length, take, slice_index, codes}
 use Rattle.std.specs.Prelude.{bytes_eq, Option, Some, None, Result, Ok, Err}
@@ -26,17 +27,17 @@ abbrev pub ◌>>=◌ : {A B : Type 0} → Result A CardFault → (A → Result B
 
 -- ---- digits
 
--- the number of one to so many digits
+-- the number of one to this many digits
 unfoldable pub number_of : ℕ → List ℕ → Option ℕ
 number_of most bytes =
     if nat_le 1 (length bytes) && nat_le (length bytes) most && list_all is_ascii_digit bytes
     then Some (digits_value bytes) else None
 
--- the byte at so many before the end
+-- the byte at this many before the end
 abbrev pub last_but : ℕ → List ℕ → ℕ
 last_but k bytes = slice_index bytes (length bytes - k)
 
--- the number of the two digits that follow a mark at the end, and what stands before the mark
+-- the number of the two digits that follow a mark at the end, and what is before the mark
 unfoldable pub pair_of : List ℕ → List ℕ → Option (List ℕ × ℕ)
 pair_of marks bytes =
     if nat_le 3 (length bytes) && is_among marks (last_but 3 bytes)
@@ -68,7 +69,7 @@ minutes_with hundredths seconds (Some minutes) =
     if nat_le 60 seconds then Err fault.BadSeconds
     else Ok (6000 * minutes + 100 * seconds + hundredths)
 
--- what stands before a point and hundredths: seconds, or minutes and seconds
+-- what is before a point and hundredths: seconds, or minutes and seconds
 abbrev pub before_point : ℕ → List ℕ → Option (List ℕ × ℕ) → Result ℕ CardFault
 before_point hundredths front None = seconds_with hundredths (number_of 2 front)
 before_point hundredths front (Some split) =
@@ -92,7 +93,7 @@ time_of bytes = do
   time ← clock_of bytes
   within_limits time
 
--- the penalties of so many seconds, two for each
+-- the penalties of this many seconds, two for each
 abbrev pub halved : Option ℕ → Result ℕ CardFault
 halved None = Err fault.BadPenalty
 halved (Some seconds) =

@@ -16,7 +16,7 @@ use Rattle.texts.specs.declared.command.Entered.TheVariants as entered
 
 -- ---- digits
 
--- one to so many decimal digits, zeros in front too, and the number that they stand for
+-- one to this many decimal digits, zeros in front too, and the number that they stand for
 pub record AreDigits (most : ℕ) (digits : List ℕ) (number : ℕ) : Type 0 where
   pub some : 1 ≤ length digits
   pub few : length digits ≤ most
@@ -38,11 +38,11 @@ pub record EndsInPair (marks text front : List ℕ) (number : ℕ) : Type 0 wher
 
 -- ---- times, in hundredths of a second
 
--- what stands before hundredths: a point, for which a comma may stand
+-- what is before hundredths: a point, or a comma in its place
 abbrev pub points : List ℕ
 points = codes ".,"
 
--- what stands after minutes: a colon, or a point
+-- what is after minutes: a colon, or a point
 abbrev pub colons : List ℕ
 colons = codes ":.,"
 
@@ -83,7 +83,7 @@ pub record IsTime (text : List ℕ) (time : ℕ) : Type 0 where
   pub some : 1 ≤ time
   pub most : time ≤ 999999
 
--- what stands after a time for its penalties: nothing; `+` for one and `++` for two; or a plus and
+-- what is after a time for its penalties: nothing; `+` for one and `++` for two; or a plus and
 -- their seconds, two for each of one to nine
 abbrev pub IsPenalty : List ℕ → ℕ → Type 0
 IsPenalty mark penalties =
@@ -152,8 +152,8 @@ pub record IsMulti (text : List ℕ) (solved attempted seconds : ℕ) : Type 0 w
 abbrev pub apostrophe : List ℕ
 apostrophe = 226 ∷ 128 ∷ 153 ∷ []
 
--- so many bytes are left out; after them each typographic apostrophe is a plain one, and all other
--- bytes stay
+-- this many bytes are left out; after them each typographic apostrophe is a plain one, and all
+-- other bytes stay
 abbrev pub mended_after : ℕ → List ℕ → List ℕ
 mended_after skipped [] = []
 mended_after (suc skipped) (b ∷ bs) = mended_after skipped bs

@@ -1,4 +1,4 @@
--- What is entered for an attempt, as a scoretaker may type it.
+-- What is entered for an attempt, as a scoretaker may type it (the project's own).
 use Rattle.std.specs.Prelude.{ℕ, zero, suc, ◌*◌, List, [], ◌++◌, codes, decimal}
 use Rattle.attempts.specs.Texts.{multi_text, time_text}
 use Rattle.cube.specs.notation.Notation.{spelling as moves_text}

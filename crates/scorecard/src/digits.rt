@@ -41,7 +41,7 @@ pub fn number_of(most: usize, bytes: &[u8]) -> Option<u32>
     }
 }
 
-/// What stands before a mark and two digits at the end, and the number of these, 0 to 99.
+/// What is before a mark and two digits at the end, and the number of these, 0 to 99.
 #[tactic(auto, unfolding(crate::specs::Reading::pair_of))]
 pub fn pair_of<'a>(marks: &[u8], bytes: &'a [u8]) -> Option<(&'a [u8], u32)>
     ensures value { option_map (λ x. (x.0.now, x.1)) result ≡ pair_of marks.now bytes.now }

@@ -19,13 +19,13 @@ pub enum CardFault {
     /// A time is none, or above 999,999 hundredths of a second.
     #[error("a time is 0.01 to 166:39.99")]
     OutOfRange,
-    /// After a plus stands something else than what marks one to nine penalties.
+    /// After a plus is something else than what marks one to nine penalties.
     #[error("penalties are +2, +4 to +18")]
     BadPenalty,
     /// A slash, a space or a number is missing or misspelt.
     #[error("a result is like 11/13 58:20")]
     NotAResult,
-    /// What stands after the slash is no number of 2 to 99.
+    /// What is after the slash is no number of 2 to 99.
     #[error("2 to 99 cubes are attempted")]
     BadAttempted,
     /// More cubes are solved than attempted.

@@ -48,7 +48,7 @@ fn whole_seconds_of(bytes: &[u8]) -> Result<u16, CardFault>
     }
 }
 
-/// Cubes solved of those attempted, in so many seconds.
+/// Cubes solved of those attempted, in this many seconds.
 #[tactic(auto, unfolding(crate::specs::Reading::multi_of))]
 pub fn multi_of(bytes: &[u8]) -> Result<Entered, CardFault>
     ensures { result ≡ multi_of bytes.now }

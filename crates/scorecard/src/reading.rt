@@ -52,8 +52,8 @@ fn read_bare(alloc: Global, unit: Unit, bytes: &[u8]) -> Result<Entered, CardFau
 ///   10.43, `7` is 0.07); or one or two digits of seconds, a point and two digits (`10.43`); or one
 ///   to three digits of minutes, a colon or a point, two digits of seconds, a point and two digits
 ///   (`1:02.33`, `1.02.33`). A comma is a point. After it `+` is one penalty, `++` are two, and
-///   `+2`, `+4` to `+18` those of so many seconds (WCA Regulations, article 10e). It is a time of 1
-///   to 999,999 hundredths.
+///   `+2`, `+4` to `+18` those of this many seconds (WCA Regulations, article 10e). It is a time of
+///   1 to 999,999 hundredths.
 /// - A solution, in fewest moves: the tokens of 1 to 400 moves with spaces between them, whose
 ///   apostrophes may be typographic ones (U+2019).
 /// - A result, in multi-blind: the cubes solved, a slash, those attempted, a space, and the time in

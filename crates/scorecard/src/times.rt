@@ -12,10 +12,10 @@ use crate::digits::{number_of, pair_of};
 use crate::fault::CardFault;
 use texts::{Entered, cut, number_between};
 
-/// What stands before hundredths. A comma is a point.
+/// What is before hundredths. A comma is a point.
 const POINTS: &[u8] = b".,";
 
-/// What stands after minutes.
+/// What is after minutes.
 const COLONS: &[u8] = b":.,";
 
 /// The greatest time that may be entered, in hundredths of a second.
@@ -84,7 +84,7 @@ fn time_of(bytes: &[u8]) -> Result<u32, CardFault>
     }
 }
 
-/// The penalties of so many seconds, two for each.
+/// The penalties of this many seconds, two for each.
 fn halved(mark: &[u8]) -> Result<u8, CardFault>
     ensures { result ≡ halved (between 2 18 mark.now) }
 {

@@ -46,7 +46,7 @@ one_more c bodies body each good =
     (append-nil (record_of c (length bodies) body)) in
     record { good = bodies-append 0 bodies (body ∷ []) each next; sent = sent }
 
--- the records in front are all, where none stands after them
+-- the records in front are all, where none is after them
 front_only : (c : Channel) (front : List (List ℕ)) (rest came : List ℕ) → AreBodies 0 front
     → came ≡ records c 0 front ++ rest → ¬ BeginsRecord c (length front) rest
     → HandsOnFront c front came

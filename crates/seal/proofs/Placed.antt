@@ -1,4 +1,4 @@
--- A whole record: its body stands after its length, and its tag after its body.
+-- A whole record: its body is after its length, and its tag after its body.
 use Rattle.std.proofs.Common.{◌≡◌, ℕ, ◌+◌, ◌-◌, ◌^◌, ◌<◌, ◌≤◌, List, [], ◌∷◌, ◌++◌, length, take}
 use Rattle.std.proofs.Common.{drop, refl, sym, ap, subst, ◌∙◌, append_assoc, arith, get_or}
 use Rattle.std.proofs.Common.{slice_range}

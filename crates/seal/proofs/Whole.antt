@@ -75,7 +75,7 @@ pub one_record : (c : Channel) (n : ℕ) (a b x y : List ℕ) → IsBody n a →
 one_record c n a b x y g h e =
     let parts = same_parts c c n n a b x y (short n a g) (short n b h) e in (parts.0, parts.2)
 
--- where a record stands at the front, its length and all its bytes are there
+-- where a record is at the front, its length and all its bytes are there
 pub begun_length : (c : Channel) (n : ℕ) (bytes : List ℕ) → (begun : BeginsRecord c n bytes)
     → length_at bytes ≡ length begun.0
 begun_length c n bytes begun = ap (λ (s : List ℕ). length_at s) begun.3

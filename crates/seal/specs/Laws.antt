@@ -1,4 +1,4 @@
--- Laws of sealed streams.
+-- Laws of sealed streams (the project's own).
 use Rattle.std.specs.Prelude.{◌≡◌, ℕ, ◌^◌, ◌<◌, ◌≤◌, List, [], ◌∷◌, ◌++◌, length}
 use Rattle.std.specs.Prelude.{Option, None, slice_index, slice_set}
 use Rattle.std.specs.Int.{w16, w32, to_be_bytes, from_be_bytes}
@@ -46,7 +46,7 @@ HandsOnFront channel front came =
     (handed : List ℕ) (fault : Option OpenFault) → HandsOn channel came handed fault
     → handed ≡ joined front
 
--- one byte of a record was changed: the record with this number, its byte at, what stands there
+-- one byte of a record was changed: the record with this number, its byte at, what is there
 pub record IsChanged (channel : Channel) (number : ℕ) (body : List ℕ) (at byte : ℕ) : Type 0 where
   pub within : at < length (record_of channel number body)
   pub other : ¬ (byte ≡ slice_index (record_of channel number body) at)

@@ -1,4 +1,4 @@
--- The records of a sealed stream.
+-- The records of a sealed stream (the project's own).
 use Rattle.std.specs.Prelude.{◌≡◌, ℕ, suc, ◌-◌, ◌^◌, ◌<◌, ◌≤◌, List, [], ◌∷◌, ◌++◌, length, codes}
 use Rattle.std.specs.Int.{w16, w64, to_be_bytes}
 use Rattle.seal.specs.declared.channel.Channel.{Channel}

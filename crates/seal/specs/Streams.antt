@@ -1,4 +1,4 @@
--- What a sealed stream holds, and what an opener of it keeps.
+-- What a sealed stream holds, and what an opener of it keeps (the project's own).
 use Rattle.std.specs.Prelude.{◌≡◌, ◌⊎◌, ℕ, ◌+◌, ◌<◌, ◌≤◌, List, [], ◌∷◌, ◌++◌, length, take}
 use Rattle.std.specs.Prelude.{Option, Some, None}
 use Rattle.std.specs.Global.{Vec}
@@ -23,7 +23,7 @@ pub record IsWhole (bytes : List ℕ) : Type 0 where
   pub counted : IsLength (length_at bytes)
   pub there : length_at bytes + 34 ≤ length bytes
 
--- a record with this number stands at the front
+-- a record with this number is at the front
 abbrev pub BeginsRecord : Channel → ℕ → List ℕ → Type 0
 BeginsRecord channel number bytes =
     (body : List ℕ) × (more : List ℕ) × IsBody number body

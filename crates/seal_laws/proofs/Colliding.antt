@@ -126,7 +126,7 @@ one_channel c d h k =
     ap (λ (s : List ℕ). channel_of s c.direction) h
     ∙ ap (λ (way : Direction). channel_of d.key way) k
 
--- a record with the tag that belongs here stands here, or two texts have one digest
+-- a record with the tag that belongs here is here, or two texts have one digest
 elsewhere : (c d : Channel) (n m : ℕ) (body : List ℕ) (X : Type 0)
     → ((d.key ≡ c.key) × (tagged d m body ≡ tagged c n body)) ⊎ X
     → ((d.key ≡ c.key) × (tagged d m body ≡ tagged c n body) → ⊥) → X

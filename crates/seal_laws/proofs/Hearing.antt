@@ -73,7 +73,7 @@ no_bodies [] each e = refl
 no_bodies ([] ∷ more) each e = absurd (omega (arith, each.0.0.0))
 no_bodies ((x ∷ xs) ∷ more) each e = absurd cc
 
--- where no record stands in front, nothing is handed on
+-- where no record is in front, nothing is handed on
 nothing_begun : (c : Channel) (stream handed : List ℕ) (bodies : List (List ℕ)) (rest : List ℕ)
     → ¬ BeginsRecord c 0 stream → AreBodies 0 bodies → stream ≡ records c 0 bodies ++ rest
     → handed ≡ joined bodies → handed ≡ []

@@ -1,4 +1,5 @@
--- The two sides of a sealed connection: a caller that has one of a desk's keys, and the desk.
+-- The two sides of a sealed connection: a caller that has one of a desk's keys, and the desk (the
+-- project's own).
 use Rattle.std.specs.Prelude.{◌≡◌, ◌≢◌, ℕ, false, List, [], ◌∷◌, ◌++◌, Some, None, replicate}
 use Rattle.seal.specs.Records.{IsBody, preface_of}
 use Rattle.seal.specs.Streams.{BeginsRecord}

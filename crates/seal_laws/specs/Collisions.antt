@@ -1,5 +1,5 @@
 -- Where two tags or two keys are the same, two texts that were hashed have one digest, if they are
--- not of one record or of one connection.
+-- not of one record or of one connection (the project's own).
 use Rattle.std.specs.Prelude.{◌≡◌, ◌≢◌, ◌⊎◌, ℕ, List, ◌++◌, codes, length}
 use Rattle.sha2.specs.Sha256.{sha256}
 use Rattle.seal.specs.declared.channel.Channel.{Channel}

@@ -1,4 +1,4 @@
--- What the key of a connection is made of.
+-- What the key of a connection is made of (the project's own).
 use Rattle.std.specs.Prelude.{◌≡◌, ℕ, List, length}
 use Rattle.seal.specs.Hmac.{hmac}
 use Rattle.seal.specs.Records.{key_of}

@@ -1,4 +1,4 @@
--- What a tag is made of.
+-- What a tag is made of (the project's own).
 use Rattle.std.specs.Prelude.{◌≡◌, ℕ, ◌^◌, ◌<◌, List, length}
 use Rattle.seal.specs.declared.channel.Channel.{Channel}
 use Rattle.seal.specs.declared.channel.Direction.{Direction}

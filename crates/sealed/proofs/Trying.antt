@@ -106,7 +106,7 @@ tries_entry old new e f s x piece more was is there now same fed tries =
       subst (λ (t : TunnelOf). t.opener.fault ≢ None) (sym same) q.5,
     )
 
--- the entry key was chosen, and there is none: no trial stands so
+-- the entry key was chosen, and there is none: no trial is so
 pub tries_no_entry : (old new : TrialOf) (s x piece more : List ℕ) → old.holder ≡ Some Entry
     → old.entry ≡ None → Tries s x old → Tries (s ++ piece) (x ++ more) new
 tries_no_entry old new s x piece more was none tries =

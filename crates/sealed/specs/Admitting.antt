@@ -1,4 +1,4 @@
--- Who calls a desk over a connection, and what is handed on of what comes.
+-- Who calls a desk over a connection, and what is handed on of what comes (the project's own).
 use Rattle.std.specs.Prelude.{◌≡◌, ◌⊎◌, ℕ, true, false, List, [], Option, None, Some, option_map}
 use Rattle.seal.specs.declared.channel.Channel.{Channel}
 use Rattle.seal.specs.declared.channel.Direction.TheVariants.{ToServer, ToClient}

@@ -1,4 +1,4 @@
--- The side of whoever calls a desk: what it keeps, and what it has read.
+-- The side of the caller of a desk: what it keeps, and what it has read (the project's own).
 use Rattle.std.specs.Prelude.{◌≡◌, ℕ, Bool, true, false, List, [], ◌++◌, Option, None, Some}
 use Rattle.seal.specs.declared.channel.Direction.TheVariants.{ToClient, ToServer}
 use Rattle.seal.specs.declared.fault.OpenFault.{OpenFault}

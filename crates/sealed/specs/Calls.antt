@@ -1,4 +1,4 @@
--- A desk's side of a connection: what it keeps, and what it has read.
+-- A desk's side of a connection: what it keeps, and what it has read (the project's own).
 use Rattle.std.specs.Prelude.{◌≡◌, ℕ, Bool, true, false, List, [], ◌∷◌, ◌++◌, Option, None}
 use Rattle.std.specs.Prelude.{Some, IsSome, option_map}
 use Rattle.seal.specs.declared.fault.SealFault.{SealFault}
@@ -158,7 +158,7 @@ Receives piece old new more =
 
 -- ---- what is sent
 
--- the bytes themselves to whoever is let pass, and nothing to nobody
+-- the bytes themselves to a caller who is let pass, and nothing to nobody
 abbrev pub SendsPlain : Option Caller → List ℕ → CalledOf → CalledOf → List ℕ → Type 0
 SendsPlain None bytes old new sent = (sent ≡ []) × (new ≡ old)
 SendsPlain (Some c) bytes old new sent = (sent ≡ bytes) × (new ≡ old)
@@ -172,7 +172,7 @@ SendsBy (Some t) bytes old new sent =
 abbrev pub Sends : List ℕ → CalledOf → CalledOf → List ℕ → Type 0
 Sends bytes old new sent = SendsBy old.trial bytes old new sent
 
--- why nothing is sent: to whoever is let pass for want of memory alone, and to nobody never
+-- why nothing is sent: to a caller who is let pass for want of memory alone, and to nobody never
 abbrev pub FailsPlain : Option Caller → SealFault → Type 0
 FailsPlain None e = ⊥
 FailsPlain (Some c) e = e ≡ Starved

@@ -1,4 +1,4 @@
--- The front of a stream: what it tells of the stream.
+-- The front of a stream: what it tells of the stream (the project's own).
 use Rattle.std.specs.Prelude.{◌≡◌, ◌⊎◌, ◌<◌, ◌≤◌, ℕ, List, ◌++◌, length, take}
 use Rattle.seal.specs.Records.{mark, preface_of}
 

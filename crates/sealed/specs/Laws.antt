@@ -1,4 +1,4 @@
--- Laws of the two sides of a connection.
+-- Laws of the two sides of a connection (the project's own).
 use Rattle.std.specs.Prelude.{◌≡◌, ◌≢◌, ◌⊎◌, ℕ, List, [], ◌++◌, Some, length}
 use Rattle.seal.specs.Records.{AreBodies, preface_of, records}
 use Rattle.seal.specs.Sealing.{Sealing}
@@ -18,12 +18,12 @@ abbrev pub StandsAdmits : Type 0
 StandsAdmits = (c : CalledOf) (came handed : List ℕ) → Stands c came handed
     → Admits c.doors c.random came handed (caller_of c)
 
--- the side of whoever calls has handed on nothing, or what fits under its key
+-- the side of the caller has handed on nothing, or what fits under its key
 abbrev pub StandsOpens : Type 0
 StandsOpens = (c : CallingOf) (came handed : List ℕ) → Callings.Stands c came handed
     → (handed ≡ []) ⊎ IsOpened c.key c.random came handed
 
--- whoever has the hall's key, and seals with it, is let in with all that was sealed
+-- a holder of the hall's key, who seals with it, is let in with all that was sealed
 abbrev pub HolderIsAdmitted : Type 0
 HolderIsAdmitted =
     (locks : Locks) (client server : List ℕ) (bodies : List (List ℕ)) → length client ≡ 16

@@ -1,4 +1,4 @@
--- What a desk's side sent of what it was given.
+-- What a desk's side sent of what it was given (the project's own).
 use Rattle.std.specs.Prelude.{◌≡◌, ℕ, List, [], ◌++◌, Option, None, Some, IfSome, IsSome}
 use Rattle.seal.specs.Records.{AreBodies, records}
 use Rattle.seal.specs.Sealing.{Sealing}
@@ -38,8 +38,8 @@ pub record IsSentSealed (locks : Locks) (server came given sent : List ℕ) (key
     pub gives : joined bodies ≡ given
     pub sealed : sent ≡ records (goes_under client server secret) 0 bodies
 
--- what is sent of bytes that are given: they themselves to whoever is let in without a key, records
--- of them to a holder of one, and nothing as long as nobody is let in
+-- what is sent of bytes that are given: they themselves to a caller who is let in without a key,
+-- records of them to a holder of one, and nothing as long as nobody is let in
 abbrev pub IsSent : Doors → List ℕ → List ℕ → Option Caller → List ℕ → List ℕ → Type 0
 IsSent doors server came (Some Anyone) given sent = sent ≡ given
 IsSent doors server came (Some Passer) given sent = sent ≡ given

@@ -1,4 +1,4 @@
--- A sealed stream at a desk that has one key or two.
+-- A sealed stream at a desk that has one key or two (the project's own).
 use Rattle.std.specs.Prelude.{◌≡◌, ◌≢◌, ℕ, ◌&&◌, Bool, true, false, List, []}
 use Rattle.std.specs.Prelude.{Option, None, Some, IfSome, IsSome, option_map}
 use Rattle.std.specs.Option.{option_or}

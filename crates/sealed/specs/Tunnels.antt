@@ -1,4 +1,4 @@
--- A sealed connection under one key.
+-- A sealed connection under one key (the project's own).
 use Rattle.std.specs.Prelude.{◌≡◌, ℕ, ◌+◌, ◌-◌, ◌*◌, ◌^◌, ◌<◌, ◌≤◌, List, [], length, None}
 use Rattle.seal.specs.declared.fault.SealFault.{SealFault}
 use Rattle.seal.specs.declared.fault.SealFault.TheVariants.{BadLength, NoNumber, NoMemory}

@@ -137,8 +137,8 @@ impl Called {
         self.trial.is_some()
     }
 
-    /// What the desk sends in front of all else to whoever sent a preface, and where it refuses a
-    /// stream, so that whoever has no key knows that one is asked for.
+    /// What the desk sends in front of all else to a client who sent a preface, and where it
+    /// refuses a stream, so that a client without a key knows that one is asked for.
     pub fn preface(&self) -> [u8; 20]
         ensures { result ≡ preface_of self.now.random }
     {
@@ -282,8 +282,8 @@ impl Called {
         }
     }
 
-    /// What is sent of bytes: these themselves to whoever calls without a key, and records of them
-    /// to a holder of one. As long as nobody calls nothing is sent.
+    /// What is sent of bytes: these themselves to a caller without a key, and records of them to a
+    /// holder of one. As long as nobody calls nothing is sent.
     ///
     /// `NoMemory` where memory was refused, and to a holder of a key `NoNumber` where more records
     /// are needed than there are numbers left. Then nothing more can be sent, since the number of a

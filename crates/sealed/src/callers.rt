@@ -12,9 +12,9 @@ pub enum Holder {
 /// Who calls a desk over a connection.
 #[derive(Clone, Copy, Debug, PartialEq, Eq)]
 pub enum Caller {
-    /// Whoever reached its port: the desk asks for no key.
+    /// Anybody who reached its port: the desk asks for no key.
     Anyone,
-    /// Whoever reached its port, without a key: the desk shows its sheets to all.
+    /// Anybody who reached its port, without a key: the desk shows its sheets to all.
     Passer,
     /// One that has a key of the desk.
     Holder { key: Holder },

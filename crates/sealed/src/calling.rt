@@ -1,4 +1,4 @@
-//! The side of whoever calls a desk, with a key.
+//! The side of the caller of a desk, with a key.
 
 ghost use Rattle.std.specs.Prelude.{◌≡◌, ◌↔◌, false, IfErr, IfOk, IsSome, IsTrue, None};
 ghost use Rattle.seal.specs.Records.{preface_of};
@@ -21,7 +21,7 @@ pub enum Trouble {
     OtherKey,
 }
 
-/// The side of whoever calls a desk, with a key: what the desk sends, in whatever pieces, and what
+/// The side of the caller of a desk, with a key: what the desk sends, in whatever pieces, and what
 /// of it is handed on.
 ///
 /// A contract sees the key, the random bytes, and how far the stream is known.
@@ -54,7 +54,7 @@ impl Model for Calling {
 }
 
 impl Calling {
-    /// The side of whoever has this key, at the beginning of a connection. The random bytes are new
+    /// The side of a holder of this key, at the beginning of a connection. The random bytes are new
     /// in each connection.
     pub fn new(alloc: Global, key: [u8; 32], random: [u8; 16]) -> Result<Calling, NoMemory>
         ensures { IfOk result (λ c. c ≡ fresh_calling key random) }

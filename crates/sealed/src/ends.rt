@@ -1,8 +1,8 @@
 //! A caller's end of a connection with a desk, with a key or without one, as steps over bytes.
 //!
 //! With a key what goes both ways is sealed (`crate::Calling`); without one it goes as it is, and
-//! only a desk that asks for a key is told from one that does not. It knows no frames, and makes no
-//! system call.
+//! only a desk that asks for a key is distinguished from one that does not. It knows no frames, and
+//! makes no system call.
 
 mod call;
 pub mod laws;

@@ -5,18 +5,18 @@ ghost use Rattle.sealed.specs.Sent.{SealingGoesOn, SealingReads, SendsWhatIsGive
 
 /// Of whatever came to a desk's side in pieces, what was handed on, and who calls, are as the
 /// desk's keys have it: a law. So where the caller is a holder of the hall's key, all that was
-/// handed on stands in records that fit under this key.
+/// handed on is in records that fit under this key.
 pub fn stands_admits()
     ensures { StandsAdmits }
 {}
 
-/// Of whatever came to the side of whoever calls, what was handed on stands in records that fit
-/// under its key: a law.
+/// A law: of whatever came to the caller's side, what was handed on is in records that fit under
+/// its key.
 pub fn stands_opens()
     ensures { StandsOpens }
 {}
 
-/// Whoever has the hall's key, and seals with it, is let in with all that was sealed: a law.
+/// A law: a holder of the hall's key, who seals with it, is let in with all that was sealed.
 pub fn holder_is_admitted()
     ensures { HolderIsAdmitted }
 {}
@@ -36,7 +36,7 @@ pub fn sealing_goes_on()
     ensures { SealingGoesOn }
 {}
 
-/// A desk's side sends nothing but what it is given: the bytes themselves to whoever is let in
+/// A desk's side sends nothing but what it is given: the bytes themselves to a caller who is let in
 /// without a key, and to a holder of one records of them under its key, numbered from 0: a law.
 pub fn sends_what_is_given()
     ensures { SendsWhatIsGiven }

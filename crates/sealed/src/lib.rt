@@ -1,9 +1,9 @@
 //! The two sides of a connection that may be sealed, as steps over bytes.
 //!
 //! A desk that has keys tells by the first four bytes whether a stream is sealed, and by the first
-//! record under which key: what it hands on is for whoever serves the desk, who is told who calls
-//! (`Called`). A client, and a desk that calls another desk, has one key (`Calling`). Neither knows
-//! frames, and neither makes a system call.
+//! record under which key: what it hands on is for the code that serves the desk, which learns who
+//! calls (`Called`). A client, and a desk that calls another desk, has one key (`Calling`). Neither
+//! knows frames, and neither makes a system call.
 #![tactic(auto)]
 
 mod called;

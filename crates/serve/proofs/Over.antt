@@ -131,7 +131,7 @@ prints_at fault.NoHallKey s d len o a b allowed h = absurd h
 prints_at (fault.KeyFile e) s d len o a b allowed h = absurd h
 prints_at fault.SameKeys s d len o a b allowed h = absurd h
 
--- what stands in front of serving prints nothing
+-- what is in front of serving prints nothing
 pub hindered : (f : ServeFault) (s : Service) (o : Output) → Hinders f s → Keeps o.old o.new
     → PrintsAt f s o
 hindered fault.Down s o h k = absurd h

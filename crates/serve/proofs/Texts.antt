@@ -1,4 +1,4 @@
--- Texts that stand at two places.
+-- Texts that are at two places.
 use Rattle.std.proofs.Common.{◌≡◌, ◌<◌, ◌≤◌, ◌+◌, ℕ, zero, suc, List, [], ◌∷◌, Some, Option, None}
 use Rattle.std.proofs.Common.{refl, ◌∙◌, sym, ap, map, length}
 use Rattle.std.proofs.Common.{get_or, arith, Bor, Bool, true, false}

@@ -1,4 +1,4 @@
--- The addresses at which a desk finds the other desks of its hall.
+-- The addresses at which a desk finds the other desks of its hall (the project's own).
 use Rattle.std.specs.Prelude.{◌≡◌, ◌<◌, ◌+◌, ℕ, List, [], ◌∷◌, take, Option, Some, IsSomeAnd}
 use Rattle.std.specs.Prelude.{slice_get}
 use Rattle.std.specs.Net.Grammar.{IsSocketText}
@@ -17,7 +17,7 @@ AreFoundFor [] [] = Unit {0}
 AreFoundFor (text ∷ texts) (found ∷ founds) = IsFoundFor text found × AreFoundFor texts founds
 AreFoundFor _ _ = ⊥
 
--- the same text stands at both places, counted from 0
+-- the same text is at both places, counted from 0
 abbrev pub AreTwins : List (List ℕ) → ℕ → ℕ → Type 0
 AreTwins texts first second =
     (first < second) × (text : List ℕ) × (slice_get texts first ≡ Some text)
@@ -26,7 +26,7 @@ AreTwins texts first second =
 abbrev pub HasTwins : List (List ℕ) → Type 0
 HasTwins texts = (first second : ℕ) × AreTwins texts first second
 
--- no text stands at two places
+-- no text is at two places
 abbrev pub AreApart : List (List ℕ) → Type 0
 AreApart texts = (first second : ℕ) → ¬ AreTwins texts first second
 

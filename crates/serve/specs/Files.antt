@@ -1,4 +1,4 @@
--- The desk that is opened on its files.
+-- The desk that is opened on its files (the project's own).
 use Rattle.std.specs.Prelude.{◌≡◌, false, ℕ, List, []}
 use Rattle.acceptor.specs.Storing.{first_stored}
 use Rattle.acceptor.specs.declared.entry.Entry.{Entry}
@@ -39,7 +39,7 @@ pub record KeepsFor {K : Type 0} (k : Ghosts K) (how : Making) (files : Image) (
       → (s : Stored) × (log : List Entry) × k.keeps keeper s log × HeldFor how files home s log
 
 -- A keeper of this desk, which kept what the files held so, was closed with all in its file, and
--- then the file was put into use: so many uses of it were begun with this one.
+-- then the file was put into use: this many uses of it were begun with this one.
 abbrev pub IsUsedFor : {D K : Type 0} → disk.Ghosts D → Ghosts K → Making → Image → Home → ℕ
     → Type 0
 IsUsedFor {D} {K} g k how files home uses =

@@ -1,4 +1,4 @@
--- The keys of a desk, and what it asks of its clients by them.
+-- The keys of a desk, and what it asks of its clients by them (the project's own).
 use Rattle.std.specs.Prelude.{◌≡◌, ◌≢◌, ◌⊎◌, ℕ, true, false, List, Option, None, Some, IsNone}
 use Rattle.std.specs.Prelude.{IsSome, if◌then◌else◌, is_some}
 use Rattle.std.specs.Borrow.{Bor}
@@ -32,7 +32,7 @@ IsSecond s hall None = IsNone (second_file s)
 IsSecond s hall (Some key) = IsSome (second_file s) × IsKey key × (key ≢ hall)
 
 -- nothing is asked of the clients of a desk that has no key; and else one of its keys, but that
--- whoever has none may ask for sheets, where that is said
+-- callers without one may ask for sheets, where that is said
 abbrev pub AreDoors : Service → Doors → Type 0
 AreDoors s Open = IsNone s.key
 AreDoors s (Locked locks) =

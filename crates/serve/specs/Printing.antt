@@ -1,4 +1,4 @@
--- What a desk that serves prints, and when it may.
+-- What a desk that serves prints, and when it may (the project's own).
 use Rattle.std.specs.Prelude.{◌≡◌, ◌⊎◌, ◌≤◌, ℕ, List, ◌++◌, codes, decimal, length, Option}
 use Rattle.std.specs.Prelude.{IfSome, Some, None, Bool, true, false, map}
 use Rattle.std.specs.Io.KnownBytes.{Keeps, Appends}
@@ -132,8 +132,8 @@ pub record PrintsPart (s : Service) (o : Output) : Type 0 where
   pub few : IsFew count s
   pub written : AppendsPart o.old o.new (both_lines (home_of s) len count)
 
--- the cause of each fault that stands in front of serving: the named ones in this order; the others
--- are the file's and the socket's, of which no more is known
+-- the cause of each fault that is in front of serving: the named ones in this order; the others are
+-- the file's and the socket's, of which no more is known
 abbrev pub Hinders : ServeFault → Service → Type 0
 Hinders fault.BadCount s = ¬ IsCount s
 Hinders fault.BadDesk s = IsCount s × (¬ IsPlaced s)

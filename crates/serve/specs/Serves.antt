@@ -1,4 +1,5 @@
--- What a desk does that serves: the clients that it serves, and the file that it stands on.
+-- What a desk does that serves: the clients that it serves, and the file that it uses (the
+-- project's own).
 use Rattle.std.specs.Prelude.{◌≡◌, ◌⊎◌, ℕ, ◌+◌, ◌*◌, ◌-◌, ◌^◌, List, length, Option, None, Some}
 use Rattle.std.specs.Prelude.{Result, Ok, Err, Bool, nat_le, ◌&&◌, if◌then◌else◌}
 use Rattle.std.specs.Io.KnownBytes.{Appends, Keeps}
@@ -36,8 +37,9 @@ most_of (Some most) = most
 most_of None = 2 ^ 64 - 1
 
 -- how the clients of a desk are served: at most as many come as were asked for, and each may be
--- silent for so many milliseconds, and for a second more, since the silence of a client counts from
--- the end of the round before it was ready, which may be a second ago; and this is asked of each
+-- silent for this many milliseconds, and for a second more, since the silence of a client counts
+-- from the end of the round before it was ready, which may be a second ago; and this is asked of
+-- each
 abbrev pub terms_of : Service → Doors → Terms
 terms_of s doors = record {
   wire = s.wire;
@@ -52,7 +54,7 @@ abbrev pub period_of : Option ℕ → Option ℕ
 period_of None = None
 period_of (Some n) = if nat_le 100 n && nat_le n 60000 then Some n else None
 
--- what came of the clients before and afterwards, where it is told
+-- what came of the clients before and afterwards, where it is known
 pub record Heard : Type 0 where
   pub old : Option (List Happened)
   pub new : Option (List Happened)
@@ -86,7 +88,7 @@ HasServed served t a b =
     × IsServedEach served t.home t.terms t.period (with_clients first a) (with_clients last b)
     t.heard.old t.heard.new steps
 
--- so many clients were served to this end; for one of the desk's own Ticks memory was refused, or
+-- this many clients were served to this end; for one of the desk's own Ticks memory was refused, or
 -- for none
 abbrev pub served_to : ℕ → Over → Bool → ServedEach
 served_to count over starved = record { connections = count; over = over; starved = starved }

@@ -184,8 +184,8 @@ fn serve_kept<K: Keeper + Close + Drop, W: Write>(
 /// Once it listens it prints `desk <d> of <n> len <len>`, and at its end `served <count>`. It ends
 /// once it has served as many connections as were asked for, where a client asks it to stop, and by
 /// a fault. Where a period is asked for, it gives itself Ticks. At its end it closes the file, so
-/// that all stands in the file itself and nothing in the log beside it; no clause says that, since
-/// nothing is told of a file that was closed.
+/// that all is in the file itself and nothing in the log beside it; no clause says that, since
+/// nothing is known of a file that was closed.
 ///
 /// `S` stands for what the file held.
 ///

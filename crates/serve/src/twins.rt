@@ -3,7 +3,7 @@
 ghost use Rattle.std.specs.Prelude.{◌<◌, ℕ, length, map, IfNone, IfSome};
 ghost use Rattle.serve.specs.Addresses.{AreApart, AreTwins};
 
-/// The first place before this one at which the same text stands.
+/// The first place before this one with the same text.
 fn twin_before(texts: &[&str], second: usize) -> Option<usize>
     requires { second < length texts.now }
     ensures found { IfSome result
@@ -19,7 +19,7 @@ fn twin_before(texts: &[&str], second: usize) -> Option<usize>
     None
 }
 
-/// Two places, counted from 0, at which the same text stands.
+/// Two places, counted from 0, with the same text.
 pub fn twins_in(texts: &[&str]) -> Option<(usize, usize)>
     ensures found { IfSome result
         (λ places. AreTwins (map (λ t. t.now) texts.now) places.0 places.1) }

@@ -170,7 +170,7 @@ prints home r event round position style x w a is h =
       },
     )
 
--- how the desk stands, and entries of its log: so it is too
+-- how the desk is, and entries of its log: so it is too
 pub inspects : {V : Type 0} {way : Way V} (home : Home) (r : Request)
     (differs : Option Difference) (x : Seen) (w : What) (a : Outside way)
     → r ≡ Inspected differs → w ≡ what.Standing (standing home x differs)

@@ -46,7 +46,7 @@ all_front : (xs ys : List Frame) → AllByRecursion IsFrame (xs ++ ys) → AllBy
 all_front [] ys h = tt
 all_front (x ∷ xs) ys h = (h.0, all_front xs ys h.1)
 
--- the frames begun, and then the others with what stands behind them
+-- the frames begun, and then the others with what is behind them
 begins_batch : (stream : List ℕ) (given left : List Frame) (begun : List Begun) (reader : Reader)
     (r : Feeds stream given reader)
     → given ≡ frames_of begun ++ left
@@ -96,7 +96,7 @@ piece_ends how e home a b stream given left begun before count reader is r h = (
   },
 )
 
--- all frames of the piece were served, and a fault stands behind them
+-- all frames of the piece were served, and a fault is behind them
 pub piece_breaks : {V : Type 0} {way : Way V} {may : Permission} (how : Option End) (e : WireFault)
     (fault : Option WireFault) (home : Home)
     (a b : Sides way) (stream : List ℕ) (given left : List Frame) (begun : List Begun)

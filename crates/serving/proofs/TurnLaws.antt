@@ -296,7 +296,7 @@ same_talk home start a b bytes taken rest begun h is quiet = record {
   };
 }
 
--- a fault that stands after the frames ends it
+-- a fault that is after the frames ends it
 breaks_now : {V : Type 0} {way : Way V} (fault : Option WireFault) (home : Home) (s t : Sides way)
     (begun : List Begun) (rest : List ℕ) (count : ℕ) (reader : Reader)
     → reader.fault ≡ fault → IsKept fault → reader ≡ keeps (front rest) rest

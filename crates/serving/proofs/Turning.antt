@@ -181,7 +181,7 @@ open_serves (Some e) home a b begun count none h = absurd cc
 
 -- ---- a piece
 
--- the frames of the piece came to an end, or a fault stands after them, or more is waited for
+-- the frames of the piece came to an end, or a fault is after them, or more is waited for
 pub piece_of : {V : Type 0} {way : Way V} {may : Permission} (how result : Option End)
     (fault : Option WireFault)
     (home : Home) (a b : Sides way) (stream : List ℕ) (given left : List Frame)

@@ -1,4 +1,4 @@
--- What a receiver of pushed frames was handed, where it tells it.
+-- What a receiver of pushed frames was handed, where it tells it (the project's own).
 use Rattle.std.specs.Prelude.{◌≡◌, ℕ, List, ◌++◌, Option, None, Some, ⊤}
 
 -- a frame, as bytes, and the desk to which it goes

@@ -1,4 +1,4 @@
--- What a client is answered.
+-- What a client is answered (the project's own).
 use Rattle.std.specs.Prelude.{◌≡◌, ℕ, nat_lt, ◌==◌, if◌then◌else◌, List, length, take, drop, Option}
 use Rattle.std.specs.Prelude.{None, Some}
 use Rattle.std.specs.Prelude.{Result, Ok, Err}
@@ -100,7 +100,7 @@ role_of (doing.Leading ballot) = role.Leading
 abbrev pub promised_of : Ballot → Option Ballot
 promised_of b = if b.number == 0 then None else Some b
 
--- what the desks of a hall of so many told
+-- what the desks of a hall of this many reported
 abbrev pub lengths_of_hall : ℕ → List ℕ → Lengths
 lengths_of_hall desks told = if desks == 3 then OfThree (take 3 told) else OfFive told
 

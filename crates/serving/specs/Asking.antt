@@ -1,4 +1,4 @@
--- What a frame asks of this desk.
+-- What a frame asks of this desk (the project's own).
 use Rattle.std.specs.Prelude.{ℕ, ◌+◌, ◌^◌, ◌<◌, ◌≤◌, ◌==◌, ◌&&◌, if◌then◌else◌, Bool, length}
 use Rattle.std.specs.Prelude.{Option, None, Some}
 use Rattle.acceptor.specs.declared.message.Body.{Body}
@@ -125,7 +125,7 @@ AsksInRange Ignored = Unit {0}
 AsksInRange Denied = Unit {0}
 AsksInRange Withheld = Unit {0}
 
--- what can be asked in a version: how the desk stands, and entries of its log, from version 3 on
+-- what can be asked in a version: how the desk is, and entries of its log, from version 3 on
 abbrev pub IsAskedIn : Version → Request → Type 0
 IsAskedIn version (Entered e) = Unit {0}
 IsAskedIn version (Asked id) = Unit {0}

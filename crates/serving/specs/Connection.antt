@@ -1,4 +1,4 @@
--- One frame after the other, and how a connection ends.
+-- One frame after the other, and how a connection ends (the project's own).
 use Rattle.std.specs.Prelude.{◌≡◌, ◌≢◌, ◌⊎◌, ◌≤◌, ◌<◌, ℕ, List, [], ◌∷◌, ◌++◌, length, Option, None}
 use Rattle.std.specs.Prelude.{Some}
 use Rattle.std.specs.List.{flat_map, AllByRecursion}

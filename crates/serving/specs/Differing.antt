@@ -1,4 +1,5 @@
--- How another desk of the hall differs, by what it says, and what follows of it.
+-- How another desk of the hall differs, by what it says, and what follows of it (the project's
+-- own).
 use Rattle.std.specs.Prelude.{ℕ, ◌+◌, ◌-◌, max, Bool, true, false, not, nat_lt, ◌&&◌, List, [], ◌∷◌}
 use Rattle.std.specs.Prelude.{if◌then◌else◌, length, Option, None, Some, slice_get, slice_index}
 use Rattle.std.specs.Prelude.{slice_set}
@@ -43,19 +44,19 @@ is_all permission.Sheets = false
 abbrev pub hears : Home → Permission → Frame → Bool
 hears home may f = is_ours home f && (is_all may && is_desk home.desks f.from)
 
--- an entry is told where another one stands
+-- an entry is told where another one is
 abbrev pub is_other : Entry → Option Entry → Bool
 is_other told None = false
 is_other told (Some there) = not (is_same_entry there told)
 
--- the first of the entries that are told from a position on where another one stands
+-- the first of the entries that are told from a position on where another one is
 unfoldable pub other_from : ℕ → ℕ → List Entry → List Entry → Option Difference
 other_from desk pos [] log = None
 other_from desk pos (e ∷ es) log =
     if is_other e (slice_get log pos) then Some (OtherEntry desk pos)
     else other_from desk (pos + 1) es log
 
--- a length is told that is below one that was told before
+-- a length is reported that is below one that was reported before
 abbrev pub shorter : ℕ → ℕ → List ℕ → Option Difference
 shorter desk len known =
     if nat_lt len (slice_index known (desk - 1)) then Some (Shorter desk len) else None
@@ -66,7 +67,8 @@ what_differs desk (what.Behind len) log known = shorter desk len known
 what_differs desk _ log known = None
 
 -- How the sender of a frame differs, where this is the log, and these are the lengths that the
--- hall's desks told before: before the frame's connection was opened, or before it on the same one.
+-- hall's desks reported before: before the frame's connection was opened, or before it on the same
+-- one.
 abbrev pub differs_by : Home → Permission → List Entry → List ℕ → Frame → Option Difference
 differs_by home may log known f =
     if hears home may f then what_differs f.from f.what log known else None
@@ -80,7 +82,7 @@ length_said _ = 0
 abbrev pub raised : ℕ → ℕ → List ℕ → List ℕ
 raised desk len known = slice_set known (desk - 1) (max (slice_index known (desk - 1)) len)
 
--- the lengths that were told, after this frame of the same connection
+-- the lengths that were reported, after this frame of the same connection
 abbrev pub known_after : Home → Permission → List ℕ → Frame → List ℕ
 known_after home may known f =
     if hears home may f then raised f.from (length_said f.what) known else known
@@ -92,7 +94,7 @@ first_difference (Some d) new = Some d
 
 -- ---- what follows
 
--- where a desk differs no command is taken, and whoever asks how this one stands is told
+-- where a desk differs no command is accepted, and the answer to a Status says it
 abbrev pub withheld_by : Difference → Request → Request
 withheld_by d (Entered e) = Withheld
 withheld_by d (Inspected differs) = Inspected (Some d)

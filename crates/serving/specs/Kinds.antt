@@ -1,4 +1,4 @@
--- Frames that may take long to answer, and those that have no answer.
+-- Frames that may take long to answer, and those that have no answer (the project's own).
 use Rattle.std.specs.Prelude.{Bool, true, false, List, [], ◌∷◌}
 use Rattle.wire.specs.declared.frame.Frame.{Frame}
 use Rattle.wire.specs.declared.frame.What.{What}

@@ -1,4 +1,4 @@
--- Calls of a node and pushes to other desks as they are made.
+-- Calls of a node and pushes to other desks as they are made (the project's own).
 use Rattle.std.specs.Prelude.{◌≡◌, ℕ, ◌==◌, if◌then◌else◌, List, [], ◌∷◌, Option, Result}
 use Rattle.acceptor.specs.declared.message.Message.{Message}
 use Rattle.learner.specs.declared.event.DeskEvent.{DeskEvent}

@@ -1,4 +1,4 @@
--- What is seen of a desk while it serves, and what a call of it may come to.
+-- What is seen of a desk while it serves, and what a call of it may come to (the project's own).
 use Rattle.std.specs.Prelude.{true, if◌then◌else◌, List, Result, Ok, Err}
 use Rattle.acceptor.specs.declared.message.Message.{Message}
 use Rattle.proposer.specs.declared.fault.Refusal.{Refusal}

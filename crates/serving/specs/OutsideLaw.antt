@@ -1,4 +1,4 @@
--- What is done for a frame that its connection may not send.
+-- What is done for a frame that its connection may not send (the project's own).
 use Rattle.std.specs.Prelude.{◌≡◌, false, List, [], ◌∷◌}
 use Rattle.answers.specs.Seen.{Seen}
 use Rattle.store.specs.declared.home.Home.{Home}

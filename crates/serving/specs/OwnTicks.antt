@@ -1,5 +1,5 @@
 -- A Tick that a desk gives itself: what comes of it is what comes of a client's, but that its
--- answer is nobody's.
+-- answer is nobody's (the project's own).
 use Rattle.std.specs.Prelude.{List, Option, None}
 use Rattle.answers.specs.Seen.{Seen}
 use Rattle.answers.specs.declared.desk.Desk.{Ghosts as DeskOf}

@@ -1,4 +1,4 @@
--- What a connection may ask of a desk, and what becomes of what it may not.
+-- What a connection may ask of a desk, and what becomes of what it may not (the project's own).
 use Rattle.std.specs.Prelude.{Bool, true, false, ◌||◌, if◌then◌else◌}
 use Rattle.serving.specs.declared.permission.Permission.{Permission}
 use Rattle.serving.specs.declared.permission.Permission.TheVariants as permission
@@ -8,7 +8,7 @@ use Rattle.serving.specs.declared.request.Request.TheVariants.{Asked, Printed, T
 use Rattle.serving.specs.declared.request.Request.TheVariants.{Inspected, Copied, Strange, Ignored}
 use Rattle.serving.specs.declared.request.Request.TheVariants.{Denied, Withheld}
 
--- nothing of the desk is changed: it tells what its log says or how it stands, or is asked nothing
+-- nothing of the desk is changed: it tells what its log says or how it is, or is asked nothing
 abbrev pub reads : Request → Bool
 reads (Asked id) = true
 reads (Printed event round position style) = true

@@ -1,4 +1,4 @@
--- Serving: what is done for a frame, and for one frame after the other.
+-- Serving: what is done for a frame, and for one frame after the other (the project's own).
 use Rattle.std.specs.Prelude.{ℕ, zero, suc, ◌+◌, ◌==◌, ◌&&◌, not, nat_lt, Bool, if◌then◌else◌, List}
 use Rattle.std.specs.Prelude.{[], ◌∷◌, ◌++◌, length, map, Option, None, Some, Result, Ok, Err}
 use Rattle.acceptor.specs.declared.message.Message.{Message}
@@ -56,7 +56,7 @@ pub data Act : Type 0 where
   Pushed : Message → Act
   Answered : Run → Act
 
--- where the service of a frame stands: the node, the messages that wait, how many more the desk may
+-- where the service of a frame is: the node, the messages that wait, how many more the desk may
 -- deliver to itself, what was done, and the fates of the calls to come
 pub record Service : Type 0 where
   pub seen : Seen
@@ -126,7 +126,7 @@ push_all ms waiting s =
       fates = s.fates;
     }
 
--- these wait, and so many more may be delivered
+-- these wait, and this many more may be delivered
 abbrev pub waits : List Message → ℕ → Service → Service
 waits ms left s =
     record { seen = s.seen; waiting = ms; left = left; done = s.done; fates = s.fates }
@@ -169,11 +169,11 @@ seen_after home x (Answered run ∷ acts) fates = seen_after home x acts fates
 
 -- ---- the node's part of a frame
 
--- the log has more than so many entries, entries wait in the queue, and the node is not down
+-- the log has more than this many entries, entries wait in the queue, and the node is not down
 abbrev pub grew : ℕ → Seen → Bool
 grew before x = not x.is_down && nat_lt before (length x.desk.log) && nat_lt 0 (length x.desk.queue)
 
--- Where the log has more than so many entries now, and entries wait in the queue, Start is given,
+-- Where the log has more than this many entries now, and entries wait in the queue, Start is given,
 -- unless the node is down.
 unfoldable pub start_if_grown : Home → ℕ → Service → Service
 start_if_grown home before s = if grew before s.seen then settle home (call home Start s) else s

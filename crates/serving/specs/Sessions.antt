@@ -1,4 +1,4 @@
--- What a contract sees of a desk that serves.
+-- What a contract sees of a desk that serves (the project's own).
 use Rattle.std.specs.Prelude.{ℕ, List, Option}
 use Rattle.std.specs.declared.io.Write.{Ghosts as WriteOf}
 use Rattle.answers.specs.declared.desk.Desk.{Ghosts as DeskOf}

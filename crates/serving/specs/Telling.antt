@@ -1,4 +1,4 @@
--- The run of entries that a desk is told which lacks them.
+-- The run of entries that a desk is sent which lacks them (the project's own).
 use Rattle.std.specs.Prelude.{ℕ, ◌+◌, ◌==◌, ◌||◌, nat_lt, if◌then◌else◌, List, [], ◌∷◌, length}
 use Rattle.std.specs.Prelude.{take, Option, None, Some}
 use Rattle.acceptor.specs.declared.entry.Entry.{Entry}
@@ -32,7 +32,7 @@ decided_at pos (body.Nack b p promised) = None
 decided_at pos (body.Behind len) = None
 decided_at pos (body.Decided p e) = if p == pos then Some e else None
 
--- the entry that a message says stands at a position, where it says so to this desk
+-- the entry that a message says is at a position, where it says so to this desk
 abbrev pub entry_told : ℕ → ℕ → Message → Option Entry
 entry_told to pos m = if m.to == to then decided_at pos m.body else None
 

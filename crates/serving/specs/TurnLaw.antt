@@ -1,4 +1,5 @@
--- The turns of a connection, however its pieces are cut and its answers are taken.
+-- The turns of a connection, however its pieces are cut and its answers are taken (the project's
+-- own).
 use Rattle.std.specs.Prelude.{◌≡◌, ◌⊎◌, ◌≤◌, ◌<◌, ℕ, List, [], ◌∷◌, ◌++◌, length, Option, None}
 use Rattle.std.specs.Prelude.{Some}
 use Rattle.std.specs.List.{flat_map}

@@ -1,4 +1,5 @@
--- A connection that is served by turns: what it has between two turns, and what each turn does.
+-- A connection that is served by turns: what it has between two turns, and what each turn does (the
+-- project's own).
 use Rattle.std.specs.Prelude.{◌≡◌, ◌⊎◌, ◌≤◌, ◌<◌, ℕ, ◌+◌, Bool, true, false, List, [], ◌∷◌, ◌++◌}
 use Rattle.std.specs.Prelude.{drop, Option, None, Some}
 use Rattle.answers.specs.declared.desk.Desk.{Ghosts as DeskOf}
@@ -23,7 +24,7 @@ pub record Talk : Type 0 where
   -- the desk that serves it, and the version in which frames are pushed to other desks
   pub home : Home
   pub wire : Version
-  -- the bytes of a frame that is not whole yet, or the fault that stands there
+  -- the bytes of a frame that is not whole yet, or the fault that is there
   pub stream : Reader
   -- the frames that are whole, in order, of which none was begun
   pub waiting : List Frame
@@ -112,8 +113,8 @@ pub record BeginsNext (old new : Talk) (frame : Frame) : Type 0 where
   pub wire : new.wire ≡ old.wire
   pub stream : new.stream ≡ old.stream
 
--- how the frame leaves the connection, after which so many were begun: open, or ended by the frame,
--- or as the 64th, or for want of memory
+-- how the frame leaves the connection, after which this many were begun: open, or ended by the
+-- frame, or as the 64th, or for want of memory
 abbrev pub LeavesAt : {V : Type 0} → {way : Way V} → Option End → Home → Sides way → Sides way
     → Begun → ℕ → Type 0
 LeavesAt None home a b one count = ServesOne home a b one None × (count < 64)
@@ -144,7 +145,7 @@ ended c e = record {
   end = e;
 }
 
--- all that came is served: now a fault that stands after it ends the connection
+-- all that came is served: now a fault that is after it ends the connection
 pub record RunsOut (old new : Talk) : Type 0 where
   pub free : IsFree old
   pub served : old.waiting ≡ []
@@ -168,7 +169,7 @@ Advances d p may differs false a b = (b.node ≡ a.node) × (b.peers ≡ a.peers
 
 -- ---- answers are taken
 
--- so many bytes of what was pending were taken
+-- this many bytes of what was pending were taken
 abbrev pub after_sent : Talk → ℕ → Talk
 after_sent c count = record {
   home = c.home;

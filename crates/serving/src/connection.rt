@@ -187,7 +187,7 @@ impl Connection {
     }
 
     /// Takes the next piece of the stream. The frames that are whole with it wait for their turns.
-    /// Where a fault stands at the front, or memory is refused, that is the connection's end.
+    /// Where a fault is at the front, or memory is refused, that is the connection's end.
     pub fn receive(&mut self, piece: &[u8])
         requires { WantsRead self.old }
         ensures { Receives piece.now self.old self.new }
@@ -203,8 +203,8 @@ impl Connection {
     /// still to be taken, and returns whether it did: its calls and pushes are made, and its answer
     /// is to be sent. A frame that asks for more than `may` makes no call and no push: a message of
     /// a desk is dropped, and a client is refused. Where another desk `differs`, no command is
-    /// taken, and a Standing says it. Once all that came is served, a fault that stands after it
-    /// ends the connection. Call it after each piece, and each time that an answer was taken whole,
+    /// taken, and a Standing says it. Once all that came is served, a fault that is after it ends
+    /// the connection. Call it after each piece, and each time that an answer was taken whole,
     /// until it returns false.
     pub fn advance<D: Desk, P: Peers>(
         &mut self,
@@ -266,7 +266,7 @@ impl Connection {
         !self.output().is_empty()
     }
 
-    /// Says that so many bytes of the output were sent.
+    /// Says that this many bytes of the output were sent.
     pub fn sent(&mut self, count: usize)
         requires { count ≤ length self.old.pending }
         ensures { self.new ≡ after_sent self.old count }

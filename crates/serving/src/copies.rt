@@ -13,7 +13,7 @@ use learner::log::Log;
 use std::alloc::Global;
 use wire::{ClientRefusal as Refusal, Entries, What};
 
-/// The most entries of an answer. A frame has room for so many of the longest.
+/// The most entries of an answer. A frame has room for this many of the longest.
 const MOST_ENTRIES: u32 = 400;
 
 /// The log's entries from a position on, as many as an answer has.

@@ -15,7 +15,7 @@ use replica::roles::heeding::is_desk;
 use store::home::Home;
 use wire::{Difference, Frame, What};
 
-/// What an Await asks: what became of this id, once that is known, or after so many seconds.
+/// What an Await asks: what became of this id, once that is known, or after this many seconds.
 #[derive(Clone, Copy, PartialEq, Eq, Debug)]
 pub struct Awaited {
     pub id: u64,
@@ -63,7 +63,7 @@ fn hears(home: Home, may: Permission, frame: &Frame) -> bool
     is_ours(home, frame) && (is_all(may) && is_desk(home.desks, frame.from))
 }
 
-/// Whether the log has another entry than the one that is told at this position.
+/// Whether the log has another entry than the one that is reported at this position.
 fn is_other(told: &Entry, log: &Log, pos: u32) -> bool
     ensures { result ≡ is_other told.now (slice_get log.now.entries pos) }
 {
@@ -73,7 +73,7 @@ fn is_other(told: &Entry, log: &Log, pos: u32) -> bool
     }
 }
 
-/// The first of these entries, told from a position on, where another one stands in the log.
+/// The first of these entries, reported from a position on, where another one is in the log.
 #[tactic(auto, unfolding(crate::specs::Differing::other_from))]
 fn other_from(desk: u8, pos: u32, entries: &[Entry], log: &Log) -> Option<Difference>
     requires desk { IsDesk desk }
@@ -94,8 +94,8 @@ fn other_from(desk: u8, pos: u32, entries: &[Entry], log: &Log) -> Option<Differ
 }
 
 /// How the sender of a frame differs, by what it says, where this is the log, and these are the
-/// lengths of their logs that the hall's desks told before: before the frame's connection was
-/// opened, or before the frame on it. That of desk 1 stands first.
+/// lengths of their logs that the hall's desks reported before: before the frame's connection was
+/// opened, or before the frame on it. That of desk 1 is first.
 pub fn differs_by(
     home: Home,
     may: Permission,
@@ -128,7 +128,7 @@ pub fn differs_by(
     }
 }
 
-/// How many entries a log has at least, where these stand in it from a position on.
+/// How many entries a log has at least, where these are in it from a position on.
 fn end_of(pos: u32, entries: &[Entry]) -> u32
     requires { pos + length entries.now ≤ 65536 }
     ensures end { result ≡ pos + length entries.now }
@@ -164,7 +164,7 @@ fn raised(known: [u32; 5], desk: u8, len: u32) -> [u32; 5]
     known
 }
 
-/// The lengths that the hall's desks told, after this frame of the same connection.
+/// The lengths that the hall's desks reported, after this frame of the same connection.
 pub fn known_after(home: Home, may: Permission, frame: &Frame, known: [u32; 5]) -> [u32; 5]
     requires spelled { IsFrame frame.now }
     requires few { home.desks ≤ 5 }

@@ -18,7 +18,7 @@ use std::collections::VecDeque;
 /// The most messages of a frame that the desk delivers to itself.
 pub const MOST_OWN: u8 = 16;
 
-/// Whether Start is due after a frame that began with so many entries in the log.
+/// Whether Start is due after a frame that began with this many entries in the log.
 fn grew<D: Desk>(before: u32, node: &D) -> bool
     ensures { result ≡ grew before (D.seen node.now) }
 {
@@ -78,7 +78,7 @@ impl Session {
     }
 
     /// Gives the node Start and takes all that comes of it, where it is due after a frame that
-    /// began with so many entries in the log.
+    /// began with this many entries in the log.
     pub fn start_if_grown<D: Desk, P: Peers>(
         self,
         node: &mut D,

@@ -1,4 +1,4 @@
-//! What follows of a connection's turns, whoever takes them.
+//! What follows of a connection's turns, in any order.
 
 ghost use Rattle.serving.specs.OutsideLaw.{OutsideCallsNothing};
 ghost use Rattle.serving.specs.TurnLaw.{TurnsServe};
@@ -6,8 +6,8 @@ ghost use Rattle.serving.specs.TurnLaw.{TurnsServe};
 use answers::Desk;
 
 /// However the pieces of a connection were cut and its answers taken, what was taken and what is
-/// pending are the answers to the frames begun, in order, and these frames stand first in what
-/// came. The calls of all turns lead from the node before the first to the node after the last.
+/// pending are the answers to the frames begun, in order, and these frames are first in what came.
+/// The calls of all turns lead from the node before the first to the node after the last.
 ///
 /// `Turns` of `specs/TurnLaw` says of each turn what the contracts of `receive`, `advance` and
 /// `sent` say. It is meant of a connection that alone is served between its first turn and its

@@ -5,7 +5,7 @@ ghost use Rattle.serving.specs.Adding.{Push, Hands};
 
 /// The other desks of a hall, to which frames are pushed.
 pub trait Peers {
-    /// The frames that were handed over, in order, where that is told.
+    /// The frames that were handed over, in order, where that is known.
     ghost handed: { Self → Option (List Push) };
 
     /// Takes a frame for a desk. It may be lost on its way.

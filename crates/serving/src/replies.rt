@@ -20,7 +20,7 @@ use wire::{
     encode,
 };
 
-/// What a client is told of a desk's refusal.
+/// What is said to a client of a desk's refusal.
 fn refusal_of(fault: NodeFault) -> Refusal
     ensures { result ≡ refusal_of fault }
 {

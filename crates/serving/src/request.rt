@@ -45,8 +45,8 @@ pub enum Request {
     Entered {
         entry: Entry,
     },
-    /// A client asks what became of a command: now, or once that is known, which whoever takes its
-    /// turn sees to.
+    /// A client asks what became of a command: now, or once that is known, which the code that
+    /// gives the turns sees to.
     Asked {
         id: u64,
     },
@@ -57,7 +57,7 @@ pub enum Request {
         position: u32,
         style: Style,
     },
-    /// A client asks how the desk stands, and how another desk differs, if that was heard.
+    /// A client asks how the desk is, and how another desk differs, if that was heard.
     Inspected {
         differs: Option<Difference>,
     },
@@ -113,7 +113,7 @@ impl Request {
         }
     }
 
-    /// Whether it changes nothing of the desk: it is asked what its log says or how it stands, or
+    /// Whether it changes nothing of the desk: it is asked what its log says or how it is, or
     /// nothing.
     pub fn reads(&self) -> bool
         ensures { result ≡ reads self.now }
@@ -158,7 +158,7 @@ impl Request {
     }
 
     /// What becomes of a request that its connection may not make: what a desk says is dropped, and
-    /// a client is told.
+    /// a client is answered.
     fn turned_away(&self) -> Request
         ensures turned_away { result ≡ turned_away self.now }
         ensures in_range { AsksInRange result }
@@ -197,7 +197,7 @@ impl Request {
     }
 
     /// What is served of the request where another desk of the hall differs so, or none does: a
-    /// command is not taken where one does, and whoever asks how the desk stands is told.
+    /// command is not accepted where one does, and the answer to a Status says it.
     pub fn withheld(self, differs: Option<Difference>) -> Request
         requires asks { AsksInRange self }
         requires differs { IsDifference differs }

@@ -1,4 +1,4 @@
-//! Runs of entries: what a desk says was decided, and what a desk is told that lacks entries.
+//! Runs of entries: what a desk says was decided, and what a desk is sent that lacks entries.
 
 ghost use Rattle.std.specs.Prelude.{◌≡◌, ◌≤◌, ◌+◌, ◌∷◌, [], option_map, IfOk, IfSome, OnOk, OnErr};
 ghost use Rattle.std.specs.Prelude.{length};
@@ -28,7 +28,7 @@ use wire::{Entries, Frame, Version, What, encode};
 /// The most entries of a run.
 const MOST_ENTRIES: usize = 16;
 
-/// The entry that a message says stands at a position, where it says so to this desk.
+/// The entry that a message says is at a position, where it says so to this desk.
 fn entry_told(to: u8, pos: u32, message: &Message) -> Option<&Entry>
     ensures { option_map (λ e. e.now) result ≡ entry_told to pos message.now }
 {
@@ -261,7 +261,7 @@ impl Session {
         self.settle(node, peers, &mut waiting, left)
     }
 
-    /// A desk says how long its log is: it is told what it lacks, and Start follows where this
+    /// A desk says how long its log is: it is sent what it lacks, and Start follows where this
     /// desk's own log grew.
     pub fn tell<D: Desk, P: Peers>(
         self,

@@ -1,4 +1,4 @@
-//! How a desk stands, as it answers a client that asks for it.
+//! How a desk is, as it answers a client that asks for it.
 
 ghost use Rattle.std.specs.Prelude.{◌≡◌, ◌≤◌};
 ghost use Rattle.std.specs.List.{AllByRecursion};
@@ -26,7 +26,7 @@ fn role_of(role: &Role) -> DeskRole
     }
 }
 
-/// The highest promised ballot, if any was promised, where a desk of a hall of so many has this
+/// The highest promised ballot, if any was promised, where a desk of a hall of this many has this
 /// one.
 fn promised_of(promised: Ballot) -> Option<Ballot>
     ensures { result ≡ promised_of promised }
@@ -38,7 +38,7 @@ fn promised_of(promised: Ballot) -> Option<Ballot>
     }
 }
 
-/// What the desks of a hall of so many told of the lengths of their logs.
+/// What the desks of a hall of this many reported of the lengths of their logs.
 fn lengths_of_hall(desks: u8, told: [u32; 5]) -> Lengths
     requires most { AllByRecursion (λ len. len ≤ 65536) told }
     ensures lengths { result ≡ lengths_of_hall desks told }
@@ -51,7 +51,7 @@ fn lengths_of_hall(desks: u8, told: [u32; 5]) -> Lengths
     }
 }
 
-/// How the desk stands, where another one differs so, or none does.
+/// How the desk is, where another one differs so, or none does.
 pub fn inspected<D: Desk>(node: &D, differs: Option<Difference>) -> What
     requires { IsDifference differs }
     ensures what { result ≡ StandingOf (standing (D.home_of node.now) (D.seen node.now) differs) }

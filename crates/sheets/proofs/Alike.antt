@@ -111,7 +111,7 @@ before_kept cs c e r keeps =
     step None = refl
     step (Some o) = refl
 
--- a round as it stands, or as commands in front of the next one's opening make it
+-- a round as it is, or as commands in front of the next one's opening make it
 abbrev seen_with : Event → ℕ → Option (List Command) → Option (Settings × Table)
     → Option (Settings × Table)
 seen_with e r None now = now

@@ -28,7 +28,7 @@ right_short width most text wide short =
     let spaces = length-replicate (width - length text) space in
     omega (arith, long, spaces, wide, short)
 
--- lists of at most so many items each
+-- lists of at most this many items each
 pub each_short : (most : ℕ) (f : ℕ → List ℕ) → ((n : ℕ) → length (f n) ≤ most) → (ns : List ℕ)
     → length (flat_map f ns) ≤ most * length ns
 each_short most f each [] = omega arith

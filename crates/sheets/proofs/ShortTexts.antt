@@ -36,7 +36,7 @@ IsBare b = needs_byte default_writer b ≡ false
 abbrev pub IsSmallValue : Value → Type 0
 IsSmallValue v = IsInRangeOf Multi v
 
--- a text has at most so many bytes, and calls for no quotes
+-- a text has at most this many bytes, and calls for no quotes
 pub record IsPlain (most : ℕ) (text : List ℕ) : Type 0 where
   pub short : length text ≤ most
   pub unquoted : AllByRecursion IsBare text
@@ -64,7 +64,7 @@ digits_unquoted (b ∷ bytes) h =
     let bare : needs_byte default_writer b ≡ false = grind (arith, nat_tests) in
     (bare, digits_unquoted bytes both.1)
 
--- a number with so many digits
+-- a number with this many digits
 pub plain_decimal : (k n : ℕ) → 0 < k → n < 10 ^ k → n < 1000000000000 → IsPlain k (decimal n)
 plain_decimal k n some fits small = record {
   short = length-decimal-le k n some fits (omega arith);

@@ -1,5 +1,5 @@
--- The law of the editions: a later one changes no sheet before it is set. It says nothing of what
--- an edition prints, as the one of `commands` says nothing of what it answers.
+-- The law of the editions: a later one changes no sheet before it is set (the project's own). It
+-- says nothing of what an edition prints, as the one of `commands` says nothing of what it answers.
 use Rattle.std.specs.Prelude.{◌≡◌, ◌≤◌, ℕ, List}
 use Rattle.formats.specs.declared.events.Event.{Event}
 use Rattle.commands.specs.History.{history_in}

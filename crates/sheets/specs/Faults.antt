@@ -1,4 +1,4 @@
--- Why there is no sheet.
+-- Why there is no sheet (the project's own).
 use Rattle.std.specs.Prelude.{◌≡◌, ℕ, true, List, Option, None, is_some}
 use Rattle.sheets.specs.declared.SheetFault.{SheetFault}
 use Rattle.sheets.specs.declared.SheetFault.TheVariants.{NoSuchRound, NoMemory}

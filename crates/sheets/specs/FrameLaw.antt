@@ -1,4 +1,4 @@
--- A sheet fits into a frame.
+-- A sheet fits into a frame (the project's own).
 use Rattle.std.specs.Prelude.{◌≡◌, ◌^◌, ◌<◌, ◌≤◌, ℕ, List, length, Some}
 use Rattle.formats.specs.declared.events.Event.{Event}
 use Rattle.commands.specs.History.{history}

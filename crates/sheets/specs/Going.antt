@@ -1,4 +1,5 @@
--- What is kept of who goes on from a round, so that each of its entrants is told in one step.
+-- What is kept of who goes on from a round, so that it is known of each entrant in one step (the
+-- project's own).
 use Rattle.std.specs.Prelude.{◌≡◌, ℕ, Bool, List, Option, Some, nat_eq}
 use Rattle.std.specs.HashSet.{contains}
 use Rattle.formats.specs.declared.events.Event.{Event}

@@ -1,4 +1,4 @@
--- What a reader of comma-separated values finds in the table of a sheet.
+-- What a reader of comma-separated values finds in the table of a sheet (the project's own).
 use Rattle.std.specs.Prelude.{◌≡◌, ℕ, List, ◌∷◌, map, Some}
 use Rattle.std.specs.List.{AllByRecursion}
 use Rattle.csv.specs.Reading.{AreRecords, default_config, strip_bom}

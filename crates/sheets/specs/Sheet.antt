@@ -50,13 +50,13 @@ goes_through None n = false
 goes_through (Some round) n = goes_on round.1 round.0.advance n
 
 -- who goes on is marked once the round is closed. Of a round whose next one is opened it is asked
--- as it was then: whoever went on stays marked, though the attempts were fixed since.
+-- as it was then: those who advanced stay marked, though the attempts were fixed since.
 abbrev pub is_marked : Table → Option (Settings × Table) → ℕ → Bool
 is_marked t seen n = t.is_closed && goes_through seen n
 
 -- ---- the text
 
--- a text on the right of so many columns
+-- a text on the right of this many columns
 abbrev pub right : ℕ → List ℕ → List ℕ
 right width text = replicate (width - length text) 32 ++ text
 

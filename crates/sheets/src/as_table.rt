@@ -243,8 +243,8 @@ fn table_of(alloc: Global, shown: Shown<'_>) -> Result<Vec<u8>, NoMemory>
 /// format, and advances. Then each entrant has a record, in order of place, and at one place in
 /// order of entry, with the texts of the sheet that [`text`](crate::text) gives, without their
 /// padding; advances is `yes` once the round is closed and the competitor advances, else `no`. A
-/// name with a comma or a double quote stands in double quotes, its own ones doubled. The position
-/// is not shown.
+/// name with a comma or a double quote is in double quotes, its own ones doubled. The position is
+/// not shown.
 ///
 /// # Errors
 ///

@@ -17,7 +17,7 @@ use formats::{Event, Format, attempts_of, print_average, unit_of};
 use rounds::Row;
 use std::alloc::Global;
 
-/// Adds a text on the right of so many columns.
+/// Adds a text on the right of this many columns.
 fn push_right(out: &mut Vec<u8>, width: usize, text: &[u8]) -> Result<(), NoMemory>
     ensures { OnOk result (out.new.items ≡ out.old.items ++ right width text.now) }
 {
@@ -245,7 +245,7 @@ fn text_of(alloc: Global, shown: Shown<'_>, position: u32) -> Result<Vec<u8>, No
 /// the position, which is printed as given. The second has the cutoff, the limit (hundredths of a
 /// second) and the advance. Then each entrant has a line, in order of place, and at one place in
 /// order of entry: place, average, best, each attempt of the format, number, mark and name. A value
-/// that is not there is `-`. Results stand on the right of nine columns, and of eleven in
+/// that is not there is `-`. Results are on the right of nine columns, and of eleven in
 /// multi-blind. The mark is `Q` once the round is closed and the competitor advances; where the
 /// next round is opened, that is as it was then.
 ///

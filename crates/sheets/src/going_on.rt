@@ -17,7 +17,7 @@ use std::collections::HashSet;
 /// Who goes on from a round: it is made once for all entrants, and tells of each in one step.
 #[derive(Drop)]
 pub enum GoingOn {
-    /// Whoever has a number as best attempt and is placed before this place, as the round stands.
+    /// Those who have a number as best attempt and are placed before this place, as the round is.
     PlacedBefore(u16),
     /// These, who advanced when the next round was opened. Attempts may have been fixed since.
     These(HashSet<u16>),
@@ -31,7 +31,7 @@ fn set_of(alloc: Global, numbers: &[u16]) -> Result<HashSet<u16>, NoMemory>
 }
 
 impl GoingOn {
-    /// Who goes on from a round: who would advance as it stands, or advances once it is closed, or
+    /// Who goes on from a round: who would advance as it is, or advances once it is closed, or
     /// advanced when the next round was opened, where it is. It is `NoMemory` only where a growth
     /// was refused.
     pub fn from_round(alloc: Global, meet: &Meet, event: Event, round: u8) -> Result<Self, NoMemory>

@@ -11,8 +11,9 @@ pub fn fits_in_a_frame()
 {}
 
 /// A law: a later edition changes no sheet before it is set. For every number of editions, of a
-/// list that sets none of the further ones whoever knows more editions prints the sheets of whoever
-/// knows these alone, of every event, at every position and in both forms; or both have none.
+/// list that sets none of the further ones a program that knows more editions prints the sheets of
+/// one that knows these alone, of every event, at every position and in both forms; or both have
+/// none.
 pub fn later_editions_change_no_sheet()
     ensures { PrintsAsEarlier }
 {}

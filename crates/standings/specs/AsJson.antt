@@ -1,4 +1,5 @@
--- The answers of a hall's desks as a JSON value: an object with these members, in this order.
+-- The answers of a hall's desks as a JSON value: an object with these members, in this order (the
+-- project's own).
 use Rattle.std.specs.Prelude.{ℕ, ◌==◌, List, [], ◌∷◌, Option, None, Some}
 use Rattle.std.specs.Prelude.{codes, decimal, flat_map, if◌then◌else◌, map}
 use Rattle.json.specs.Json.{Json, null, boolean, number, string, array, object, Members, no_members}
@@ -30,11 +31,11 @@ promised_json (Some b) =
     object (member (codes "round") (natural b.number)
     (member (codes "desk") (natural b.desk) no_members))
 
--- a word for why it isn't known how a desk stands
+-- a word for why it isn't known how a desk is
 abbrev pub fault_members : List ℕ → Members
 fault_members name = member (codes "fault") (string name) no_members
 
--- what came of asking a desk: how it stands, or why that isn't known
+-- what came of asking a desk: how it is, or why that isn't known
 abbrev pub reply_members : Reply → Members
 reply_members (reply.Stands desk standing) =
     member (codes "desk") (natural desk)

@@ -1,4 +1,4 @@
--- What is printed of the answers of a hall's desks.
+-- What is printed of the answers of a hall's desks (the project's own).
 use Rattle.std.specs.Prelude.{ℕ, ◌==◌, Bool, true, false, not, List, [], ◌∷◌, ◌++◌}
 use Rattle.std.specs.Prelude.{codes, decimal, flat_map, if◌then◌else◌, Option, None, Some}
 use Rattle.std.specs.List.{list_any}
@@ -20,7 +20,7 @@ role_name Gathering = codes "gathering"
 role_name Proposing = codes "proposing"
 role_name Leading = codes "leading"
 
--- so many commands
+-- this many commands
 abbrev pub commands_text : ℕ → List ℕ
 commands_text n = decimal n ++ (if n == 1 then codes " command" else codes " commands")
 
@@ -43,7 +43,7 @@ reply_text asked reply.OtherKey = codes "the desk has another key"
 reply_text asked reply.HasKey = codes "the desk has a key"
 reply_text asked (reply.Refused refusal) = codes "refused " ++ refusal_name refusal
 
--- a desk of so many
+-- a desk of this many
 abbrev pub place_text : (size asked : ℕ) → List ℕ
 place_text size asked =
     codes "desk " ++ decimal asked ++ codes " of " ++ decimal size ++ codes "  "
@@ -77,17 +77,17 @@ order_text polled =
 abbrev pub verb_text : ℕ → List ℕ
 verb_text n = if n == 1 then codes " desks answers: " else codes " desks answer: "
 
--- so many of the desks answer
+-- this many of the desks answer
 abbrev pub count_text : (answered size : ℕ) → List ℕ
 count_text n size = decimal n ++ codes " of " ++ decimal size ++ verb_text n
 
--- a desk lacks so many commands
+-- a desk lacks this many commands
 abbrev pub lag_text : (desk by : ℕ) → List ℕ
 lag_text desk by =
     codes "desk " ++ decimal desk ++ codes " is " ++ commands_text by ++ codes " behind"
 
 -- what each of these desks lacks, where one lacks any, and a semicolon between two of them, and in
--- front of the first one where something stands there
+-- front of the first one where something is there
 abbrev pub lags_text : (follows : Bool) → List Polled → List ℕ → List ℕ
 lags_text follows polled [] = []
 lags_text follows polled (desk ∷ desks) =
@@ -103,7 +103,7 @@ abbrev pub all_text : (size newest : ℕ) → List ℕ
 all_text size newest =
     codes "all " ++ decimal size ++ codes " desks have all " ++ commands_text newest
 
--- each desk of the hall said how it stands
+-- each desk of the hall said how it is
 abbrev pub all_stand_text : List Polled → List ℕ
 all_stand_text polled =
     if some_behind polled then every_lag_text false polled
@@ -112,7 +112,7 @@ all_stand_text polled =
 abbrev pub works_text : List Polled → List ℕ
 works_text polled = codes "the hall works" ++ every_lag_text true polled
 
--- a majority answered, and not each desk said how it stands
+-- a majority answered, and not each desk said how it is
 abbrev pub some_stand_text : List Polled → List ℕ
 some_stand_text polled =
     count_text (answered polled) (size_of polled) ++ works_text polled
@@ -123,17 +123,17 @@ going_text polled =
     if standing_count polled == size_of polled then all_stand_text polled
     else some_stand_text polled
 
--- so many more have to run
+-- this many more have to run
 abbrev pub more_text : ℕ → List ℕ
 more_text missing =
     codes "nothing is decided until "
     ++ (if missing == 1 then codes "another one runs" else decimal missing ++ codes " more run")
 
--- so many were not asked
+-- this many were not asked
 abbrev pub unasked_text : ℕ → List ℕ
 unasked_text n = decimal n ++ (if n == 1 then codes " was not asked" else codes " were not asked")
 
--- what is wanted for a majority: the desks that weren't asked may run; else so many more have to
+-- what is wanted for a majority: the desks that weren't asked may run; else this many more have to
 abbrev pub wanted_text : List Polled → List ℕ
 wanted_text polled =
     if unasked polled == 0 then more_text (missing polled) else unasked_text (unasked polled)

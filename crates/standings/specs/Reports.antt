@@ -1,4 +1,4 @@
--- A report on a hall's desks, in either form.
+-- A report on a hall's desks, in either form (the project's own).
 use Rattle.std.specs.Prelude.{◌≡◌, ℕ, List, ◌++◌, Some, codes}
 use Rattle.json.specs.Json.{document}
 use Rattle.json.specs.Print.{print}

@@ -1,4 +1,4 @@
--- What the answers of a hall's desks come to.
+-- What the answers of a hall's desks come to (the project's own).
 use Rattle.std.specs.Prelude.{ℕ, ◌+◌, ◌-◌, ◌*◌, ◌/◌, ◌==◌, Bool, false, not, List, [], ◌∷◌}
 use Rattle.std.specs.Prelude.{count_by, fold, if◌then◌else◌, length, map, max, nat_lt, ◌||◌}
 use Rattle.std.specs.Prelude.{Option, None, Some, is_some}
@@ -31,18 +31,18 @@ abbrev pub desks_told : Reply → ℕ
 desks_told (Stands desk standing) = desks_of standing.told
 desks_told _ = 0
 
--- the desk of this number answered, and said how it stands or not
+-- the desk of this number answered, and said how it is or not
 abbrev pub is_from : ℕ → Reply → Bool
 is_from desk (Stands other standing) = other == desk
 is_from desk (Earlier other) = other == desk
 is_from desk _ = false
 
--- the desk of this number said how it stands
+-- the desk of this number said how it is
 abbrev pub stands_as : ℕ → Reply → Bool
 stands_as desk (Stands other standing) = other == desk
 stands_as desk _ = false
 
--- the length of the log of the desk of this number, where it said how it stands, or 0
+-- the length of the log of the desk of this number, where it said how it is, or 0
 abbrev pub length_as : ℕ → Reply → ℕ
 length_as desk (Stands other standing) = if other == desk then standing.length else 0
 length_as desk _ = 0
@@ -66,11 +66,11 @@ size_of polled = if most_told polled == 0 then length polled else most_told poll
 abbrev pub answers : List Polled → ℕ → Bool
 answers polled desk = list_any (λ p. is_from desk p.reply) polled
 
--- it said how it stands
+-- it said how it is
 abbrev pub stands : List Polled → ℕ → Bool
 stands polled desk = list_any (λ p. stands_as desk p.reply) polled
 
--- how many desks answered, and how many said how they stand, each counted once
+-- how many desks answered, and how many said how they are, each counted once
 abbrev pub answered : List Polled → ℕ
 answered polled = count_by (answers polled) every_desk
 
@@ -85,7 +85,7 @@ length_at polled desk = greatest (map (λ p. length_as desk p.reply) polled)
 abbrev pub newest : List Polled → ℕ
 newest polled = greatest (map (λ p. newest_told p.reply) polled)
 
--- how many commands a desk that said how it stands lacks of that log
+-- how many commands a desk that said how it is lacks of that log
 abbrev pub behind_by : List Polled → ℕ → ℕ
 behind_by polled desk =
     if stands polled desk then newest polled - length_at polled desk else 0
@@ -93,7 +93,7 @@ behind_by polled desk =
 abbrev pub is_behind : List Polled → ℕ → Bool
 is_behind polled desk = not (behind_by polled desk == 0)
 
--- a desk that said how it stands lacks commands
+-- a desk that said how it is lacks commands
 abbrev pub some_behind : List Polled → Bool
 some_behind polled = list_any (is_behind polled) every_desk
 

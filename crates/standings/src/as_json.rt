@@ -64,7 +64,7 @@ fn write_promised(out: &mut Writer, promised: Option<Ballot>) -> Result<(), Allo
     out.end_object()
 }
 
-/// Writes the lengths of the hall's logs that a desk was told.
+/// Writes the lengths of the hall's logs that were reported to a desk.
 fn write_told(out: &mut Writer, told: Lengths) -> Result<(), AllocError>
     ensures { OnOk result
         (Adds out.old out.new (json_tokens (list_of natural (lengths_of told)))) }
@@ -76,7 +76,7 @@ fn write_told(out: &mut Writer, told: Lengths) -> Result<(), AllocError>
     out.end_array()
 }
 
-/// Writes how a desk stands, and the end of its object.
+/// Writes how a desk is, and the end of its object.
 fn write_standing(out: &mut Writer, desk: u8, standing: Standing) -> Result<(), AllocError>
     ensures { OnOk result (Adds out.old out.new
         (members_tokens (reply_members (reply.Stands desk standing)))) }
@@ -96,7 +96,7 @@ fn write_standing(out: &mut Writer, desk: u8, standing: Standing) -> Result<(), 
     out.end_object()
 }
 
-/// Writes why it isn't known how a desk stands, and the end of its object.
+/// Writes why it isn't known how a desk is, and the end of its object.
 fn write_fault(out: &mut Writer, name: &str) -> Result<(), AllocError>
     ensures { OnOk result (Adds out.old out.new (members_tokens (fault_members name.now))) }
 {

@@ -115,7 +115,7 @@ fn push_place(out: &mut Vec<u8>, size: u32, asked: u8) -> Result<(), AllocError>
     out.extend_from_slice(b"  ")
 }
 
-/// Adds the line of a desk of so many.
+/// Adds the line of a desk of this many.
 fn push_line(out: &mut Vec<u8>, size: u32, polled: &Polled<'_>) -> Result<(), AllocError>
     ensures { OnOk result (out.new.items ≡ out.old.items ++ line_text size polled.now) }
 {
@@ -240,7 +240,7 @@ fn push_all(out: &mut Vec<u8>, size: u32, newest: u32) -> Result<(), AllocError>
     push_commands(out, newest)
 }
 
-/// Adds what it means where each desk said how it stands.
+/// Adds what it means where each desk said how it is.
 fn push_all_stand(out: &mut Vec<u8>, polled: &[Polled<'_>]) -> Result<(), AllocError>
     requires { length polled.now ≤ 5 }
     ensures { OnOk result (out.new.items ≡ out.old.items ++ all_stand_text polled.now) }
@@ -260,7 +260,7 @@ fn push_works(out: &mut Vec<u8>, polled: &[Polled<'_>]) -> Result<(), AllocError
     push_every_lag(out, true, polled)
 }
 
-/// Adds what it means where a majority answered, and not each said how it stands.
+/// Adds what it means where a majority answered, and not each said how it is.
 fn push_some_stand(out: &mut Vec<u8>, polled: &[Polled<'_>]) -> Result<(), AllocError>
     requires { length polled.now ≤ 5 }
     ensures { OnOk result (out.new.items ≡ out.old.items ++ some_stand_text polled.now) }

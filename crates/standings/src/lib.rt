@@ -1,4 +1,4 @@
-//! How the desks of a hall stand: what each answered, and what that means for the hall.
+//! How the desks of a hall are: what each answered, and what that means for the hall.
 #![tactic(auto)]
 
 mod as_json;

@@ -106,7 +106,7 @@ fn answers(polled: &[Polled<'_>], desk: u8) -> bool
     polled.iter().any(|one| is_from(desk, &one.reply))
 }
 
-/// Whether it said how it stands.
+/// Whether it said how it is.
 fn stands(polled: &[Polled<'_>], desk: u8) -> bool
     ensures { result ≡ stands polled.now desk }
 {
@@ -122,7 +122,7 @@ pub(crate) fn answered(polled: &[Polled<'_>]) -> u32
     desks.iter().filter(|desk| answers(polled, **desk)).count() as u32
 }
 
-/// How many desks said how they stand, at most five.
+/// How many desks said how they are, at most five.
 pub(crate) fn standing_count(polled: &[Polled<'_>]) -> u32
     ensures same { result ≡ standing_count polled.now }
     ensures most { result ≤ 5 }
@@ -151,7 +151,7 @@ pub(crate) fn newest(polled: &[Polled<'_>]) -> u32
         .fold(0, |most, length| most.max(length))
 }
 
-/// How many commands a desk that said how it stands lacks.
+/// How many commands a desk that said how it is lacks.
 pub(crate) fn behind_by(polled: &[Polled<'_>], desk: u8) -> u32
     ensures { result ≡ behind_by polled.now desk }
 {
@@ -168,7 +168,7 @@ fn is_behind(polled: &[Polled<'_>], desk: u8) -> bool
     behind_by(polled, desk) != 0
 }
 
-/// Whether a desk that said how it stands lacks commands.
+/// Whether a desk that said how it is lacks commands.
 pub(crate) fn some_behind(polled: &[Polled<'_>]) -> bool
     ensures { result ≡ some_behind polled.now }
 {

@@ -1,11 +1,11 @@
-//! What came of asking a desk how it stands.
+//! What came of asking a desk how it is.
 
 use wire::{ClientRefusal, Standing};
 
-/// What came of asking a desk how it stands.
+/// What came of asking a desk how it is.
 #[derive(Clone, Copy, Debug)]
 pub enum Reply {
-    /// The desk of this number, 1 to 5, stands so. It is another one than was asked for where the
+    /// The desk of this number, 1 to 5, is so. It is another one than was asked for where the
     /// addresses are not in the order of the desks.
     Stands { desk: u8, standing: Standing },
     /// The desk of this number, 1 to 5, answers other requests, and not this one: it is of an
@@ -37,6 +37,6 @@ pub struct Polled<'a> {
     /// What came of it.
     pub reply: Reply,
     /// The first of the last positions that all logs have, 400 at most, at which its log has
-    /// another entry than that of the first desk that said how it stands, 0 to 65,535.
+    /// another entry than that of the first desk that said how it is, 0 to 65,535.
     pub other: Option<u32>,
 }

@@ -133,7 +133,7 @@ few rows log i h same short = omega (arith, h, as_many rows log same, short)
 pub far : (i : ℕ) → i < 65536 → i < 2 ^ 32
 far i h = omega (arith, h)
 
--- so many were read
+-- this many were read
 pub so_far : (rows : List Row) (log : List Entry) (i : ℕ) → i < length rows
     → map entry_columns (take i rows) ≡ log_values 0 log → i ≡ length log
 so_far rows log i h same =

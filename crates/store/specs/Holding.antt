@@ -1,4 +1,4 @@
--- Which rows stand for which state.
+-- Which rows stand for which state (the project's own).
 use Rattle.std.specs.Prelude.{◌≡◌, ℕ, ◌+◌, pos, List, [], ◌∷◌, map, Option, Some, None}
 use Rattle.std.specs.Prelude.{IsPermutation}
 use Rattle.sqlite.specs.declared.types.Value.TheVariants.{Null, Int, Blob}

@@ -1,4 +1,4 @@
--- What a keeper's store holds, and what a save leaves there.
+-- What a keeper's store holds, and what a save leaves there (the project's own).
 use Rattle.std.specs.Prelude.{◌≡◌, ◌⊎◌, ◌^◌, ◌-◌, ◌+◌, ◌<◌, ◌≢◌, ℕ, Bool, List, Some, Result, Ok}
 use Rattle.std.specs.Prelude.{Err, IsTrue}
 use Rattle.acceptor.specs.declared.entry.Entry.{Entry}

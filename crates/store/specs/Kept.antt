@@ -1,4 +1,4 @@
--- What a connection keeps of a desk, and what a statement that saves leaves.
+-- What a connection keeps of a desk, and what a statement that saves leaves (the project's own).
 use Rattle.std.specs.Prelude.{◌≡◌, ◌≢◌, ◌⊎◌, ℕ, false, List, [], length, Some, Result}
 use Rattle.std.specs.Prelude.{OnOk, OnErr, IsTrue}
 use Rattle.sqlite.specs.Tree.{Trees}

@@ -1,4 +1,4 @@
--- What a keeper in memory has, and what a save and a load make of it.
+-- What a keeper in memory has, and what a save and a load make of it (the project's own).
 use Rattle.std.specs.Prelude.{ℕ, ◌≡◌, ◌⊎◌, ◌+◌, ◌-◌, ◌==◌, ◌||◌, Bool, true, false, IsTrue}
 use Rattle.std.specs.Prelude.{if◌then◌else◌, List, [], Option, Some, None, Result, Ok, Err, nat_lt}
 use Rattle.acceptor.specs.declared.entry.Entry.{Entry}

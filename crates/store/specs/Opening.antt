@@ -1,4 +1,4 @@
--- What an opening gives, and what a refusal tells and leaves.
+-- What an opening gives, and what a refusal tells and leaves (the project's own).
 use Rattle.std.specs.Prelude.{◌≡◌, ◌⊎◌, ℕ, List, [], length, Result, IfOk, IsTrue}
 use Rattle.sqlite.specs.Tree.{Trees}
 use Rattle.sqlite.specs.State.{State, HasCleanDisk}

@@ -1,6 +1,6 @@
--- Which desks there are, and which states a store may hold. What the types of the fields say
--- already (ballot numbers of 32 bits, an entry's id of 1 to 2^63 - 1 and its text of at most 600
--- bytes) is not said again.
+-- Which desks there are, and which states a store may hold (the project's own). What the types of
+-- the fields say already (ballot numbers of 32 bits, an entry's id of 1 to 2^63 - 1 and its text of
+-- at most 600 bytes) is not said again.
 use Rattle.std.proofs.Common.{ℕ, ◌≡◌, ◌⊎◌, Bool, ◌&&◌, ◌||◌, ◌==◌, nat_le, ◌<◌, ◌≤◌, List, length}
 use Rattle.std.proofs.Common.{Option, Some, None}
 use Rattle.acceptor.specs.declared.ballot.Ballot.{Ballot}

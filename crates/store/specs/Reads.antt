@@ -1,4 +1,4 @@
--- What the queries over the two tables give, and what a read of them finds.
+-- What the queries over the two tables give, and what a read of them finds (the project's own).
 use Rattle.std.specs.Prelude.{◌≡◌, List, map, Result, IfOk, OnOk, IsPermutation, IsSorted}
 use Rattle.std.specs.Global.{Vec}
 use Rattle.sqlite.specs.Order.{Row}

@@ -1,4 +1,4 @@
--- A desk's row and its log, with each field in the range of its column.
+-- A desk's row and its log, with each field in the range of its column (the project's own).
 use Rattle.std.specs.Prelude.{◌<◌, ◌≤◌, ◌^◌, List, length, Option, Some, None}
 use Rattle.std.specs.List.{AllByRecursion}
 use Rattle.acceptor.specs.Entries.{IsId, IsText}

@@ -22,9 +22,9 @@ use std::alloc::Global;
 
 /// What keeps the state and the log of one desk, so that the desk finds them again.
 ///
-/// Whatever is said of the values that a store holds stands under `is_honest`, the premise on
-/// files: so far the store has given back what was written to it, and nobody else has written it.
-/// For a keeper in memory nothing is assumed.
+/// Whatever is said of the values that a store holds holds under `is_honest`, the premise on files:
+/// so far the store has given back what was written to it, and nobody else has written it. For a
+/// keeper in memory nothing is assumed.
 pub trait Keeper {
     /// So far the store has given back what was written to it, and nobody else has written it.
     ghost is_honest: { Self → Type 0 };

@@ -1,8 +1,8 @@
 //! A desk's store: what it has committed, it finds again.
 //!
 //! A keeper keeps what a desk stores ('Paxos Made Simple', section 2.5): the promised ballot, the
-//! last vote, the number that was tried, and the log. One keeper stands over two tables of a
-//! database, and one in memory, for tests. Code above is written over any keeper.
+//! last vote, the number that was tried, and the log. One keeper uses two tables of a database, and
+//! one keeps all in memory, for tests. Code above is written over any keeper.
 #![tactic(auto)]
 
 mod copying;

@@ -1,4 +1,4 @@
-//! The keeper in memory, for tests, which fails where it was told to.
+//! The keeper in memory, for tests, which fails where a test asks for it.
 
 ghost use Rattle.std.specs.Prelude.{◌≡◌, ◌≤◌, ◌||◌, ◌==◌, Option, Some, None, Bool, true};
 ghost use Rattle.std.specs.Prelude.{false, IfOk, OnOk, OnErr, IfSome};
@@ -136,7 +136,7 @@ impl MemoryKeeper {
     }
 
     /// The `saves`-th save from now, not counting those that answer Down or NoMemory, answers
-    /// Device, with its change kept or not. It replaces what was told before.
+    /// Device, with its change kept or not. It replaces what was asked before.
     pub fn fail_at(&mut self, saves: u64, kept: bool)
         requires { 1 ≤ saves }
         ensures { self.new

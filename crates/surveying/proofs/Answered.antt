@@ -29,7 +29,7 @@ abbrev IsToldOf : ℕ → ℕ → Option Told → Type 0
 IsToldOf hall desk None = Unit {0}
 IsToldOf hall desk (Some told) = IsAnswered hall desk told
 
--- it is of this desk, which is asked how it stands and nothing else, and what it tells was answered
+-- it is of this desk, which is asked how it is and nothing else, and what it tells was answered
 record IsOf (hall desk : ℕ) (s : SurveyOf) : Type 0 where
   hall_is : s.hall ≡ hall
   desk_is : s.desk ≡ desk

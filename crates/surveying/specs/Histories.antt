@@ -1,4 +1,4 @@
--- What a survey tells after calls of any kind, in any order.
+-- What a survey tells after calls of any kind, in any order (the project's own).
 use Rattle.std.specs.Prelude.{ℕ, ◌≡◌, ◌⊎◌, List, Some, Ok}
 use Rattle.client.specs.Answers.{judged}
 use Rattle.client.specs.Standings.{status_request, status_request_in_five}
@@ -8,12 +8,12 @@ use Rattle.desk_talks.specs.Dialogues.{Call, CallsLead}
 use Rattle.surveying.specs.Surveys.{DialogueLeads, SurveyOf, new_survey}
 use Rattle.surveying.specs.declared.survey.Told.{Told}
 
--- the desk is asked how it stands, in version 3 or in version 5
+-- the desk is asked how it is, in version 3 or in version 5
 abbrev pub AsksHow : (hall desk : ℕ) → Frame → Type 0
 AsksHow hall desk asked =
     (asked ≡ status_request hall desk) ⊎ (asked ≡ status_request_in_five hall desk)
 
--- the desk answered so, when it was asked how it stands
+-- the desk answered so, when it was asked how it is
 pub record IsAnswered (hall desk : ℕ) (told : Told) : Type 0 where
   pub asked : Frame
   pub frame : Frame

@@ -1,4 +1,4 @@
--- A survey of one desk.
+-- A survey of one desk (the project's own).
 use Rattle.std.specs.Prelude.{ℕ, ◌≡◌, List, Option, None, Some, Bool, true, false, not, ◌&&◌}
 use Rattle.std.specs.Prelude.{if◌then◌else◌}
 use Rattle.client.specs.Standings.{status_request, status_request_in_five}
@@ -87,7 +87,7 @@ speaks_five s = is_answering s.contact && not s.earlier
 
 -- ---- what is done
 
--- The desk is asked how it stands. Where there is no connection, or memory is refused, it is lost.
+-- The desk is asked how it is. Where there is no connection, or memory is refused, it is lost.
 abbrev pub Asks : Wish → ℕ → SurveyOf → SurveyOf → Type 0
 Asks wish.Write now old new =
     (after : LineOf) × AsksOver true now (question old) old.line after
@@ -123,7 +123,7 @@ sent_by s count = with_line s (line_sent_by s.line count)
 abbrev pub Fails : Came → SurveyOf → SurveyOf → Type 0
 Fails c old new = (c ≡ came.NoAnswer) × (new ≡ lost old)
 
--- what follows of an answer: it says how the desk stands now
+-- what follows of an answer: it says how the desk is now
 abbrev pub FollowsAnswer : What → Came → ℕ → SurveyOf → SurveyOf → Type 0
 FollowsAnswer (what.Standing standing) c now old new =
     (c ≡ came.Answer true)

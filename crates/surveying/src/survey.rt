@@ -20,7 +20,7 @@ const PACE: u64 = 250;
 pub enum Contact {
     /// Nothing has come of asking it yet.
     NotAsked,
-    /// It said how it stands when it was asked last.
+    /// It said how it is when it was asked last.
     Answers,
     /// No connection could be opened, or it was lost, or for two seconds no answer came.
     Silent,
@@ -31,16 +31,15 @@ pub enum Contact {
 /// What a desk said.
 #[derive(Clone, Copy, PartialEq, Eq, Debug)]
 pub struct Told {
-    /// How it stands.
+    /// How it is.
     pub standing: Standing,
     /// When it said so, in milliseconds.
     pub at: u64,
 }
 
-/// Asks one desk of a hall how it stands, four times a second, over a connection that is kept.
-/// Where a connection isn't open or a question isn't answered in two seconds, it is closed and
-/// opened again. Its caller does what the survey wants over one connection
-/// (`desk_talks::Dialogue`).
+/// Asks one desk of a hall how it is, four times a second, over a connection that is kept. Where a
+/// connection isn't open or a question isn't answered in two seconds, it is closed and opened
+/// again. Its caller does what the survey wants over one connection (`desk_talks::Dialogue`).
 ///
 /// A contract sees the number of the hall and of the desk, the connection, what the desk said last,
 /// whether it answers, and whether it is asked as one of an earlier program.
@@ -91,7 +90,7 @@ impl Survey {
         self.desk
     }
 
-    /// What the desk said last, and when. None: it has not said how it stands.
+    /// What the desk said last, and when. None: it has not said how it is.
     pub fn told(&self) -> Option<Told>
         ensures { result ≡ self.now.told }
     {
@@ -120,7 +119,7 @@ impl Survey {
         self.line.wait(now)
     }
 
-    /// What is to be done now, at so many milliseconds of a clock that doesn't go back. It counts
+    /// What is to be done now, at this many milliseconds of a clock that doesn't go back. It counts
     /// as begun.
     pub fn act(&mut self, now: u64) -> Wish
         ensures { Acts result now self.old self.new }
@@ -143,7 +142,7 @@ impl Survey {
         }
     }
 
-    /// How the desk is asked how it stands.
+    /// How the desk is asked how it is.
     fn question(&self) -> Frame
         ensures question { result ≡ question self.now }
         ensures spelled { IsFrame result }
@@ -155,7 +154,7 @@ impl Survey {
         }
     }
 
-    /// Asks the desk how it stands.
+    /// Asks the desk how it is.
     fn ask(&mut self, now: u64) -> Wish
         ensures { Asks result now self.old self.new }
     {
@@ -207,7 +206,7 @@ impl Survey {
         self.line.output()
     }
 
-    /// Says that so many bytes of the output were written.
+    /// Says that this many bytes of the output were written.
     pub fn sent(&mut self, count: usize)
         ensures { self.new ≡ sent_by self.old count }
     {

@@ -1,4 +1,4 @@
--- What is planned for a request, by what stands around a page.
+-- What is planned for a request, by what is around a page.
 use Rattle.std.proofs.Common.{◌≡◌, ◌∙◌, Bool, true, false, ℕ, List, Option, None, Some, Result, Ok}
 use Rattle.std.proofs.Common.{Err, IfOk, String, ap, map, slice_get, string_bytes, subst, sym}
 use Rattle.std.specs.declared.alloc.AllocError.{AllocError}

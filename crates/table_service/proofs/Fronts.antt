@@ -93,7 +93,7 @@ front_of (b ∷ bytes) = go (b == 10) refl (front_of bytes)
         subst (FrontOf (b ∷ bytes)) (sym (parts_by b false is bytes))
         (in_line b bytes is (parts bytes) refl f)
 
--- so many bytes of a file are its whole lines
+-- this many bytes of a file are its whole lines
 pub cut_from : (bytes : List ℕ) (count : ℕ) → count + length (cut_line bytes) ≡ length bytes
     → IsCutFrom bytes (take count bytes)
 cut_from bytes count long =

@@ -41,7 +41,7 @@ module _ (bytes : List ℕ) where
   put_done put done (Some d) (Some e) (Some f) is appends syncs =
       put_both done d e f (subst (λ (b : Bool). AppendsTo b bytes d e) is appends) syncs
 
--- ---- what stands after so many bytes is taken away
+-- ---- what is after this many bytes is taken away
 
 module _ (n : ℕ) where
   pub cut_failed : (cut : Bool) (h0 h1 : Option DiskOf) → cut ≡ false → Cuts cut n h0 h1

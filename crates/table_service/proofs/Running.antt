@@ -210,7 +210,7 @@ module _ (hall : HallOf) where
 
   -- ---- what stands in the journal
 
-  -- an item that stands in the journal is in the list
+  -- an item that is in the journal is in the list
   in_list : (q : ItemsOf) (id : ℕ) (item : Item) → item_in (taken_back q) id ≡ Some item
       → item_in q id ≡ Some item
   in_list q id item found =

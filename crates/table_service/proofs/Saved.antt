@@ -1,4 +1,4 @@
--- A card that is told to be saved stands in the log as it was typed, over what its page showed.
+-- A card that is told to be saved is in the log as it was typed, over what its page showed.
 use Rattle.std.proofs.Common.{◌≡◌, ◌∙◌, ◌+◌, ◌==◌, ◌&&◌, ◌++◌, ◌∷◌, [], Bool, true, false, ℕ, List}
 use Rattle.std.proofs.Common.{ap, cond, eq-eqb, eqb-true, find, map, Option, None, Some, option_map}
 use Rattle.std.proofs.Common.{refl, subst, sym, take, Result, Ok, Err}

@@ -18,7 +18,7 @@ use Rattle.table_service.proofs.TakenOnes.{stays_kept}
 
 -- ---- what is taken, and taken back
 
--- what stood in the journal stands there, whatever was taken
+-- what stood in the journal is there, whatever was taken
 pub all_stay : (entries : List Entry) (old new : ItemsOf) (now : ℕ)
     → old.kept ≤ length old.items → TakesAll old entries now new → StaysKept old new
 all_stay [] old new now low takes = subst (λ (q : ItemsOf). StaysKept old q) (sym takes) (refl, low)
@@ -29,7 +29,7 @@ all_stay (entry ∷ entries) old new now low takes =
 pub is_low : (o : OutboxOf) → IsKept o → o.list.kept ≤ length o.list.items
 is_low o kept = let same : o.list.kept ≡ length o.list.items = kept.0 in omega (arith, same)
 
--- where all stands in the journal, nothing is taken back
+-- where all is in the journal, nothing is taken back
 pub same_back : (o : OutboxOf) → IsKept o → taken_back o.list ≡ o.list
 same_back o kept =
     ap
@@ -43,7 +43,7 @@ pub all_back : (o : OutboxOf) → IsKept o → (entries : List Entry) (now : ℕ
 all_back o kept entries now list takes =
     (all_stay entries o.list list now (is_low o kept) takes).0 ∙ same_back o kept
 
--- all that stands in the journal is kept
+-- all that is in the journal is kept
 pub kept_all : (o : OutboxOf) → IsKept (with_list o (all_kept o.list))
 kept_all o = (refl, refl)
 

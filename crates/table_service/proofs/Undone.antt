@@ -1,4 +1,4 @@
--- A list of what is to stand again, from one place on.
+-- A list of what is to count again, from one place on.
 use Rattle.std.proofs.Common.{◌≡◌, ◌∙◌, ◌+◌, ◌-◌, ◌++◌, ◌∷◌, ◌<◌, ◌≤◌, [], ℕ, List, Option, None}
 use Rattle.std.proofs.Common.{Some, ap, append_assoc, append-nil, arith, map, refl, suc, sym}
 use Rattle.std.specs.List.{range_with_len}

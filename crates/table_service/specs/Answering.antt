@@ -1,4 +1,4 @@
--- What a scoretaker answers to items that were not saved.
+-- What a scoretaker answers to items that were not saved (the project's own).
 use Rattle.std.specs.Prelude.{◌≡◌, ℕ, ◌-◌, ◌^◌, Bool, true, false, codes, get_or, length, List}
 use Rattle.std.specs.Prelude.{Option, None, Some}
 use Rattle.attempts.specs.declared.Value.{Value}
@@ -50,7 +50,7 @@ PlansAnswered around q pairs plan = PlansAnsweredId around q (id_of pairs) plan
 
 -- ---- taking what was typed over what stands now
 
--- what is said where less stands than a card lets stay
+-- what is said where less counts than a card lets stay
 abbrev pub less_words : List ℕ
 less_words = codes "fewer attempts stand now than this card lets stay: open the card and type it"
 
@@ -65,7 +65,7 @@ PlansAgainEntry false around q of card (Some entry) plan = plan ≡ refuses prob
 PlansAgainEntry true around q of card (Some entry) plan =
     Sends (place_with (cards_place card.id) entry.id) (effect.Again entry of) plan
 
--- under an id, with a remark, where what was to stay stands
+-- under an id, with a remark, where what was to stay counts
 abbrev pub again_entry : Bool → ℕ → CardEntry → List ℕ → List Value → Option Entry
 again_entry false id card remark was = None
 again_entry true id card remark was = card_entry id (card_over card was) remark
@@ -97,6 +97,6 @@ PlansAgainId around q pairs None plan = plan ≡ refuses problem.BadForm
 PlansAgainId around q pairs (Some of) plan = PlansAgainItem around q pairs of (item_in q of) plan
 
 -- a card that was not saved, and that nobody has answered, is taken once more over what its page
--- showed that stands now, and counts as answered; any other stays as it is
+-- showed that counts now, and counts as answered; any other stays as it is
 abbrev pub PlansAgain : Around → ItemsOf → List Pair → Plan → Type 0
 PlansAgain around q pairs plan = PlansAgainId around q pairs (id_of pairs) plan

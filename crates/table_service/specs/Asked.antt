@@ -1,4 +1,4 @@
--- What a path and a query ask for.
+-- What a path and a query ask for (the project's own).
 use Rattle.std.specs.Prelude.{ℕ, Bool, true, false, if◌then◌else◌, bytes_eq, codes, List, drop}
 use Rattle.std.specs.Prelude.{length, take, Option, None, Some, Result, Ok, Err}
 use Rattle.card_forms.specs.Cards.{round_of}
@@ -25,7 +25,7 @@ number_below folder path =
     if bytes_eq (take (length folder) path) folder
     then number_between 1 9999 (drop (length folder) path) else None
 
--- what stands at a path that names no round and no competitor, and has no query
+-- what is at a path that names no round and no competitor, and has no query
 abbrev pub fixed : List ℕ → Option Asked
 fixed path =
     if bytes_eq path (codes "/") then Some (Page Overview)

@@ -1,4 +1,4 @@
--- What is said of a card before it is taken.
+-- What is said of a card before it is taken (the project's own).
 use Rattle.std.specs.Prelude.{ℕ, ◌+◌, ◌*◌, ◌==◌, ◌&&◌, ◌||◌, nat_lt, Bool, true, false}
 use Rattle.std.specs.Prelude.{if◌then◌else◌, List, [], ◌∷◌, ◌++◌, flat_map, filter_map, length}
 use Rattle.std.specs.Prelude.{take, drop, min, get_or, slice_get, Option, None, Some, is_some}
@@ -100,20 +100,20 @@ is_half_in bounds (Some time) = is_half_of time bounds.here || is_half_of time b
 abbrev pub is_half : Bounds → Option Entered → Bool
 is_half bounds field = is_half_in bounds (time_of field)
 
--- the best single that stands in a round, if it was opened
+-- the best single that counts in a round, if it was opened
 abbrev pub best_here : List Command → RoundId → Option ℕ
 best_here accepted id = option_and_then (λ round. best_in round.1) (round_by accepted id)
 
 abbrev pub numbered : Event → ℕ → RoundId
 numbered event round = record { event = event; round = round }
 
--- the best single that stands of a number in a round of the event that is not this one
+-- the best single that counts of a number in a round of the event that is not this one
 abbrev pub single_beside : List Command → RoundId → ℕ → ℕ → Option ℕ
 single_beside accepted id number round =
     if round == id.round then None
     else single_of (standing accepted (numbered id.event round) number)
 
--- the best single that stands of a number in the other rounds of the event (which has at most four:
+-- the best single that counts of a number in the other rounds of the event (which has at most four:
 -- WCA Regulations, article 9m)
 abbrev pub best_elsewhere : List Command → RoundId → ℕ → Option ℕ
 best_elsewhere accepted id number =
@@ -190,7 +190,7 @@ change_at was left place =
     if is_left (slice_get was place) (slice_get left place) then []
     else note.Changes (place + 1) ∷ []
 
--- each attempt that stands and would change
+-- each attempt that counts and would change
 abbrev pub change_notes : List Value → List Value → List Note
 change_notes was left = flat_map (change_at was left) (range_with_len 0 (min (length was) 5))
 
@@ -250,7 +250,7 @@ abbrev pub repeat_notes : List (Option Entered) → List Value → List Note
 repeat_notes now left = if is_repeat now left then note.Repeats ∷ [] else []
 
 -- what is asked of the values that a card leaves: each solution that does not solve its scramble;
--- the first two results again; and each attempt that stands and would change
+-- the first two results again; and each attempt that counts and would change
 abbrev pub left_notes : (ℕ → Option (List Move)) → CardEntry → List Value → List Note
 left_notes scrambles card left =
     unsolved_notes scrambles card.now left ++ repeat_notes card.now left

@@ -1,4 +1,4 @@
--- A file of which is known what a crash leaves, and the journal in it.
+-- A file of which is known what a crash leaves, and the journal in it (the project's own).
 use Rattle.std.specs.Prelude.{ℕ, ◌≡◌, ◌⊎◌, ◌≤◌, ◌<◌, ◌+◌, ◌^◌, ◌++◌, Bool, true, false, List}
 use Rattle.std.specs.Prelude.{Option, None, Some, length, min, option_map, take}
 
@@ -56,7 +56,7 @@ PutsTo false bytes old new =
 abbrev pub Puts : Bool → List ℕ → Option DiskOf → Option DiskOf → Type 0
 Puts done bytes old new = Told (PutsTo done bytes) old new
 
--- what stands after so many bytes is taken away, and a crash leaves the others; or it stays, or is
+-- what is after this many bytes is taken away, and a crash leaves the others; or it stays, or is
 -- taken away and a crash may bring it back
 abbrev pub CutsBackTo : Bool → ℕ → DiskOf → DiskOf → Type 0
 CutsBackTo true count old new =
@@ -70,7 +70,7 @@ CutsBack done count old new = Told (CutsBackTo done count) old new
 
 -- ---- the journal
 
--- the file of a journal, the bytes of its whole lines, and whether a part of a line may stand after
+-- the file of a journal, the bytes of its whole lines, and whether a part of a line may be after
 -- them that could not be taken away
 pub record JournalOf : Type 0 where
   pub disk : Option DiskOf
@@ -80,12 +80,12 @@ pub record JournalOf : Type 0 where
 abbrev pub journal : Option DiskOf → ℕ → Bool → JournalOf
 journal disk length broken = record { disk = disk; length = length; broken = broken }
 
--- nothing stands after so many bytes
+-- nothing is after this many bytes
 abbrev pub IsWholeIn : ℕ → Option DiskOf → Type 0
 IsWholeIn count None = Unit {0}
 IsWholeIn count (Some d) = length d.bytes ≡ count
 
--- the bytes of its lines, where that is told
+-- the bytes of its lines, where that is known
 abbrev pub lines_in : JournalOf → Option (List ℕ)
 lines_in j = option_map (λ d. take j.length d.bytes) j.disk
 
@@ -102,12 +102,12 @@ abbrev pub with_kept : Option (List ℕ) → List ℕ → Option (List ℕ)
 with_kept None bytes = None
 with_kept (Some before) bytes = Some (before ++ bytes)
 
--- a call of the file failed, as far as that is told
+-- a call of the file failed, as far as that is known
 abbrev pub HasFailed : Option DiskOf → Option DiskOf → Type 0
 HasFailed old new = Told (λ old new. old.failures < new.failures) old new
 
--- why lines can't be kept: the file fails; it failed before, so that a part of a line may stand
--- after those that were kept; or they would be 2^64 bytes and more
+-- why lines can't be kept: the file fails; it failed before, so that a part of a line may be after
+-- those that were kept; or they would be 2^64 bytes and more
 abbrev pub CannotKeep : List ℕ → JournalOf → JournalOf → Type 0
 CannotKeep lines old new =
     HasFailed old.disk new.disk ⊎ ((old.broken ≡ true)
@@ -118,8 +118,8 @@ abbrev pub kept_if : Bool → Option (List ℕ) → List ℕ → Option (List �
 kept_if true before lines = with_kept before lines
 kept_if false before lines = before
 
--- where lines are kept they stand after the others, and a crash leaves them; else the lines that
--- were there are, and it is told why. Nothing more can be kept only after the file failed
+-- where lines are kept they are after the others, and a crash leaves them; else the lines that were
+-- there are, and it is told why. Nothing more can be kept only after the file failed
 pub record Keeps (kept : Bool) (lines : List ℕ) (old new : JournalOf) : Type 0 where
   pub told : lines_in new ≡ kept_if kept (lines_in old) lines
   pub synced : IsSynced new
@@ -129,7 +129,7 @@ pub record Keeps (kept : Bool) (lines : List ℕ) (old new : JournalOf) : Type 0
 
 -- ---- a journal is opened
 
--- a file begins with so many bytes of whole lines, after which a part of a line may stand where it
+-- a file begins with this many bytes of whole lines, after which a part of a line may be where it
 -- was cut, and nothing where it was not
 abbrev pub HasLinesTo : Bool → ℕ → DiskOf → Type 0
 HasLinesTo true count d = count ≤ length d.bytes
@@ -139,8 +139,8 @@ abbrev pub HasLines : Bool → ℕ → Option DiskOf → Type 0
 HasLines cut count None = Unit {0}
 HasLines cut count (Some d) = HasLinesTo cut count d
 
--- the file of a journal over a file with so many bytes of whole lines: these are its lines, a crash
--- leaves them, and it goes on after them
+-- the file of a journal over a file with this many bytes of whole lines: these are its lines, a
+-- crash leaves them, and it goes on after them
 pub record OpensOver (count : ℕ) (old : Option DiskOf) (new : JournalOf) : Type 0 where
   pub long : new.length ≡ count
   pub whole : new.broken ≡ false

@@ -1,4 +1,4 @@
--- A competition's file that is looked at.
+-- A competition's file that is looked at (the project's own).
 use Rattle.std.specs.Prelude.{◌≡◌, ◌⊎◌, ℕ, Bool, true, false, if◌then◌else◌, bytes_eq, codes, List}
 use Rattle.std.specs.Prelude.{[], ◌∷◌, Option, None, Some, slice_get}
 use Rattle.http.specs.declared.request.Request.{Request}

@@ -1,4 +1,4 @@
--- What holds of each answer of the score table.
+-- What holds of each answer of the score table (the project's own).
 use Rattle.std.specs.Prelude.{◌≡◌, ◌⊎◌, ℕ, ◌+◌, ◌++◌, ◌||◌, ◌∷◌, [], true, false, List, Some, Ok}
 use Rattle.std.specs.Prelude.{codes, map, take}
 use Rattle.std.specs.List.{AllByRecursion}
@@ -94,7 +94,7 @@ pub record AsksForAll (log : List Entry) (q : ItemsOf) (pairs : List Pair) (rema
   pub are : entries ≡ command_entries id (map (noted remark) texts)
 
 -- what was typed into a card that this log does not save, over what the form's page showed that
--- stands
+-- counts
 pub record AsksAgain (log : List Entry) (q : ItemsOf) (pairs : List Pair) (remark : List ℕ)
     (entries : List Entry) : Type 0 where
   pub of : ℕ

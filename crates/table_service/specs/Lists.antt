@@ -1,4 +1,4 @@
--- Several commands that are sent together, one a line.
+-- Several commands that are sent together, one a line (the project's own).
 use Rattle.std.specs.Prelude.{◌≡◌, ◌⊎◌, ℕ, ◌||◌, Bool, true, false, codes, List, [], ◌∷◌, get_or}
 use Rattle.std.specs.Prelude.{is_some, map, Option, None, Some}
 use Rattle.std.specs.List.{list_all}

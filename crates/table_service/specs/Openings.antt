@@ -1,4 +1,4 @@
--- A journal's file that is opened.
+-- A journal's file that is opened (the project's own).
 use Rattle.std.specs.Prelude.{◌≡◌, ◌==◌, ℕ, if◌then◌else◌, List, Option, None, Some}
 use Rattle.std.specs.List.{list_any}
 use Rattle.outbox.specs.Histories.{IsStarted, world}
@@ -15,17 +15,17 @@ pub record IsOver (hall : HallOf) (desk now : ℕ) (bytes : List ℕ) (outbox : 
   pub synced : IsSynced file
   pub started : IsStarted hall desk now bytes (world outbox lines)
 
--- where that is told of a file
+-- where that is known of a file
 abbrev pub IsOverIn : HallOf → (now : ℕ) → List ℕ → Option DiskOf → OutboxOf → JournalOf → Type 0
 IsOverIn hall now bytes None outbox file = Unit {0}
 IsOverIn hall now bytes (Some d) outbox file = IsOver hall 1 now bytes outbox file
 
--- a file has these bytes, where that is told
+-- a file has these bytes, where that is known
 abbrev pub HasBytes : List ℕ → Option DiskOf → Type 0
 HasBytes bytes None = Unit {0}
 HasBytes bytes (Some d) = d.bytes ≡ bytes
 
--- it has these bytes after a call, where that is told; and it is told, where it was before
+-- it has these bytes after a call, where that is known; and it is told, where it was before
 abbrev pub HasNow : List ℕ → Option DiskOf → Option DiskOf → Type 0
 HasNow bytes old new = Told (λ old new. new.bytes ≡ bytes) old new
 

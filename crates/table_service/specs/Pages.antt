@@ -1,4 +1,4 @@
--- The pages that are made of the mirror.
+-- The pages that are made of the mirror (the project's own).
 use Rattle.std.specs.Prelude.{◌≡◌, ℕ, ◌+◌, ◌-◌, Bool, true, false, nat_lt, List, [], ◌∷◌}
 use Rattle.std.specs.Prelude.{Option, None, Some, get_or, is_some, length, map, min, slice_get}
 use Rattle.std.specs.Option.{option_copied}
@@ -65,7 +65,7 @@ abbrev pub TellsLast : ItemsOf → List Entry → Option ℕ → Option Origin �
 TellsLast q log None origin = origin ≡ None
 TellsLast q log (Some position) origin = TellsEntryAt q log position origin
 
--- by which entry of the log the attempts of a competitor in a round stand as they do, if by any
+-- by which entry of the log the attempts of a competitor in a round count as they do, if by any
 abbrev pub IsOrigin : ItemsOf → List Entry → RoundId → ℕ → Option Origin → Type 0
 IsOrigin q log round number origin =
     (last : Option ℕ) × IsLastChange log round number last × TellsLast q log last origin
@@ -89,11 +89,11 @@ abbrev pub all_typed_at : List Entry → RoundId → ℕ → List (Option ℕ) �
 all_typed_at log round number last =
     map (λ place. typed_at log round number place (get_or last place None)) places
 
--- how many attempts of a competitor stand in a round, at most five
+-- how many attempts of a competitor count in a round, at most five
 abbrev pub stands_of : List Entry → RoundId → ℕ → ℕ
 stands_of log round number = min (length (standing (accepted_in log) round number)) 5
 
--- of each attempt that stands what was entered last for it, as it may be typed
+-- of each attempt that counts what was entered last for it, as it may be typed
 abbrev pub AreFilled : List Entry → RoundId → ℕ → List (List ℕ) → Type 0
 AreFilled log round number filled =
     (last : List (Option ℕ))

@@ -1,4 +1,4 @@
--- What is to be done for a request, by what stands around a page.
+-- What is to be done for a request, by what is around a page (the project's own).
 use Rattle.std.specs.Prelude.{◌≡◌, ◌⊎◌, ℕ, ◌==◌, ◌||◌, Bool, true, false, if◌then◌else◌}
 use Rattle.std.specs.Prelude.{bytes_eq, codes, decimal, List, [], ◌∷◌, ◌++◌}
 use Rattle.std.specs.Prelude.{is_some, Option, None, Some, Result, Ok, Err}
@@ -56,18 +56,18 @@ ShowsView q around title (Some asked.Script) plan = plan ≡ shows reply.Script
 ShowsView q around title (Some (asked.Page view)) plan =
     (page : Option (List ℕ)) × IsPage q around title view page × ShowsIf page plan
 
--- what stands at the path
+-- what is at the path
 abbrev pub PlansRead : ItemsOf → Around → List ℕ → Request (List ℕ) → Plan → Type 0
 PlansRead q around title request plan =
     ShowsView q around title (asked_at (path_of request) (query_of request)) plan
 
 -- ---- the form of a card
 
--- where the page of a round's cards stands
+-- where the page of a round's cards is
 abbrev pub cards_place : RoundId → List ℕ
 cards_place id = codes "/card/" ++ event_name id.event ++ codes "-" ++ decimal id.round
 
--- where the page of a card stands that was sent
+-- where the page of a card is that was sent
 abbrev pub card_place : CardForm → List ℕ
 card_place form = place_with (cards_place form.round) form.id
 

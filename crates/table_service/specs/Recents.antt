@@ -1,4 +1,4 @@
--- What was sent of late, and what was sent before and is not saved.
+-- What was sent of late, and what was sent before and is not saved (the project's own).
 use Rattle.std.specs.Prelude.{◌≡◌, ℕ, ◌-◌, ◌++◌, Bool, not, nat_lt, if◌then◌else◌, List, [], ◌∷◌}
 use Rattle.std.specs.Prelude.{map, reverse, Option, None, Some}
 use Rattle.std.specs.List.{AllByRecursion}
@@ -13,7 +13,7 @@ use Rattle.outbox.specs.States.{state_of}
 use Rattle.table_views.specs.declared.around.Recent.{Recent}
 use Rattle.texts.specs.declared.command.CardEntry.{CardEntry}
 
--- what is saved is shown while so many more are; all else, until a scoretaker has answered it
+-- what is saved is shown while this many more are; all else, until a scoretaker has answered it
 abbrev pub is_shown : State → Bool → ℕ → Bool
 is_shown (state.Saved position) answered left = nat_lt 0 left
 is_shown state.Waits answered left = not answered

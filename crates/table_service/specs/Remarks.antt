@@ -1,4 +1,5 @@
--- What stands behind what a table enters: its name, and the time of the machine's clock.
+-- What is behind what a table enters: its name, and the time of the machine's clock (the project's
+-- own).
 use Rattle.std.specs.Prelude.{ℕ, ◌/◌, ◌%◌, ◌++◌, ◌&&◌, Bool, List, Option, None, Some, codes}
 use Rattle.std.specs.Prelude.{[], if◌then◌else◌, length, nat_le}
 use Rattle.acceptor.specs.declared.entry.Entry.{Entry}
@@ -11,7 +12,7 @@ use Rattle.texts.specs.Names.{is_clear_name}
 abbrev pub is_table_name : List ℕ → Bool
 is_table_name bytes = nat_le (length bytes) 60 && is_clear_name bytes
 
--- the time of the day, in UTC, of so many seconds since 1970: `14:05:33 UTC`
+-- the time of the day, in UTC, of this many seconds since 1970: `14:05:33 UTC`
 abbrev pub time_of_day : ℕ → List ℕ
 time_of_day seconds =
     two_digits (seconds / 3600 % 24) ++ codes ":" ++ two_digits (seconds / 60 % 60) ++ codes ":"

@@ -1,4 +1,4 @@
--- What is answered.
+-- What is answered (the project's own).
 use Rattle.std.specs.Prelude.{◌⊎◌, ℕ, List, [], ◌∷◌, ◌++◌, codes}
 use Rattle.http1.specs.Fields.{Header}
 use Rattle.http_header.specs.FieldValue.{IsFieldValue}
@@ -36,7 +36,7 @@ text_kind = codes "text/plain; charset=utf-8"
 abbrev pub html_kind : List ℕ
 html_kind = codes "text/html; charset=utf-8"
 
--- a page where no page stands, and a line of text for every other problem
+-- a page where no page is, and a line of text for every other problem
 abbrev pub kind_of : Problem → List ℕ
 kind_of problem.NotFound = html_kind
 kind_of problem.BadForm = text_kind
@@ -51,7 +51,7 @@ status_of problem.NotFound = 404
 status_of problem.Method = 405
 status_of problem.Busy = 503
 
--- the page where no page stands: it leads back
+-- the page where no page is: it leads back
 unfoldable pub not_found : List ℕ
 not_found =
     codes "<!DOCTYPE html>\n<html lang=\"en\"><head><meta charset=\"utf-8\">\n"
@@ -79,7 +79,7 @@ abbrev pub IsProblem : Problem → Response → Type 0
 IsProblem why r =
     IsResponse (status_of why) (fields_with (kind (kind_of why))) (line_of why) r
 
--- another page is to be asked for, where its place can stand in a field
+-- another page is to be asked for, where its place can be in a field
 abbrev pub Sees : List ℕ → Response → Type 0
 Sees location r =
     IsResponse 303 (fields_with (codes "location", location)) [] r

@@ -1,4 +1,4 @@
--- What is answered for a request, and what changes.
+-- What is answered for a request, and what changes (the project's own).
 use Rattle.std.specs.Prelude.{◌≡◌, ℕ, List, Option, None, Some}
 use Rattle.table_service.specs.declared.plan.Effect.{Effect}
 use Rattle.table_service.specs.declared.plan.Effect.TheVariants as effect

@@ -1,4 +1,4 @@
--- What is read of a request.
+-- What is read of a request (the project's own).
 use Rattle.std.specs.Prelude.{ℕ, ◌-◌, ◌^◌, ◌||◌, Bool, List, [], Option, bytes_eq, codes, unwrap_or}
 use Rattle.http.specs.declared.request.Request.{Request}
 use Rattle.http.specs.Request.{head_of}

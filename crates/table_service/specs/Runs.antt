@@ -1,4 +1,5 @@
--- What holds of all that is asked and done, one after the other, over as many starts.
+-- What holds of all that is asked and done, one after the other, over as many starts (the project's
+-- own).
 use Rattle.std.specs.Prelude.{◌≡◌, ℕ, ◌++◌, List, Option, None, Some, take}
 use Rattle.std.specs.List.{AllByRecursion}
 use Rattle.http.specs.declared.request.Request.{Request}
@@ -21,7 +22,7 @@ pub data Turn : Type 0 where
   Told : Turn
   Restarted : (more : List ℕ) → (desk now : ℕ) → Turn
 
--- a crash leaves of a file what was synced; of what stands there after that nothing is known
+-- a crash leaves of a file what was synced; of what is there after that nothing is known
 abbrev pub StartsOver : HallOf → List ℕ → (desk now : ℕ) → Option DiskOf → ServiceOf → Type 0
 StartsOver hall more desk now None new = ⊥
 StartsOver hall more desk now (Some d) new =
@@ -51,7 +52,7 @@ pub record IsReached (hall : HallOf) (s : ServiceOf) : Type 0 where
 -- ---- what is submitted
 
 -- its items and the lines of its journal come from calls of an outbox; so what is to be written to
--- a desk is nothing but the end of a Submit of an entry whose line stands in the journal
+-- a desk is nothing but the end of a Submit of an entry whose line is in the journal
 pub record IsOfTheOutbox (hall : HallOf) (s : ServiceOf) : Type 0 where
   pub history : History
   pub lines : List ℕ

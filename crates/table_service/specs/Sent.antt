@@ -22,7 +22,7 @@ PlansAtLast around q pairs true undoes plan = PlansAnswered around q pairs plan
 PlansAtLast around q pairs false true plan = PlansUndo around q pairs plan
 PlansAtLast around q pairs false false plan = plan ≡ refuses problem.Method
 
--- by whether the path is that of taking what was typed over what stands now
+-- by whether the path is that of taking what was typed over what counts now
 abbrev pub PlansAtAnswers : Around → ItemsOf → List ℕ → List Pair → Bool → Plan → Type 0
 PlansAtAnswers around q path pairs true plan = PlansAgain around q pairs plan
 PlansAtAnswers around q path pairs false plan =

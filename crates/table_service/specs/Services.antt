@@ -1,4 +1,4 @@
--- What the score table answers, and what it takes.
+-- What the score table answers, and what it takes (the project's own).
 use Rattle.std.specs.Prelude.{◌≡◌, ◌⊎◌, ◌||◌, ◌≤◌, ℕ, ◌∷◌, [], Bool, true, false, List, drop}
 use Rattle.std.specs.Prelude.{length}
 use Rattle.std.specs.Prelude.{slice_get, Option, None, Some}
@@ -63,7 +63,7 @@ service title name hosts token proposals mirroring desks outbox ids time clock f
   file = file;
 }
 
--- between two calls all that was taken stands in the journal, and no line is on the way there
+-- between two calls all that was taken is in the journal, and no line is on the way there
 abbrev pub IsKept : OutboxOf → Type 0
 IsKept o = (o.list.kept ≡ length o.list.items) × (o.list.lines ≡ [])
 
@@ -110,7 +110,7 @@ Plans s request plan = PlansIf s request (is_own s.hosts request) plan
 
 -- ---- what is done
 
--- what stands in the journal are items, and they are what they were
+-- what is in the journal are items, and they are what they were
 abbrev pub StaysKept : ItemsOf → ItemsOf → Type 0
 StaysKept old new = (taken_back new ≡ taken_back old) × (new.kept ≤ length new.items)
 
@@ -241,7 +241,7 @@ pub record Answers (old : ServiceOf) (request : Request (List ℕ)) (response : 
 
 -- ---- what the other calls change
 
--- no ids are given, and no time is said; what stands in no journal is no item
+-- no ids are given, and no time is said; what is in no journal is no item
 pub record IsNew (title name : List ℕ) (hosts : List (List ℕ)) (token proposals : List ℕ)
     (mirroring : MirroringOf) (outbox : OutboxOf) (file : JournalOf) (s : ServiceOf) : Type 0 where
   pub desks : Desks

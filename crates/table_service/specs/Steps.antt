@@ -1,4 +1,4 @@
--- What the program's loop does between the answers.
+-- What the program's loop does between the answers (the project's own).
 use Rattle.std.specs.Prelude.{◌≡◌, ℕ, take, Some, Bool, true, false}
 use Rattle.desk_sockets.specs.Asking.{AsksNow}
 use Rattle.desk_talks.specs.Dialogues.{Reaches}
@@ -9,9 +9,9 @@ use Rattle.outbox.specs.Outboxes.{DialogueLeads, aimed, looked}
 use Rattle.table_views.specs.declared.desks.Desks.{Desks}
 use Rattle.table_service.specs.Services.{IsKeptBut, IsSentBut, ServiceOf}
 
--- a call of a service: the mirror is kept up over a connection, or asks at once; so many entries of
--- its log are looked through; a desk is aimed at; what is under way goes on over a connection; or
--- it is said how the desks are doing
+-- a call of a service: the mirror is kept up over a connection, or asks at once; this many entries
+-- of its log are looked through; a desk is aimed at; what is under way goes on over a connection;
+-- or it is said how the desks are doing
 pub data Step : Type 0 where
   Mirrors : Step
   Hurries : Step

@@ -1,4 +1,4 @@
--- Entries that a form asks for, and that are to be taken.
+-- Entries that a form asks for, and that are to be taken (the project's own).
 use Rattle.std.specs.Prelude.{◌≡◌, ℕ, ◌-◌, ◌<◌, ◌++◌, ◌==◌, Bool, true, false, if◌then◌else◌}
 use Rattle.std.specs.Prelude.{codes, decimal, nat_le, length, slice_get, List, [], ◌∷◌, All, IfSome}
 use Rattle.std.specs.Prelude.{Option, None, Some, option_map}
@@ -51,7 +51,7 @@ abbrev pub other_in : ItemsOf → List Entry → Option (List ℕ × List ℕ)
 other_in q [] = None
 other_in q (entry ∷ entries) = both_or (other_of q entry) entry.text (other_in q entries)
 
--- there is room for so many entries
+-- there is room for this many entries
 abbrev pub has_room : ItemsOf → ℕ → Bool
 has_room q count = nat_le count (65536 - length q.items)
 

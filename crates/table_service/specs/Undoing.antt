@@ -1,4 +1,4 @@
--- A card that is taken back.
+-- A card that is taken back (the project's own).
 use Rattle.std.specs.Prelude.{◌≡◌, ℕ, ◌&&◌, Bool, true, false, if◌then◌else◌, not, nat_le}
 use Rattle.std.specs.Prelude.{nat_lt, codes, get_or, length, List, map, slice_get}
 use Rattle.std.specs.Prelude.{option_map, Option, None, Some}
@@ -60,8 +60,8 @@ abbrev pub back_if : Bool → Measure → Option ℕ → Option Value → Option
 back_if true unit limit stood = Some None
 back_if false unit limit stood = option_map Some (option_and_then (typed_for unit limit) stood)
 
--- what is to stand again at a place, counted from 0, where a card left these and those stood: what
--- stands now stays where it is the same
+-- what is to count again at a place, counted from 0, where a card left these and those stood: what
+-- counts now stays where it is the same
 abbrev pub back_at : Measure → Option ℕ → List Value → List Value → ℕ → Option (Option Entered)
 back_at unit limit left was place =
     back_if (is_left (slice_get was place) (slice_get left place)) unit limit (slice_get was place)

@@ -24,7 +24,7 @@ use texts::{CardEntry, Entered, Was, number_between, was_of};
 /// The greatest id of an entry, 2^63 - 1.
 const MOST_ID: u64 = 9_223_372_036_854_775_807;
 
-/// What is said where less stands than a card lets stay.
+/// What is said where less counts than a card lets stay.
 const LESS: &[u8] = b"fewer attempts stand now than this card lets stay: open the card and type it";
 
 /// The id of an item.
@@ -93,14 +93,14 @@ pub(crate) fn plan_answered(
     }
 }
 
-/// Whether something is entered for each attempt after those that stand, so many.
+/// Whether something is entered for each attempt after those that count, this many.
 fn enters_later(stands: usize, now: &[Option<Entered>]) -> bool
     ensures { result ≡ enters_later stands now.now }
 {
     now.iter().skip(stands).all(|outcome| outcome.is_some())
 }
 
-/// The entry of a card over these values, under an id, with a remark; none where less stands than
+/// The entry of a card over these values, under an id, with a remark; none where less counts than
 /// it lets stay.
 fn again_entry(
     alloc: Global,
@@ -130,7 +130,7 @@ fn again_entry(
     card_entry(alloc, id, again, remark)
 }
 
-/// What is to be done for a card over what its page showed that stands now.
+/// What is to be done for a card over what its page showed that counts now.
 fn plan_again_card(
     alloc: Global,
     outbox: &Outbox,
@@ -175,7 +175,7 @@ fn plan_again_item(
     }
 }
 
-/// What is to be done for the form that takes what was typed over what stands now.
+/// What is to be done for the form that takes what was typed over what counts now.
 pub(crate) fn plan_again(
     alloc: Global,
     outbox: &Outbox,

@@ -1,4 +1,4 @@
-//! The page of a card, with what its attempts come from that stand.
+//! The page of a card, with what its attempts come from that count.
 
 ghost use Rattle.std.specs.Prelude.{◌≡◌, ◌<◌, ◌≤◌, IfOk, length};
 ghost use Rattle.std.specs.Option.{option_copied, option_map};
@@ -35,7 +35,7 @@ fn origin_at<'a>(outbox: &Outbox, log: &'a Log, position: u32) -> Option<Origin<
     }
 }
 
-/// By which entry the attempts of a competitor in a round stand as they do, if by any.
+/// By which entry the attempts of a competitor in a round count as they do, if by any.
 fn origin_of<'a>(
     alloc: Global,
     outbox: &Outbox,
@@ -155,7 +155,7 @@ fn all_typed_at(
     )
 }
 
-/// How many attempts of a competitor stand in a round, at most five.
+/// How many attempts of a competitor count in a round, at most five.
 fn stands_of(mirror: &Mirror, round: RoundId, number: u16) -> usize
     ensures stands { result ≡ stands_of mirror.now round number }
     ensures few { result ≤ 5 }
@@ -163,7 +163,7 @@ fn stands_of(mirror: &Mirror, round: RoundId, number: u16) -> usize
     standing(mirror.meet(), round, number).len().min(5)
 }
 
-/// What was entered for each attempt of a competitor that stands, as it may be typed.
+/// What was entered for each attempt of a competitor that counts, as it may be typed.
 fn filled_of(
     alloc: Global,
     mirror: &Mirror,

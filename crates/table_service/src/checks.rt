@@ -256,7 +256,7 @@ fn note_times(
     Ok(())
 }
 
-/// The best single that stands in a round, if it was opened.
+/// The best single that counts in a round, if it was opened.
 fn best_here(meet: &Meet, id: RoundId) -> Result<Option<u32>, AllocError>
     ensures { IfOk result (λ best. best ≡ best_here meet.now.accepted id) }
 {
@@ -266,7 +266,7 @@ fn best_here(meet: &Meet, id: RoundId) -> Result<Option<u32>, AllocError>
     }
 }
 
-/// The best single that stands of a competitor in a round of the event that is not this one.
+/// The best single that counts of a competitor in a round of the event that is not this one.
 fn single_beside(meet: &Meet, id: RoundId, number: u16, round: u8) -> Option<u32>
     ensures { result ≡ single_beside meet.now.accepted id number round }
 {
@@ -280,7 +280,7 @@ fn single_beside(meet: &Meet, id: RoundId, number: u16, round: u8) -> Option<u32
     single_of(standing(meet, other, number))
 }
 
-/// The best single that stands of a competitor in the other rounds of the event.
+/// The best single that counts of a competitor in the other rounds of the event.
 fn best_elsewhere(meet: &Meet, id: RoundId, number: u16) -> Option<u32>
     ensures { result ≡ best_elsewhere meet.now.accepted id number }
 {
@@ -311,7 +311,7 @@ fn note_refusal(notes: &mut Vec<Note>, code: Option<Code>) -> Result<(), AllocEr
     }
 }
 
-/// Whether what stands for an attempt is what a card leaves there.
+/// Whether what counts for an attempt is what a card leaves there.
 pub(crate) fn is_left(was: Option<Value>, left: Option<Value>) -> bool
     ensures { result ≡ is_left was left }
 {
@@ -322,7 +322,7 @@ pub(crate) fn is_left(was: Option<Value>, left: Option<Value>) -> bool
     }
 }
 
-/// Notes an attempt that stands and would change, by its place, counted from 0.
+/// Notes an attempt that counts and would change, by its place, counted from 0.
 fn note_change(
     notes: &mut Vec<Note>,
     was: &[Value],
@@ -340,7 +340,7 @@ fn note_change(
     put(notes, Note::Changes { attempt })
 }
 
-/// Notes each attempt that stands and would change: these stand, and the card leaves those.
+/// Notes each attempt that counts and would change: these count, and the card leaves those.
 fn note_changes(notes: &mut Vec<Note>, was: &[Value], left: &[Value]) -> Result<(), AllocError>
     ensures { OnOk result (notes.new.items
         ≡ notes.old.items ++ change_notes was.now left.now) }
@@ -492,7 +492,7 @@ fn left_of(alloc: Global, meet: &Meet, card: &CardEntry) -> Result<Vec<Value>, A
 /// it would be refused; each time that nobody has ever been below, that is less than half of the
 /// best single of the round or of the competitor's in another, or that is unlike the others; each
 /// solution that does not solve its scramble; the first two results again; and each attempt that
-/// stands and would change.
+/// counts and would change.
 pub(crate) fn doubts_of(
     alloc: Global,
     card: &CardEntry,

@@ -106,8 +106,8 @@ fn say<F: Write>(before: Said, said: Said, faults: &mut F) -> Said {
     said
 }
 
-/// Does all that can be done now for the desks that are asked how they stand, and says what is
-/// wrong with their keys.
+/// Does all that can be done now for the desks that are asked how they are, and says what is wrong
+/// with their keys.
 fn keep_asked<R: Net + RandomSource, F: Write>(
     asked: &mut AskedDesks<'_, R>,
     now: u64,

@@ -15,7 +15,7 @@ const MOST_BYTES: u64 = 67_108_864;
 /// A file at whose end bytes are put.
 pub trait Disk {
     /// Its bytes, how many of the first of them a crash leaves, and how many of its calls failed,
-    /// where that is told.
+    /// where that is known.
     ghost holds: { Self → Option DiskOf };
 
     /// All its bytes, at most 67,108,864.
@@ -30,7 +30,7 @@ pub trait Disk {
     fn sync(&mut self) -> bool
         ensures { Syncs result (holds self.old) (holds self.new) };
 
-    /// Takes away what stands after so many bytes. False where that fails; then nothing is taken
+    /// Takes away what is after this many bytes. False where that fails; then nothing is taken
     /// away.
     fn cut(&mut self, length: u64) -> bool
         ensures { Cuts result length (holds self.old) (holds self.new) };
@@ -45,7 +45,7 @@ pub struct SystemFile {
 impl Disk for SystemFile {
     ghost use Rattle.std.specs.Prelude.{None};
 
-    // What stands in a file of the system no contract can say.
+    // What is in a file of the system no contract can say.
     ghost holds = { λ _. None };
 
     fn read(&self, alloc: Global) -> Result<Vec<u8>, FileFault> {

@@ -29,7 +29,7 @@ use texts::{CardEntry, RoundId};
 const EARLIER: &[u8] =
     b"an earlier edition of the commands holds: this table takes no card under it";
 
-/// Where the page of a round's cards stands.
+/// Where the page of a round's cards is.
 pub(crate) fn cards_place(alloc: Global, id: RoundId) -> Result<Vec<u8>, AllocError>
     ensures { IfOk result (λ place. place.items ≡ cards_place id) }
 {
@@ -40,7 +40,7 @@ pub(crate) fn cards_place(alloc: Global, id: RoundId) -> Result<Vec<u8>, AllocEr
     Ok(place)
 }
 
-/// Where the page of a card stands that was sent.
+/// Where the page of a card is that was sent.
 fn place_of(alloc: Global, form: &CardForm) -> Result<Vec<u8>, AllocError>
     ensures { IfOk result (λ place. place.items ≡ card_place form.now) }
 {

@@ -81,7 +81,7 @@ fn other_in<'a>(outbox: &'a Outbox, entries: &'a [Entry]) -> Option<(&'a [u8], &
     None
 }
 
-/// Whether there is room for so many entries.
+/// Whether there is room for this many entries.
 pub(crate) fn has_room(outbox: &Outbox, count: usize) -> bool
     ensures { result ≡ has_room outbox.now.list count }
 {

@@ -54,7 +54,7 @@ pub(crate) fn fault_of(error: &io::Error) -> FileFault {
 }
 
 /// The file into which the lines of the journal are put. A contract sees the file, the bytes of its
-/// lines, and whether something may stand after them that could not be taken away.
+/// lines, and whether something may be after them that could not be taken away.
 #[derive(Drop)]
 pub struct JournalFile<D: Disk> {
     disk: D,
@@ -87,7 +87,7 @@ fn put<D: Disk>(disk: &mut D, bytes: &[u8]) -> bool
     disk.sync()
 }
 
-/// Takes away what stands after so many bytes, so that it is not there after a crash. False where
+/// Takes away what is after this many bytes, so that it is not there after a crash. False where
 /// that fails.
 fn cut_back<D: Disk>(disk: &mut D, length: u64) -> bool
     ensures { CutsBack result length (D.holds disk.old) (D.holds disk.new) }
@@ -100,8 +100,8 @@ fn cut_back<D: Disk>(disk: &mut D, length: u64) -> bool
 
 impl<D: Disk> JournalFile<D> {
     /// Puts lines, with their ends, after the others, so that they are there after a crash. False
-    /// where the file fails; then what stands after the others is taken away, and nothing more is
-    /// put there where that fails too. Also false where they would be 2^64 bytes and more.
+    /// where the file fails; then what is after the others is taken away, and nothing more is put
+    /// there where that fails too. Also false where they would be 2^64 bytes and more.
     pub(crate) fn keep(&mut self, lines: &[u8]) -> bool
         ensures { Keeps result lines.now self.old self.new }
     {
@@ -145,7 +145,7 @@ fn opened_file(rt: &HostRuntime, path: &str) -> Result<File, FileFault> {
     }
 }
 
-/// Makes sure that a file has its whole lines alone, of so many bytes, also after a crash: a part
+/// Makes sure that a file has its whole lines alone, of this many bytes, also after a crash: a part
 /// of a line is taken away where it was cut. What was read is synced: a program that was killed
 /// before its sync may have left lines that a crash would take. False where that fails.
 fn make_whole<D: Disk>(disk: &mut D, length: u64, cut: bool) -> bool
@@ -159,8 +159,8 @@ fn make_whole<D: Disk>(disk: &mut D, length: u64, cut: bool) -> bool
     }
 }
 
-/// The file of a journal over a file that has so many bytes of whole lines, after which a part of a
-/// line stands where it was cut.
+/// The file of a journal over a file that has this many bytes of whole lines, after which a part of
+/// a line is where it was cut.
 fn opened_over<D: Disk + Drop>(disk: D, length: u64, cut: bool) -> Result<JournalFile<D>, FileFault>
     requires { HasLines cut length (D.holds disk) }
     ensures { IfOk result (OpensOver length (D.holds disk)) }

@@ -28,7 +28,7 @@ pub fn foreign_requests_are_refused()
 /// A law: whatever is asked, whatever the loop does, and however often the program is started again
 /// after a crash, the items and the lines of the journal are what calls of the outbox make of them.
 /// So the laws of `outbox` are of the program: what is to be written to a desk is nothing but the
-/// end of a Submit, for this hall, of an entry whose line stands in the journal and is synced.
+/// end of a Submit, for this hall, of an entry whose line is in the journal and is synced.
 pub fn runs_are_of_the_outbox()
     ensures { RunsAreOfTheOutbox }
 {
@@ -36,17 +36,17 @@ pub fn runs_are_of_the_outbox()
 }
 
 /// A law: what a form was answered to be taken is in the list from then on, whatever is asked and
-/// whatever the loop does, and after a crash at any moment, whatever stands then in the file after
-/// what was synced.
+/// whatever the loop does, and after a crash at any moment, whatever is then in the file after what
+/// was synced.
 pub fn what_is_taken_stays()
     ensures { TakenStays }
 {
     loses_nothing();
 }
 
-/// A law: a card that is told to be saved at a position stands there, in every log that long: just
-/// before it the competitor's attempts were those that the card's page showed, and just after it
-/// they are the card's.
+/// A law: a card that is reported saved at a position is there, in every log that long: just before
+/// it the competitor's attempts were those that the card's page showed, and just after it they are
+/// the card's.
 pub fn saved_is_the_card()
     ensures { SavedIsTheCard }
 {

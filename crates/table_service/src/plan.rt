@@ -24,7 +24,7 @@ pub(crate) enum Problem {
     BadForm,
     /// The request is not from a page of the program's own: 403.
     Foreign,
-    /// No page stands at the path: 404.
+    /// No page is at the path: 404.
     NotFound,
     /// The path is not to be asked with this method: 405.
     Method,
@@ -87,7 +87,7 @@ impl Plan {
         }
     }
 
-    /// What stands at a path.
+    /// What is at a path.
     pub(crate) fn shown(reply: Reply) -> Plan
         ensures { result ≡ record { reply = reply; effect = Effect.Nothing } }
     {

@@ -1,4 +1,4 @@
-//! The pages that stand at paths.
+//! The pages that are at paths.
 
 ghost use Rattle.std.specs.Prelude.{◌≡◌, IfOk};
 ghost use Rattle.table_service.specs.Asked.{asked_at, card_asked, fixed, history_asked, in_folder};
@@ -16,7 +16,7 @@ const LAST_NUMBER: u64 = 9_999;
 pub(crate) enum View {
     /// `/`: all rounds.
     Overview,
-    /// `/card/333-1`: a card, with what stands of a competitor where `?number=17` names one.
+    /// `/card/333-1`: a card, with what counts of a competitor where `?number=17` names one.
     Card { round: RoundId, number: Option<u16> },
     /// `/wall/333-1`: the sheet for the wall.
     Wall(RoundId),
@@ -64,7 +64,7 @@ pub(crate) fn number_below(path: &[u8], folder: &[u8]) -> Option<u16>
     }
 }
 
-/// What stands at a path that names no round and no competitor, and has no query.
+/// What is at a path that names no round and no competitor, and has no query.
 fn fixed(path: &[u8]) -> Option<Asked>
     ensures { result ≡ fixed path.now }
 {
@@ -106,7 +106,7 @@ fn history_asked(alloc: Global, query: &[u8], round: RoundId) -> Result<Option<A
     }
 }
 
-/// What stands at the path of a round or of a competitor.
+/// What is at the path of a round or of a competitor.
 fn in_folder(alloc: Global, path: &[u8], query: &[u8]) -> Result<Option<Asked>, AllocError>
     ensures { IfOk result (λ asked. asked ≡ in_folder path.now query.now) }
 {
@@ -129,7 +129,7 @@ fn in_folder(alloc: Global, path: &[u8], query: &[u8]) -> Result<Option<Asked>, 
     }
 }
 
-/// What is asked for, if anything stands at the path.
+/// What is asked for, if anything is at the path.
 pub(crate) fn asked_at(
     alloc: Global,
     path: &[u8],

@@ -15,7 +15,7 @@ use table_views::Recent;
 /// How many of the items that are saved are shown.
 const MOST_SAVED: u8 = 10;
 
-/// By which entry the attempts of the competitor of a card stand as they do, if the text is one.
+/// By which entry the attempts of the competitor of a card count as they do, if the text is one.
 fn by_of(alloc: Global, mirror: &Mirror, entry: &Entry) -> Result<Option<u32>, AllocError>
     ensures { IfOk result (IsByOf mirror.now entry.now.text) }
 {
@@ -25,7 +25,7 @@ fn by_of(alloc: Global, mirror: &Mirror, entry: &Entry) -> Result<Option<u32>, A
     }
 }
 
-/// By which entry the attempts stand as they do that were changed meanwhile.
+/// By which entry the attempts count as they do that were changed meanwhile.
 fn by(
     alloc: Global,
     mirror: &Mirror,
@@ -40,7 +40,7 @@ fn by(
     }
 }
 
-/// Whether an item is shown of which this became, where so many more of those that are saved are.
+/// Whether an item is shown of which this became, where this many more of those that are saved are.
 fn is_shown(state: State, is_answered: bool, left: u8) -> bool
     ensures { result ≡ is_shown state is_answered left }
 {

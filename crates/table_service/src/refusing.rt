@@ -77,14 +77,14 @@ fn unfit(meet: &Meet, id: RoundId, now: &[Option<Entered>]) -> Option<Code>
     None
 }
 
-/// Whether these values are those that stand.
+/// Whether these values are those that count.
 fn are_values(was: &[Value], stand: &[Value]) -> bool
     ensures { result ≡ are_values was.now stand.now }
 {
     was == stand
 }
 
-/// Why what stands of a competitor is not what a card's writer saw.
+/// Why what counts of a competitor is not what a card's writer saw.
 fn seen_refusal(table: &RoundTable, card: &CardEntry) -> Option<Code>
     ensures { result ≡ seen_refusal card.entry.now.was (entrant table.now card.entry.now.number) }
 {

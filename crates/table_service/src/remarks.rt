@@ -1,4 +1,4 @@
-//! What stands behind what a table enters: its name, and the time of the machine's clock.
+//! What is behind what a table enters: its name, and the time of the machine's clock.
 
 ghost use Rattle.std.specs.Prelude.{◌≡◌, ◌++◌, IfOk, OnOk};
 ghost use Rattle.table_service.specs.Remarks.{is_table_name, remark_of, time_of_day};
@@ -18,7 +18,7 @@ pub fn is_table_name(bytes: &[u8]) -> bool
     bytes.len() <= MOST_NAME && is_clear_name(bytes)
 }
 
-/// Adds the time of the day, in UTC, of so many seconds since 1970.
+/// Adds the time of the day, in UTC, of this many seconds since 1970.
 fn push_time(text: &mut Vec<u8>, seconds: u64) -> Result<(), AllocError>
     ensures { OnOk result (text.new.items ≡ text.old.items ++ time_of_day seconds) }
 {
@@ -30,7 +30,7 @@ fn push_time(text: &mut Vec<u8>, seconds: u64) -> Result<(), AllocError>
     text.extend_from_slice(b" UTC")
 }
 
-/// The remark of what a table of this name enters, so many seconds after 1970: `A 14:05:33 UTC`.
+/// The remark of what a table of this name enters, this many seconds after 1970: `A 14:05:33 UTC`.
 /// Without the time where the clock does not tell it.
 pub(crate) fn remark_of(
     alloc: Global,

@@ -18,7 +18,7 @@ use table_views::{script, style};
 const POLICY: &str = "default-src 'none'; script-src 'self'; style-src 'self'; \
     connect-src 'self'; form-action 'self'; base-uri 'none'; frame-ancestors 'none'";
 
-/// The page that stands where no page does: it leads back.
+/// The page that is sent where there is no page: it leads back.
 const NOT_FOUND: &[u8] = b"\
 <!DOCTYPE html>
 <html lang=\"en\"><head><meta charset=\"utf-8\">

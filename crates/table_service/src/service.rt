@@ -37,8 +37,8 @@ use table_views::{Around, Desks};
 /// The most sets of ids that are kept.
 const MOST_SETS: usize = 64;
 
-/// Answers browsers with the pages of a mirror of a hall's log, and takes what they send: it stands
-/// in the journal, and will after a crash, before it is answered.
+/// Answers browsers with the pages of a mirror of a hall's log, and takes what they send: it is in
+/// the journal, and will be after a crash, before it is answered.
 #[derive(Drop)]
 pub struct TableService<D: Disk> {
     alloc: Global,
@@ -158,8 +158,8 @@ impl<D: Disk> TableService<D> {
     ghost use Rattle.outbox.specs.Outboxes.{DialogueLeads, aimed, looked};
     ghost use Rattle.wire.specs.Ranges.{IsDesk};
 
-    /// A service over a mirror and what was entered. What does not stand in the journal is left
-    /// out. Ids have to be given before it shows a page with a form.
+    /// A service over a mirror and what was entered. What is not in the journal is left out. Ids
+    /// have to be given before it shows a page with a form.
     pub fn new(
         alloc: Global,
         setup: Setup,

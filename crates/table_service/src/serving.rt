@@ -24,7 +24,7 @@ use std::time::Clock;
 pub enum End {
     /// The system doesn't tell what is ready any more.
     Failed,
-    /// Two desks of the hall told different entries for one position.
+    /// Two desks of the hall reported different entries for one position.
     Broken,
 }
 

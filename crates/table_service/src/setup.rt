@@ -1,4 +1,4 @@
-//! What a score table is told when it is started.
+//! What is said to a score table when it is started.
 
 ghost use Rattle.std.specs.Prelude.{◌≡◌, IfOk, string_bytes};
 ghost use Rattle.table_service.specs.Gate.{IsToken};
@@ -8,7 +8,7 @@ use std::io;
 use std::net::SocketAddr;
 use std::random::RandomSource;
 
-/// What a score table is told when it is started.
+/// What is said to a score table when it is started.
 #[derive(Drop)]
 pub struct Setup {
     /// The name of the hall, for paper.

@@ -76,7 +76,7 @@ fn typed_for(unit: Unit, limit: Option<u32>, value: Value) -> Option<Entered>
     }
 }
 
-/// What is to stand again at a place, counted from 0, where a card left these and those stood.
+/// What is to count again at a place, counted from 0, where a card left these and those stood.
 fn back_at(
     unit: Unit,
     limit: Option<u32>,
@@ -93,7 +93,7 @@ fn back_at(
     Some(Some(typed_for(unit, limit, stood?)?))
 }
 
-/// Puts what is to stand after the others.
+/// Puts what is to count after the others.
 fn put(now: &mut Vec<Option<Entered>>, outcome: Option<Entered>) -> Result<(), AllocError>
     ensures { OnOk result (now.new.items ≡ now.old.items ++ outcome ∷ []) }
 {
@@ -101,7 +101,7 @@ fn put(now: &mut Vec<Option<Entered>>, outcome: Option<Entered>) -> Result<(), A
     Ok(())
 }
 
-/// What is to stand again, where a card left these and those stood; none where it cannot be typed.
+/// What is to count again, where a card left these and those stood; none where it cannot be typed.
 fn back_of(
     alloc: Global,
     unit: Unit,

@@ -35,7 +35,7 @@ pub(crate) fn sent_before(
     Ok(number_between(1, MOST_ID, pairs.value("sent")))
 }
 
-/// Whether an item of which this became waits, since less than two seconds: it was taken so many
+/// Whether an item of which this became waits, since less than two seconds: it was taken this many
 /// milliseconds ago.
 fn waits_since(state: State, ago: u64) -> bool
     ensures { result ≡ waits_since state ago }
@@ -62,8 +62,8 @@ pub(crate) fn waits(outbox: &Outbox, mirror: &Mirror, now: u64, sent: Option<u64
     )
 }
 
-/// The page of a card of a round, which may stand after a form: while what was sent waits, up to
-/// two seconds, the page that waits stands in its place. None where the round was not opened.
+/// The page of a card of a round, which may be after a form: while what was sent waits, up to two
+/// seconds, the page that waits is in its place. None where the round was not opened.
 pub(crate) fn card_after(
     alloc: Global,
     outbox: &Outbox,

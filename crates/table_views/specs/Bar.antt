@@ -1,4 +1,4 @@
--- The bar of every page: how the desks are doing.
+-- The bar of every page: how the desks are doing (the project's own).
 use Rattle.std.specs.Prelude.{ℕ, ◌/◌, Bool, true, false, List, [], ◌∷◌, ◌++◌, codes, decimal}
 use Rattle.std.specs.Prelude.{flat_map, length, Option, None, Some, nat_le, if◌then◌else◌}
 use Rattle.markup.specs.Pieces.{joined}
@@ -21,7 +21,7 @@ abbrev pub too_long : Option ℕ → Option ℕ
 too_long None = None
 too_long (Some milliseconds) = if nat_le 2000 milliseconds then Some milliseconds else None
 
--- a desk that does not allow it lets look whoever has no key
+-- a desk that does not allow it lets callers without a key look
 abbrev pub refused_key : ClientRefusal → Option CallTrouble
 refused_key refusal.NotAllowed = Some trouble.HasKey
 refused_key refusal.Busy = None

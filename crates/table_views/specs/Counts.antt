@@ -1,4 +1,4 @@
--- Numbers of machines, in words.
+-- Numbers of machines, in words (the project's own).
 use Rattle.std.specs.Prelude.{ℕ, ◌==◌, if◌then◌else◌, List, codes}
 
 -- a number of machines, of which a hall has at most five
@@ -21,7 +21,7 @@ number_start count =
     else if count == 5 then codes "Five"
     else codes "Several"
 
--- what is said of so many machines that do not answer
+-- what is said of this many machines that do not answer
 abbrev pub are_away : ℕ → List ℕ
 are_away count =
     if count == 1 then codes " machine is away" else codes " machines are away"

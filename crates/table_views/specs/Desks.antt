@@ -1,18 +1,18 @@
--- What is known of the desks.
+-- What is known of the desks (the project's own).
 use Rattle.std.specs.Prelude.{ℕ, ◌/◌, ◌==◌, ◌&&◌, Bool, false, Option, None, Some}
 use Rattle.std.specs.Prelude.{nat_le, nat_lt, count_by, length}
 use Rattle.table_views.specs.declared.desks.Desks.{Desks}
 
--- a log of this length, where it is known, has so many entries
+-- a log of this length, where it is known, has this many entries
 abbrev pub holds : ℕ → Option ℕ → Bool
 holds position None = false
 holds position (Some length) = nat_le position length
 
--- how many desks are known to have so many entries
+-- how many desks are known to have this many entries
 abbrev pub holding : Desks → ℕ → ℕ
 holding desks position = count_by (holds position) desks.lengths.items
 
--- all desks of the hall are known to have so many entries
+-- all desks of the hall are known to have this many entries
 abbrev pub is_everywhere : Desks → ℕ → Bool
 is_everywhere desks position =
     nat_lt 0 (length desks.lengths.items)

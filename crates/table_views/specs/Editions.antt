@@ -1,4 +1,4 @@
--- Edition 4 of the commands, in which a scorecard is one command.
+-- Edition 4 of the commands, in which a scorecard is one command (the project's own).
 use Rattle.std.specs.Prelude.{ℕ, Bool, nat_le, List, [], ◌∷◌, ◌++◌, codes}
 use Rattle.commands.specs.Accepted.{edition_in}
 use Rattle.texts.specs.declared.command.Command.{Command}

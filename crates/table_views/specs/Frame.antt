@@ -1,11 +1,11 @@
--- The frame of every page.
+-- The frame of every page (the project's own).
 use Rattle.std.specs.Prelude.{ℕ, Bool, List, [], ◌∷◌, ◌++◌, codes, if◌then◌else◌, length}
 use Rattle.markup.specs.board_page.Escaped.{escaped}
 use Rattle.markup.specs.Pieces.{joined}
 use Rattle.table_views.specs.declared.around.Around.{Around}
 use Rattle.table_views.specs.Bar.{bar}
 
--- what stands before the title of a page, and after it
+-- what is before the title of a page, and after it
 unfoldable pub head_start : List ℕ
 head_start =
     codes "<!DOCTYPE html>\n<html lang=\"en\"><head><meta charset=\"utf-8\">\n"
@@ -34,7 +34,7 @@ links =
     ++ codes "<a href=\"/rounds\">open and close</a>\n"
     ++ codes "<a href=\"/people\">competitors</a></nav>\n"
 
--- what stands before the sections of a page
+-- what is before the sections of a page
 abbrev pub top : List ℕ → List ℕ → Around → List ℕ
 top class title around =
     head class title around.waits ++ links ++ bar around.desks.now (length around.mirror.now)

@@ -1,4 +1,4 @@
--- What a form carries unseen.
+-- What a form carries unseen (the project's own).
 use Rattle.std.specs.Prelude.{ℕ, List, [], ◌∷◌, codes, decimal}
 use Rattle.markup.specs.board_page.Escaped.{escaped}
 use Rattle.markup.specs.Pieces.{joined}

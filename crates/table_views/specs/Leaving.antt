@@ -1,4 +1,4 @@
--- Who can withdraw from a round.
+-- Who can withdraw from a round (the project's own).
 use Rattle.std.specs.Prelude.{ℕ, Bool, is_some, not}
 use Rattle.rounds.specs.Tables.{Table, withdraw_fault}
 

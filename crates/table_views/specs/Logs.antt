@@ -1,4 +1,4 @@
--- What a log comes to.
+-- What a log comes to (the project's own).
 use Rattle.std.specs.Prelude.{List}
 use Rattle.acceptor.specs.declared.entry.Entry.{Entry}
 use Rattle.answers.specs.Answers.{texts}

@@ -1,4 +1,4 @@
--- How the pages look, and what the script adds: the texts of the code.
+-- How the pages look, and what the script adds: the texts of the code (the project's own).
 use Rattle.std.specs.Prelude.{ℕ, List}
 use Rattle.table_views.specs.declared.looks.TheConstants.{STYLE, SCRIPT}
 

@@ -1,4 +1,4 @@
--- Competitors.
+-- Competitors (the project's own).
 use Rattle.std.specs.Prelude.{ℕ, List, [], Option, unwrap_or}
 use Rattle.texts.specs.declared.command.Command.{Command}
 use Rattle.texts.specs.Fields.{number_between}

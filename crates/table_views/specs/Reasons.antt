@@ -1,4 +1,4 @@
--- Why something waits, in words.
+-- Why something waits, in words (the project's own).
 use Rattle.std.specs.Prelude.{ℕ, ◌==◌, if◌then◌else◌, List, codes, Option, None, Some}
 use Rattle.wire.specs.declared.values.ClientRefusal.{ClientRefusal}
 use Rattle.wire.specs.declared.values.ClientRefusal.TheVariants as refusal

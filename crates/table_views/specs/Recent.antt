@@ -1,4 +1,4 @@
--- The cards and the commands of late, and what became of each.
+-- The cards and the commands of late, and what became of each (the project's own).
 use Rattle.std.specs.Prelude.{ℕ, zero, suc, ◌+◌, ◌-◌, ◌/◌, ◌==◌, ◌&&◌, List, [], ◌∷◌, ◌++◌}
 use Rattle.std.specs.Prelude.{Bool, true, false, codes, decimal, flat_map, length}
 use Rattle.std.specs.Prelude.{Option, None, Some, is_some, if◌then◌else◌}
@@ -38,7 +38,7 @@ competitor accepted number = joined (
     ∷ escaped (name_in accepted number) ∷ codes "</bdi></a>" ∷ []
     )
 
--- a link that opens the card again, to what stands of the competitor
+-- a link that opens the card again, to what counts of the competitor
 abbrev pub card_link : List Command → CardEntry → List ℕ
 card_link accepted card =
     codes "<a href=\"/card/" ++ round_name card.id ++ competitor accepted card.number
@@ -70,7 +70,7 @@ abbrev pub waits_words : ℕ → List ℕ
 waits_words milliseconds =
     joined (codes "waiting, " ∷ decimal (milliseconds / 1000) ∷ codes " s" ∷ [])
 
--- saved, while so many machines are away
+-- saved, while this many machines are away
 abbrev pub saved_but : ℕ → List ℕ
 saved_but zero = codes "saved"
 saved_but (suc count) =
@@ -80,7 +80,7 @@ abbrev pub saved_everywhere : ℕ → List ℕ
 saved_everywhere machines =
     joined (codes "saved on all " ∷ number_word machines ∷ codes " machines" ∷ [])
 
--- where the entry at a position stands: on all machines, if they are known to have it
+-- where the entry at a position is: on all machines, if they are known to have it
 abbrev pub saved_words : Desks → ℕ → List ℕ
 saved_words desks position =
     if is_everywhere desks (position + 1) then saved_everywhere (length desks.lengths.items)
@@ -89,7 +89,7 @@ saved_words desks position =
 abbrev pub value_words : Measure → Value → List ℕ
 value_words unit value = value_text unit value ++ codes " "
 
--- what stands now
+-- what counts now
 abbrev pub standing_words : Measure → List Value → List ℕ
 standing_words unit [] = codes "nothing stands now"
 standing_words unit (value ∷ values) =
@@ -98,7 +98,7 @@ standing_words unit (value ∷ values) =
 abbrev pub standing_of : List Command → CardEntry → List Value
 standing_of accepted card = standing accepted card.id card.number
 
--- what stands now of the competitor of a card
+-- what counts now of the competitor of a card
 abbrev pub stands_words : List Command → Option CardEntry → List ℕ
 stands_words accepted None = []
 stands_words accepted (Some card) =
@@ -125,14 +125,14 @@ state_words around recent card (state.OtherText position) =
 
 -- ---- what a scoretaker may answer
 
--- the form takes what was typed over what stands now, as the page shows it
+-- the form takes what was typed over what counts now, as the page shows it
 abbrev pub again_form : List ℕ → ℕ → List Value → List ℕ
 again_form token id values =
     codes "<form method=\"post\" action=\"/again\">" ++ hidden token id
     ++ codes "<input type=\"hidden\" name=\"was\" value=\"" ++ was_text values
     ++ codes "\"><button>Enter it over what stands now</button></form>\n"
 
--- where a card over these values has a spelling: where what was to stay stands
+-- where a card over these values has a spelling: where what was to stay counts
 abbrev pub again_if : Bool → List ℕ → ℕ → List Value → List ℕ
 again_if false token id values = []
 again_if true token id values = again_form token id values

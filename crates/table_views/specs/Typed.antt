@@ -1,4 +1,4 @@
--- A card as it was typed.
+-- A card as it was typed (the project's own).
 use Rattle.std.specs.Prelude.{ℕ, suc, List, [], ◌∷◌, ◌++◌, codes}
 use Rattle.std.specs.Prelude.{Option, None, Some}
 use Rattle.attempts.specs.declared.Unit.{Unit as Measure}

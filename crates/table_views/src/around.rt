@@ -10,7 +10,7 @@ use outbox::{Item, State};
 pub struct Recent<'a> {
     pub item: &'a Item,
     pub state: State,
-    /// The position of the entry by which the competitor's attempts stand as they do, where the
+    /// The position of the entry by which the competitor's attempts count as they do, where the
     /// item is a card that was refused since they were changed meanwhile.
     pub by: Option<u32>,
 }
@@ -29,13 +29,13 @@ pub struct Around<'a> {
     /// Ids for the forms of the page. The form of a card has the first one, and the others are
     /// spare.
     pub ids: &'a [FormId; 32],
-    /// What stands behind a card that is entered now: who entered it, and when.
+    /// What is behind a card that is entered now: who entered it, and when.
     pub remark: &'a [u8],
     /// What was sent of late, newest first, and all that was sent before and is not saved, until
     /// a scoretaker has answered it.
     pub recent: &'a [Recent<'a>],
     /// The milliseconds of the clock by which the items say since when they wait.
     pub now: u64,
-    /// Whether the page stands after the form of an item that waits, since less than two seconds.
+    /// Whether the page is after the form of an item that waits, since less than two seconds.
     pub waits: bool,
 }

@@ -32,13 +32,13 @@ pub(crate) enum Doing {
     Differs(Difference),
     /// No majority of the machines answers.
     Few,
-    /// The machine that is followed has not answered for so many milliseconds.
+    /// The machine that is followed has not answered for this many milliseconds.
     Silent(u64),
-    /// For so many milliseconds nothing was decided of what was entered.
+    /// For this many milliseconds nothing was decided of what was entered.
     Undecided(u64),
     /// A minority of the machines does not answer.
     Away,
-    /// Not every machine has said yet how it stands.
+    /// Not every machine has said yet how it is.
     Asked,
     /// All machines answer.
     Well,

@@ -31,7 +31,7 @@ pub(crate) fn number_start(count: usize) -> &'static [u8]
     }
 }
 
-/// What is said of so many machines that do not answer.
+/// What is said of this many machines that do not answer.
 pub(crate) fn are_away(count: usize) -> &'static [u8]
     ensures { result.now ≡ are_away count }
 {

@@ -20,7 +20,7 @@ pub struct Desks {
     /// How many entries the log of each desk has, by what it said last; one for each desk of the
     /// hall.
     pub lengths: Vec<Option<u32>>,
-    /// The numbers of the desks, in order, that do not say how they stand: that are not reached,
+    /// The numbers of the desks, in order, that do not say how they are: that are not reached,
     /// refuse, or said so last a second ago or longer.
     pub away: Vec<u8>,
     /// What is wrong with the table's key at the desk that was called last, where it is known.

@@ -60,7 +60,7 @@ fn push_head<'a>(
     )
 }
 
-/// Adds what stands before the sections of a page: its head with this title, the links, and how the
+/// Adds what is before the sections of a page: its head with this title, the links, and how the
 /// desks are doing. The class is one of the style.
 #[tactic(auto, unfolding(crate::specs::Frame::links))]
 pub fn push_top<'a>(
@@ -78,7 +78,7 @@ pub fn push_top<'a>(
     out.extend_from_slice(b"<main>\n")
 }
 
-/// Adds what stands after the sections of a page.
+/// Adds what is after the sections of a page.
 pub fn push_bottom(out: &mut Vec<u8>) -> Result<(), NoMemory>
     ensures { OnOk result (out.new.items ≡ out.old.items ++ bottom) }
 {

@@ -101,7 +101,7 @@ fn push_command(out: &mut Vec<u8>, text: &[u8]) -> Result<(), NoMemory>
     )
 }
 
-/// Adds what was sent: a card as it was typed, or a command as it stands.
+/// Adds what was sent: a card as it was typed, or a command as it is.
 fn push_item(
     out: &mut Vec<u8>,
     meet: &Meet,
@@ -132,7 +132,7 @@ fn push_waits(out: &mut Vec<u8>, milliseconds: u64) -> Result<(), NoMemory>
     )
 }
 
-/// Adds that an item is saved, while so many machines are away.
+/// Adds that an item is saved, while this many machines are away.
 fn push_saved_but(out: &mut Vec<u8>, away: usize) -> Result<(), NoMemory>
     ensures { OnOk result (out.new.items ≡ out.old.items ++ saved_but away) }
 {
@@ -149,7 +149,7 @@ fn push_saved_but(out: &mut Vec<u8>, away: usize) -> Result<(), NoMemory>
     )
 }
 
-/// Adds that an item is saved on all machines, so many.
+/// Adds that an item is saved on all machines, this many.
 fn push_everywhere(out: &mut Vec<u8>, machines: usize) -> Result<(), NoMemory>
     ensures { OnOk result (out.new.items ≡ out.old.items ++ saved_everywhere machines) }
 {
@@ -163,8 +163,8 @@ fn push_everywhere(out: &mut Vec<u8>, machines: usize) -> Result<(), NoMemory>
     )
 }
 
-/// Adds that an item is saved whose entry stands at this position: on all machines, where all are
-/// known to have it, and else how many are away.
+/// Adds that an item is saved whose entry is at this position: on all machines, where all are known
+/// to have it, and else how many are away.
 fn push_saved(out: &mut Vec<u8>, desks: &Desks, position: u32) -> Result<(), NoMemory>
     ensures { OnOk result (out.new.items ≡ out.old.items ++ saved_words desks.now position) }
 {
@@ -192,7 +192,7 @@ fn push_values(out: &mut Vec<u8>, unit: Unit, values: &[Value]) -> Result<(), No
     Ok(())
 }
 
-/// Adds what stands now.
+/// Adds what counts now.
 fn push_standing(out: &mut Vec<u8>, unit: Unit, values: &[Value]) -> Result<(), NoMemory>
     ensures { OnOk result (out.new.items ≡ out.old.items ++ standing_words unit values.now) }
 {
@@ -203,7 +203,7 @@ fn push_standing(out: &mut Vec<u8>, unit: Unit, values: &[Value]) -> Result<(), 
     out.extend_from_slice(b"stands now")
 }
 
-/// Adds what stands now of the competitor of a card.
+/// Adds what counts now of the competitor of a card.
 fn push_stands(out: &mut Vec<u8>, meet: &Meet, card: Option<&CardEntry>) -> Result<(), NoMemory>
     ensures { OnOk result (out.new.items
         ≡ out.old.items ++ stands_words meet.now.accepted (option_copied card.entry)) }
@@ -219,7 +219,7 @@ fn push_stands(out: &mut Vec<u8>, meet: &Meet, card: Option<&CardEntry>) -> Resu
     )
 }
 
-/// Adds by which entry of the log it stands so.
+/// Adds by which entry of the log it is so.
 fn push_by(out: &mut Vec<u8>, by: Option<u32>) -> Result<(), NoMemory>
     ensures { OnOk result (out.new.items ≡ out.old.items ++ by_words by) }
 {
@@ -235,8 +235,8 @@ fn push_by(out: &mut Vec<u8>, by: Option<u32>) -> Result<(), NoMemory>
     }
 }
 
-/// Adds what became of an item: that it waits, for so many seconds, and why, where that is long;
-/// that it is saved; what stands now, where that was changed meanwhile; or why it was refused.
+/// Adds what became of an item: that it waits, for this many seconds, and why, where that is long;
+/// that it is saved; what counts now, where that was changed meanwhile; or why it was refused.
 fn push_state(
     out: &mut Vec<u8>,
     around: &Around<'_>,
@@ -269,7 +269,7 @@ fn push_state(
 
 // ---- what a scoretaker may answer
 
-/// Adds the form that takes what was typed over what stands now.
+/// Adds the form that takes what was typed over what counts now.
 fn push_again(out: &mut Vec<u8>, token: &[u8], id: u64, values: &[Value]) -> Result<(), NoMemory>
     ensures { OnOk result (out.new.items
         ≡ out.old.items ++ again_form token.now id values.now) }
@@ -281,7 +281,7 @@ fn push_again(out: &mut Vec<u8>, token: &[u8], id: u64, values: &[Value]) -> Res
     out.extend_from_slice(b"\"><button>Enter it over what stands now</button></form>\n")
 }
 
-/// Whether something is entered for each attempt after those that stand, so many: so a card over
+/// Whether something is entered for each attempt after those that count, this many: so a card over
 /// them has a spelling.
 fn enters_later(stands: usize, now: &[Option<Entered>]) -> bool
     ensures { result ≡ enters_later stands now.now }
@@ -289,7 +289,7 @@ fn enters_later(stands: usize, now: &[Option<Entered>]) -> bool
     now.iter().skip(stands).all(|outcome| outcome.is_some())
 }
 
-/// Adds that form, where a card over what stands now has a spelling.
+/// Adds that form, where a card over what counts now has a spelling.
 fn push_again_of(
     out: &mut Vec<u8>,
     around: &Around<'_>,

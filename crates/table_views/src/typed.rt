@@ -84,7 +84,7 @@ pub fn push_entered(out: &mut Vec<u8>, entered: &Entered) -> Result<(), NoMemory
     }
 }
 
-/// Adds what stands at a place, counted from 0, if anything does.
+/// Adds what is at a place, counted from 0, if anything is.
 pub(crate) fn push_shown(
     out: &mut Vec<u8>,
     unit: Unit,

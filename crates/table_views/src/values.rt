@@ -1,4 +1,4 @@
-//! What stands of a competitor in a round.
+//! What counts of a competitor in a round.
 
 ghost use Rattle.std.specs.Prelude.{◌≡◌};
 ghost use Rattle.table_views.specs.Standing.{standing, values_of};
@@ -8,7 +8,7 @@ use commands::Meet;
 use rounds::RoundTable;
 use texts::RoundId;
 
-/// The values that stand of a competitor in a round; none where the competitor is not in it.
+/// The values that count of a competitor in a round; none where the competitor is not in it.
 pub fn values_of(table: &RoundTable, number: u16) -> &[Value]
     ensures { result.now ≡ values_of table.now number }
 {
@@ -18,7 +18,7 @@ pub fn values_of(table: &RoundTable, number: u16) -> &[Value]
     }
 }
 
-/// The values that stand of a competitor in a round; none where the round was not opened, or the
+/// The values that count of a competitor in a round; none where the round was not opened, or the
 /// competitor is not in it.
 pub fn standing(meet: &Meet, id: RoundId, number: u16) -> &[Value]
     ensures { result.now ≡ standing meet.now.accepted id number }

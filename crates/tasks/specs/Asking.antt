@@ -1,4 +1,5 @@
--- A desk that is asked once, for its newest sheet, or for its log, and its answer printed.
+-- A desk that is asked once, for its newest sheet, or for its log, and its answer printed (the
+-- project's own).
 use Rattle.std.specs.Prelude.{◌≡◌, ◌⊎◌, ℕ, Bool, true, false, List, Option, None}
 use Rattle.std.specs.Io.KnownBytes.{Keeps}
 use Rattle.arguments.specs.declared.places.Place.{Place}

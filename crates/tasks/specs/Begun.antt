@@ -1,4 +1,4 @@
--- Whether a hall's day has begun: what its desks tell that answer.
+-- Whether a hall's day has begun: what its desks tell that answer (the project's own).
 use Rattle.std.specs.Prelude.{◌≡◌, ◌⊎◌, ◌+◌, ◌-◌, ◌∷◌, ◌↔◌, ◌||◌, [], ℕ, Bool, true, false}
 use Rattle.std.specs.Prelude.{IsTrue, List, Option, Result, Ok, max, slice_index}
 use Rattle.std.specs.Borrow.{Bor}
@@ -16,8 +16,8 @@ use Rattle.wire.specs.declared.frame.What.TheVariants as what
 use Rattle.tasks.specs.Standings.{Asks}
 use Rattle.tasks.specs.declared.begun.Known.{Known}
 
--- what a desk tells that was asked how it stands: the length of its log, and that which it was told
--- by the desk of this number
+-- what a desk says that was asked how it is: the length of its log, and that which the desk of this
+-- number reported to it
 abbrev pub known_by : ℕ → Result What BatchFault → Known
 known_by lost (Ok (what.Standing s)) =
     record { answers = true; have = s.length; had = slice_index (lengths_of s.told) (lost - 1) }

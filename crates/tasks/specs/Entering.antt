@@ -1,4 +1,4 @@
--- A command, or those of an input, entered at a desk.
+-- A command, or those of an input, entered at a desk (the project's own).
 use Rattle.std.specs.Prelude.{◌≡◌, ◌⊎◌, ℕ, Bool, true, List, Option, None, Some, IsTrue, codes}
 use Rattle.std.specs.Borrow.{Bor}
 use Rattle.std.specs.Io.KnownBytes.{Keeps}

@@ -1,4 +1,5 @@
--- The files of a hall that are made: its file, its keys, and a folder for each machine.
+-- The files of a hall that are made: its file, its keys, and a folder for each machine (the
+-- project's own).
 use Rattle.std.specs.Prelude.{◌≡◌, ◌⊎◌, ◌++◌, ◌∷◌, [], ℕ, List, Option, codes}
 use Rattle.std.specs.Io.KnownBytes.{Appends}
 use Rattle.errands.specs.Statuses.{status_of}
@@ -27,7 +28,7 @@ names_in (Desk number) = Hall ∷ Key ∷ EntryKey ∷ []
 names_in Table = Hall ∷ EntryKey ∷ []
 names_in Board = Hall ∷ []
 
--- the hall's file names the key that stands beside it
+-- the hall's file names the key that is beside it
 abbrev pub hall_text : Texts → Folder → List ℕ
 hall_text texts Here = texts.desk.items
 hall_text texts (Desk number) = texts.desk.items

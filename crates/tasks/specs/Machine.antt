@@ -1,5 +1,5 @@
 -- What is printed after a report of what else has to fit before the day: the desks' programs, and
--- this machine's clock, room and keys.
+-- this machine's clock, room and keys (the project's own).
 use Rattle.std.specs.Prelude.{◌≡◌, ◌⊎◌, ◌+◌, ◌/◌, ◌%◌, ◌++◌, ◌∷◌, [], ℕ, Bool, true, false, max}
 use Rattle.std.specs.Prelude.{List, Option, None, Some, codes, decimal}
 use Rattle.std.specs.Borrow.{Bor}
@@ -48,7 +48,7 @@ SayPrograms q desk (address ∷ addresses) text old new =
 abbrev pub two_digits : ℕ → List ℕ
 two_digits n = decimal (n / 10) ++ decimal (n % 10)
 
--- the time of the day, of so many seconds since 1970: `its clock says 14:05:33 UTC`
+-- the time of the day, of this many seconds since 1970: `its clock says 14:05:33 UTC`
 abbrev pub clock_line : Option ℕ → List ℕ
 clock_line None = codes "this machine: its clock can't be read\n"
 clock_line (Some seconds) =
@@ -74,14 +74,14 @@ IsKeyLine file path line =
     × (line ≡ codes "this machine: " ++ path ++ codes " has a key\n"))
     ⊎ ((fault : KeyFileFault) × RefusesAt file fault × SaysNoKey fault path line)
 
--- that is said of a file of this name that stands beside the hall's file, of whose bytes nothing is
+-- that is said of a file of this name that is beside the hall's file, of whose bytes nothing is
 -- told
 abbrev pub IsKeyBeside : (file name line : List ℕ) → Type 0
 IsKeyBeside file name line = IsKeyLine None (path_join (folder_of file) name) line
 
 -- ---- all of it
 
--- the lines, of the desks of an inquiry and of the machine where the hall's file stands at this path
+-- the lines, of the desks of an inquiry and of the machine where the hall's file is at this path
 pub record SaysAll (q : Inquiry) (file text : List ℕ) (old new : Option (List Dialed)) : Type 0 where
   pub programs : List ℕ
   pub clock : Option ℕ

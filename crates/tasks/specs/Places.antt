@@ -1,4 +1,4 @@
--- A task that asks a desk: the desk is found, and then it is asked.
+-- A task that asks a desk: the desk is found, and then it is asked (the project's own).
 use Rattle.std.specs.Prelude.{◌≡◌, ◌⊎◌, ℕ, List, Option, string_bytes}
 use Rattle.addressing.specs.Resolving.{FailsToResolve, Outside, Resolves}
 use Rattle.addressing.specs.declared.resolving.DeskAddress.{DeskAddress}

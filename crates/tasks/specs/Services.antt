@@ -1,4 +1,4 @@
--- What is asked of a desk that is to serve the hall of a file.
+-- What is asked of a desk that is to serve the hall of a file (the project's own).
 use Rattle.std.specs.Prelude.{◌≡◌, ◌⊎◌, ℕ, Bool, true, false, List, Option, None, Some, codes, map}
 use Rattle.std.specs.Prelude.{option_map}
 use Rattle.std.specs.Borrow.{Bor}

@@ -1,4 +1,4 @@
--- How the desks of a hall stand, printed once or again and again.
+-- How the desks of a hall are, printed once or again and again (the project's own).
 use Rattle.std.specs.Prelude.{◌≡◌, ◌⊎◌, ◌≤◌, ℕ, Bool, true, false, List, Option, length, map}
 use Rattle.std.specs.Prelude.{option_map, codes}
 use Rattle.std.specs.Io.KnownBytes.{Keeps}
@@ -33,8 +33,8 @@ EndsInquiry status q form true o =
     ⊎ ((f : DeskFault) × (status ≡ status_of f) × FailsWatch f form q o)
 
 -- A report was printed, or that failed; after it the lines were printed about the desks' programs
--- and the machine where the hall's file stands at this path, and the status is that of the report,
--- or 4 where that failed.
+-- and the machine where the hall's file is at this path, and the status is that of the report, or 4
+-- where that failed.
 pub record EndsAll (file : List ℕ) (status : ℕ) (q : Inquiry) (form : Form) (o : Outside)
     : Type 0 where
   pub report : ℕ
@@ -54,7 +54,7 @@ abbrev pub EndsAsked : (all : Bool) → (file : List ℕ) → ℕ → Inquiry �
 EndsAsked true file status q form watches o = EndsAll file status q form o
 EndsAsked false file status q form watches o = EndsInquiry status q form watches o
 
--- these desks of this hall are asked, each for so long, under this key, or without one
+-- these desks of this hall are asked, each for this long, under this key, or without one
 pub record Asks (q : Inquiry) (hall : ℕ) (addresses : List (List ℕ)) (key : Option (List ℕ))
     (patience : ℕ) : Type 0 where
   pub hall_is : q.hall ≡ hall
@@ -79,7 +79,7 @@ EndsUnasked Is status o =
 abbrev pub EndsFile : ℕ → Naming → Outside → Type 0
 EndsFile status n o = EndsUnasked (λ f. IsOfFile f ⊎ IsKeyless n f) status o
 
--- where no file describes the hall, its file would stand as `hall.toml` where the program runs
+-- where no file describes the hall, its file would be as `hall.toml` where the program runs
 abbrev pub EndsStatus : Desks → ℕ → Form → (watches all : Bool) → ℕ → Outside → Type 0
 EndsStatus (desks.Addresses hall addresses key) patience form watches all status o =
     EndsUnasked (FailsKey (option_map (λ k. k.now) key)) status o

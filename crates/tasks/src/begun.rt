@@ -21,11 +21,11 @@ struct Known {
     answers: bool,
     /// The greatest length of a log that one has.
     have: u32,
-    /// The greatest length that one was told by the desk whose store is to be made.
+    /// The greatest length that the desk whose store is to be made reported to one.
     had: u32,
 }
 
-/// What a desk tells that was asked how it stands, of the one of this number, too.
+/// What a desk tells that was asked how it is, of the one of this number, too.
 fn known_by(lost: u8, answer: &Result<What, BatchFault>) -> Known
     ensures { result ≡ known_by lost answer.now }
 {
@@ -58,7 +58,7 @@ fn joined(one: Known, more: Known) -> Known
     }
 }
 
-/// Asks at an address how the desk of a number stands.
+/// Asks at an address how the desk of a number is.
 fn ask_one<D: Dial>(
     alloc: Global,
     dial: &mut D,
@@ -106,8 +106,8 @@ fn ask_all<D: Dial>(
     joined(one, more)
 }
 
-/// Whether none that answers has a command, or was told of one, and one answers, or the whole hall
-/// is new.
+/// Whether none that answers has a command, or heard of one, and one answers, or the whole hall is
+/// new.
 fn may_begin(known: Known, new_hall: bool) -> bool
     ensures { IsTrue result ↔ MayBegin new_hall known }
 {
@@ -142,8 +142,8 @@ fn tell_known<F: Write>(faults: &mut F, known: Known, desk: u8, may: bool)
 }
 
 /// Asks the desks of a hall whether its day has begun, before the store of the desk of this number
-/// is made, and returns whether it may be: none that answers has a command, or was told of one by
-/// this desk; and one answers, or all desks of the hall are new. Where it may not, a line says so.
+/// is made, and returns whether it may be: none that answers has a command, or heard of one by this
+/// desk; and one answers, or all desks of the hall are new. Where it may not, a line says so.
 pub fn may_make<D: Dial, F: Write>(
     alloc: Global,
     dial: &mut D,

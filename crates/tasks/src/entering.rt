@@ -99,8 +99,8 @@ fn text_of(alloc: Global, words: &[&str]) -> Result<String, DeskFault>
     }
 }
 
-/// Whether a text may be entered: of one that has to be a command, and is none, `faults` is told
-/// what is wrong with it.
+/// Whether a text may be entered: of one that has to be a command, and is none, `faults` gets what
+/// is wrong with it.
 fn fit<F: Write>(
     alloc: Global,
     id: Option<u64>,
@@ -117,10 +117,10 @@ fn fit<F: Write>(
     may_enter(alloc, text, faults)
 }
 
-/// Enters a command at a desk, whose words stand between single spaces, and returns the exit
-/// status: 1 where it was waited for and refused. Where it is waited for, and where it has no id, a
-/// text that is no command in any edition is not entered: `faults` is told what is wrong with it,
-/// and no desk is asked.
+/// Enters a command at a desk, whose words are between single spaces, and returns the exit status:
+/// 1 where it was waited for and refused. Where it is waited for, and where it has no id, a text
+/// that is no command in any edition is not entered: `faults` gets what is wrong with it, and no
+/// desk is asked.
 pub fn enter_words_at<D: Dial, W: Write, F: Write>(
     rt: &HostRuntime,
     dial: &mut D,

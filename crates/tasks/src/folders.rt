@@ -91,7 +91,7 @@ struct Texts {
 }
 
 impl Texts {
-    /// The text of a file in a folder: the hall's file names the key that stands beside it.
+    /// The text of a file in a folder: the hall's file names the key that is beside it.
     fn of(&self, folder: Folder, file: File) -> &[u8]
         ensures { result.now ≡ text_of self.now folder file }
     {

@@ -60,7 +60,7 @@ fn two_digits(alloc: Global, number: u64) -> Result<String, AllocError>
     format!(in alloc; "{tens}{ones}")
 }
 
-/// The line of this machine's clock, so many seconds after 1970, or where it can't be read.
+/// The line of this machine's clock, this many seconds after 1970, or where it can't be read.
 fn clock_line(alloc: Global, clock: Option<u64>) -> Result<String, AllocError>
     ensures { IfOk result (λ line. string_bytes line ≡ clock_line clock) }
 {
@@ -75,7 +75,7 @@ fn clock_line(alloc: Global, clock: Option<u64>) -> Result<String, AllocError>
     )
 }
 
-/// The line of the disk on which the hall's file stands.
+/// The line of the disk on which the hall's file is.
 fn room_line(alloc: Global, file: &str, found: Option<Finding<'_>>) -> Result<String, AllocError>
     ensures { IfOk result (λ line. string_bytes line ≡ room_line file.now found.entry) }
 {
@@ -100,7 +100,7 @@ fn key_line<R: KeyFiles + AllocGlobal>(rt: &R, path: &str) -> Result<String, All
     }
 }
 
-/// That of the key's file of a name that stands beside the hall's file.
+/// That of the key's file of a name that is beside the hall's file.
 fn key_beside(rt: &HostRuntime, file: &str, name: &str) -> Result<String, AllocError>
     ensures { IfOk result (λ line. IsKeyBeside file.now name.now (string_bytes line)) }
 {
@@ -130,7 +130,7 @@ fn lines_of<D: Dial>(
 }
 
 /// Prints of each desk whether its program is of this version, and of this machine what its clock
-/// says, whether the disk has room on which the hall's file stands, and which keys stand beside it.
+/// says, whether the disk has room on which the hall's file is, and which keys are beside it.
 ///
 /// # Errors
 ///

@@ -26,7 +26,7 @@ impl<'a> Reached<'a> {
     }
 }
 
-/// Whether the desk of a number says how it stands, asked over a connection of its own.
+/// Whether the desk of a number says how it is, asked over a connection of its own.
 fn is_reached(rt: &HostRuntime, hall: &HallFile, key: Option<[u8; 32]>, desk: u8) -> bool {
     let Some(address) = hall.address_of(desk) else {
         return false;
@@ -53,7 +53,7 @@ fn push_digit(text: &mut Vec<u8>, number: u8) -> Result<(), AllocError> {
     Ok(())
 }
 
-/// What is said where so many desks of a hall of so many answer, of which the last is this one.
+/// What is said if this many desks answer in a hall of this many, and this one is the last of them.
 fn sentence(alloc: Global, count: u8, last: u8, desks: u8) -> Result<Vec<u8>, AllocError> {
     let mut text = Vec::new(alloc);
     let majority = desks / 2 + 1;

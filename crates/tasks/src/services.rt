@@ -16,7 +16,7 @@ use std::io::ErrorKind;
 /// The name of the file with the entry key, beside a hall's file.
 const ENTRY_KEY: &str = "entry.key";
 
-/// Whether something stands at a path.
+/// Whether something is at a path.
 fn is_there(rt: &HostRuntime, path: &str) -> bool {
     match fs::metadata(rt, path) {
         Ok(_) => true,

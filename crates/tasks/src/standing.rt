@@ -1,4 +1,4 @@
-//! How the desks of a hall stand.
+//! How the desks of a hall are.
 
 ghost use Rattle.std.specs.Prelude.{◌≡◌, ◌≤◌, false, length, map, IfOk, OnErr, OnOk};
 ghost use Rattle.errands.specs.Polling.{outside};
@@ -20,8 +20,8 @@ use std::io::Write;
 /// The path of a hall's file where none describes the hall.
 const HALL_FILE: &str = "hall.toml";
 
-/// In which form the desks are told of, whether again each second, and whether what else has to fit
-/// is told after the desks.
+/// In which form the desks are reported, whether again each second, and whether what else has to
+/// fit is reported after the desks.
 #[derive(Clone, Copy)]
 pub struct Watching {
     pub form: Form,
@@ -60,7 +60,7 @@ fn status_after<F: Write>(faults: &mut F, status: u8, printed: Result<(), WriteF
 }
 
 /// Asks the desks of an inquiry once, prints what else has to fit of them and of this machine, on
-/// which the hall's file stands at this path, and returns the exit status.
+/// which the hall's file is at this path, and returns the exit status.
 fn inquire_all<D: Dial, W: Write, F: Write>(
     rt: &HostRuntime,
     dial: &mut D,
@@ -117,7 +117,7 @@ pub fn addresses_of<'a>(alloc: Global, hall: &'a HallFile) -> Result<Vec<&'a str
     Ok(texts)
 }
 
-/// Asks the desks of a hall how they stand, prints a report on them, and returns the exit status:
+/// Asks the desks of a hall how they are, prints a report on them, and returns the exit status:
 /// that of [`print_standings`], or that of a fault. Where the hall's file describes none, or its
 /// key is not to be had, it says so. Where all is wanted, it prints after the report of each desk
 /// whether its program is of this version, and of this machine what its clock says, whether there

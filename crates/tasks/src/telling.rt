@@ -30,7 +30,7 @@ pub(crate) fn tell_asked<F: Write>(
 }
 
 /// Says why no desk was found that could be asked, and returns the exit status. What is wrong with
-/// a hall's file was told before.
+/// a hall's file was written before.
 pub fn tell_missing<F: Write>(
     rt: &HostRuntime,
     faults: &mut F,

@@ -1,4 +1,4 @@
--- Which bytes stand in the spellings of fields.
+-- Which bytes are in the spellings of fields.
 use Rattle.std.proofs.Common.{◌≡◌, ℕ, ◌<◌, Bool, true, false, ◌&&◌, ◌==◌, not, List, [], ◌∷◌, ◌++◌}
 use Rattle.std.proofs.Common.{map, All, get_or, codes, decimal, bytes_eq, Option, Some, None, refl}
 use Rattle.std.proofs.Common.{sym, ap, ◌∙◌, arith, eqb-true}

@@ -1,4 +1,4 @@
--- What stands in a scorecard is read from its one spelling.
+-- What is in a scorecard is read from its one spelling.
 use Rattle.std.proofs.Common.{◌≡◌, ℕ, zero, suc, ◌*◌, ◌≤◌, Bool, true, false, cond, nat_le, not}
 use Rattle.std.proofs.Common.{◌==◌, List, []}
 use Rattle.std.proofs.Common.{◌∷◌, length, map, All, get_or, codes, decimal, bytes_eq, Option, Some}
@@ -282,7 +282,7 @@ pub was_is : (bytes : List ℕ) → bytes_eq bytes (codes "-") ≡ false
 unfolding was_of
 was_is bytes other = rw other refl
 
--- the outcomes, where those that stay are among so many that stand
+-- the outcomes, where those that stay are among this many that count
 pub now_is : (stands : ℕ) (bytes : List ℕ) (o : Option (List (Option Entered)))
     → bytes_eq bytes (codes "-") ≡ false
     → o ≡ option_and_then at_most_5 (all_of (map stays_or_of (parts 47 bytes)))

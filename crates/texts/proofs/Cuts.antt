@@ -16,7 +16,7 @@ abbrev pub behind : ℕ → Option (List ℕ) → List ℕ
 behind by None = []
 behind by (Some bytes) = by ∷ bytes
 
--- a text is what stands before the byte, and what is left after that
+-- a text is what is before the byte, and what is left after that
 pub cut_spelled : (by : ℕ) (bytes : List ℕ) → bytes ≡ (cut by bytes).0 ++ behind by (cut by bytes).1
 unfolding cut
 cut_spelled by bytes = step (position (λ b. b == by) bytes) refl

@@ -56,7 +56,7 @@ row_from word row left is =
     step (Err fault.NotACommand) read h = absurd h
     step (Err fault.NoMemory) read h = absurd h
 
--- What is said where no word stands is said of no word.
+-- What is said where no word is is said of no word.
 
 not_found : (word : List ℕ) (rs : List TheRow)
     → (find (λ row. bytes_eq row.word word) rs ≡ None)

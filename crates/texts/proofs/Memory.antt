@@ -157,7 +157,7 @@ first_part k j ks last =
     let both = and-true (not (is_rest k)) (is_rest_last (j ∷ ks)) last in
     (not-true _ both.0, both.1)
 
--- nothing stands after a field that is the rest
+-- nothing is after a field that is the rest
 nothing_after : (ks : List FieldKind) (i : ℕ) (k : FieldKind) (rest : List FieldKind)
     → is_rest_last ks ≡ true → drop i ks ≡ k ∷ rest → is_rest k ≡ true → rest ≡ []
 nothing_after [] zero k rest last at is = absurd (let bad : [] ≡ k ∷ rest = at in cc)

@@ -19,7 +19,7 @@ use Rattle.texts.specs.Names.{is_name_character, is_clear_name, is_name_in, is_n
 use Rattle.texts.proofs.Cuts.{and-true, lacks}
 use Rattle.texts.proofs.FieldSpellings.{early_name_short, new_name_short}
 
--- a byte that stands nowhere in a text is none of it
+-- a byte that is nowhere in a text is none of it
 lacks_each : (by : ℕ) (xs : List ℕ) → ((k : ℕ) → k < length xs → get_or xs k 0 ≢ by)
     → lacks by xs ≡ true
 lacks_each by [] each = refl
@@ -31,7 +31,7 @@ lacks_each by (x ∷ xs) each =
     step false is = refl
     step true is = absurd (each zero (omega arith) (grind (arith, nat_tests)))
 
--- a byte of ASCII stands in the bytes of characters only where it is one of them
+-- a byte of ASCII is in the bytes of characters only where it is one of them
 one_lacks : (by c : ℕ) → by < 128 → not (c == by) ≡ true → lacks by (encode_utf8 c) ≡ true
 one_lacks by c small other = lacks_each by (encode_utf8 c) none
   where

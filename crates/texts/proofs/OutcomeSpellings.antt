@@ -130,7 +130,7 @@ not_started bytes = cond (bytes_eq bytes (codes "DNS")) (Some Dns) (times bytes)
 abbrev IsRead : List ℕ → Entered → Type 0
 IsRead bytes x = IsEntered x × (bytes ≡ entered_text x)
 
--- a letter and a colon, and what they stand in front of
+-- a letter and a colon, and what they are in front of
 lettered : (letter bytes text : List ℕ) → bytes_eq (take 2 bytes) letter ≡ true
     → letter ++ ((cut 58 (drop 2 bytes)).0 ++ behind 58 (cut 58 (drop 2 bytes)).1) ≡ text
     → bytes ≡ text

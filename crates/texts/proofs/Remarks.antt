@@ -68,7 +68,7 @@ cut_remark_found (b ∷ text) remark h =
     rw (more_text b text remark)
     (rw (begins_not b text remark both.1) (rw (cut_remark_found text remark both.1) refl))
 
--- what was cut, with bytes in front that stand before any ` # `
+-- what was cut, with bytes in front that are before any ` # `
 abbrev pub with_front : List ℕ → List ℕ × Option (List ℕ) → List ℕ × Option (List ℕ)
 with_front front p = (front ++ p.0, p.1)
 

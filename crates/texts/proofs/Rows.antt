@@ -181,14 +181,14 @@ values_plain stands (k ∷ ks) (v ∷ vs) fits none =
 
 -- ---- the rows
 
--- no remark can stand after these fields: there are none, or a ` # ` may stand in one
+-- no remark can be after these fields: there are none, or a ` # ` may be in one
 abbrev pub bars_remark : List FieldKind → Bool
 bars_remark [] = true
 bars_remark (k ∷ ks) = list_any may_have_mark (k ∷ ks)
 
 -- the row of a tag: it is there, its word has no space and names it, it has at most six fields, of
 -- which only the last may be all that is left, only moves can make what it spells too long, and no
--- field has a ` # ` where a remark may stand
+-- field has a ` # ` where a remark may be
 pub record IsRow (t : Tag) : Type 0 where
   pub row : TheRow
   pub is : row_of t ≡ Some row
@@ -278,7 +278,7 @@ named_row word row is =
           it.marks;
     }
 
--- where a remark may stand no field has a ` # `
+-- where a remark may be no field has a ` # `
 pub no_mark : (row : TheRow) → (row.takes_remark && bars_remark row.fields) ≡ false
     → row.takes_remark ≡ true → list_any may_have_mark row.fields ≡ false
 no_mark row marks takes = step row.fields row.takes_remark takes marks

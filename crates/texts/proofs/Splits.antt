@@ -18,7 +18,7 @@ pub not-true : (b : Bool) → not b ≡ true → b ≡ false
 not-true false h = refl
 not-true true h = absurd (false≢true h)
 
--- what stands between the bytes
+-- what is between the bytes
 abbrev pub parts : ℕ → List ℕ → List (List ℕ)
 parts by bytes = slice_split (λ b. b == by) bytes
 

@@ -138,7 +138,7 @@ value_short stands kind.Outcome _ none fits = absurd (let bad : true ≡ false =
 value_short stands kind.Now _ none fits = absurd (let bad : true ≡ false = none in cc)
 value_short _ _ _ none fits = absurd fits
 
--- ` # ` may stand in it
+-- ` # ` may be in it
 abbrev pub may_have_mark : FieldKind → Bool
 may_have_mark kind.Name = true
 may_have_mark kind.NewName = true

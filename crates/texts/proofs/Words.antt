@@ -125,7 +125,7 @@ before_spelled true (Some bytes) =
     ap (λ y. 32 ∷ y) (cut_remark_spelled bytes)
     ∙ sym (more_text 32 (cut_remark bytes).0 (cut_remark bytes).1)
 
--- a remark is cut off only where one may stand
+-- a remark is cut off only where one may be
 takes_where_cut : (takes : Bool) (left : Option (List ℕ)) (bytes : List ℕ)
     → (before_remark takes left).1 ≡ Some bytes → takes ≡ true
 takes_where_cut true left bytes h = refl
@@ -286,7 +286,7 @@ abbrev left_told : List FieldValue → Option (List ℕ) → Option (List ℕ)
 left_told [] remark = None
 left_told (v ∷ vs) remark = Some (with_remark_text (value_text v ++ values_text vs) remark)
 
--- a remark stands where one may stand
+-- a remark is where one may be
 abbrev HasItsPlace : Bool → List FieldValue → Option (List ℕ) → Type 0
 HasItsPlace takes vs None = Unit {0}
 HasItsPlace takes [] (Some remark) = ⊥

@@ -1,4 +1,5 @@
--- The fields of commands, as `Spelling` spells them. Each is read from its bytes, or is misspelt.
+-- The fields of commands, as `Spelling` spells them (the project's own). Each is read from its
+-- bytes, or is misspelt.
 use Rattle.std.specs.Prelude.{ℕ, ◌+◌, ◌==◌, if◌then◌else◌, List, [], ◌∷◌, map, flat_map, find}
 use Rattle.std.specs.Prelude.{length, nat_le, take, drop, position, bytes_eq, codes, decimal}
 use Rattle.std.specs.Prelude.{Option, Some, None, Bool, is_some}
@@ -25,7 +26,7 @@ use Rattle.texts.specs.declared.command.Entered.TheVariants as entered
 use Rattle.texts.specs.Numerals.{digits_value, within}
 use Rattle.texts.specs.Names.{is_name, is_name_in}
 
--- What stands before the first of a byte, and what stands after it, where it is there.
+-- What is before the first of a byte, and what is after it, where it is there.
 abbrev pub cut_at : List ℕ → Option ℕ → List ℕ × Option (List ℕ)
 cut_at bytes None = (bytes, None)
 cut_at bytes (Some i) = (take i bytes, Some (drop (i + 1) bytes))
@@ -121,7 +122,7 @@ abbrev pub time_of : List ℕ × Option (List ℕ) → Option Entered
 time_of parts =
     option_map time_with (two_numbers (number_between 1 999999) (number_between 0 9) parts)
 
--- solved cubes of so many in so many seconds, where they are no more than these
+-- solved cubes of this many in this many seconds, where they are no more than these
 abbrev pub multi_with : ℕ → ℕ × ℕ → Option Entered
 multi_with solved rest =
     if nat_le solved rest.0 then Some (entered.Multi solved rest.0 rest.1) else None
@@ -181,21 +182,21 @@ was_of bytes =
     if bytes_eq bytes (codes "-") then Some []
     else option_and_then at_most_5 (all_of (map counted_of (slice_split (λ b. b == 44) bytes)))
 
--- what is entered for an attempt, or `=` where it stays as it stands
+-- what is entered for an attempt, or `=` where it stays as it is
 abbrev pub stays_or_of : List ℕ → Option (Option Entered)
 stays_or_of bytes =
     if bytes_eq bytes (codes "=") then Some None else option_map Some (entered_of bytes)
 
--- where so many attempts stand, something is entered for each later one
+-- where this many attempts count, something is entered for each later one
 abbrev pub enters_later : ℕ → List (Option Entered) → Bool
 enters_later stands now = list_all is_some (drop stands now)
 
--- at most five, of which those that stay are among so many that stand
+-- at most five, of which those that stay are among this many that count
 abbrev pub over : ℕ → List (Option Entered) → Option (List (Option Entered))
 over stands now = if enters_later stands now then at_most_5 now else None
 
--- the attempts that are to stand, with a slash between two of them, or `-` for none; those that
--- stay are among so many that stand
+-- the attempts that are to count, with a slash between two of them, or `-` for none; those that
+-- stay are among this many that count
 unfoldable pub now_of : ℕ → List ℕ → Option (List (Option Entered))
 now_of stands bytes =
     if bytes_eq bytes (codes "-") then Some []
@@ -207,7 +208,7 @@ card_entry id number was now = record { id = id; number = number; was = was; now
 
 -- Remarks.
 
--- what stands before the first ` # `, and what stands after it, where it is there
+-- what is before the first ` # `, and what is after it, where it is there
 abbrev pub cut_remark : List ℕ → List ℕ × Option (List ℕ)
 cut_remark [] = ([], None)
 cut_remark (b ∷ bs) =

@@ -1,4 +1,4 @@
--- Texts of decimal digits, and numbers in a range.
+-- Texts of decimal digits, and numbers in a range (the project's own).
 use Rattle.std.specs.Prelude.{ℕ, ◌+◌, ◌-◌, ◌*◌, ◌&&◌, nat_le, if◌then◌else◌, List, fold}
 use Rattle.std.specs.Prelude.{Option, Some, None}
 

@@ -1,4 +1,4 @@
--- A command as its tag and the values of its fields.
+-- A command as its tag and the values of its fields (the project's own).
 use Rattle.std.specs.Prelude.{ℕ, List, [], ◌∷◌, Option, None, Some, slice_get}
 use Rattle.attempts.specs.declared.Value.{Value}
 use Rattle.cube.specs.declared.moves.Move.{Move}
@@ -49,7 +49,7 @@ lent (lending.Now now) = value.Now now.now
 abbrev pub Parts : Type 0
 Parts = Tag × List FieldValue
 
--- a round, and what stands after it
+-- a round, and what is after it
 abbrev pub in_round : RoundId → List FieldValue → List FieldValue
 in_round id vs = value.Event id.event ∷ value.Round id.round ∷ vs
 

@@ -1,4 +1,4 @@
--- The command that a text spells, or the first fault from the left.
+-- The command that a text spells, or the first fault from the left (the project's own).
 use Rattle.std.specs.Prelude.{◌≡◌, ◌≤◌, ◌<◌, ℕ, ◌+◌, nat_lt, Bool, true, false, ◌||◌, if◌then◌else◌}
 use Rattle.std.specs.Prelude.{IsTrue, List, [], ◌∷◌, length, Option, Some, None, is_some}
 use Rattle.std.specs.Prelude.{option_map, Result, Ok, Err}
@@ -27,10 +27,10 @@ abbrev pub ◌>>=◌ : {A B : Type 0} → Result A CommandFault → (A → Resul
 (Ok x) >>= f = f x
 (Err e) >>= f = Err e
 
--- The fields. What is left of a text stands after a space; where nothing is left the next field is
+-- The fields. What is left of a text is after a space; where nothing is left the next field is
 -- missing.
 
--- the value that bytes spell, where they spell one of the kind, and so many attempts stand
+-- the value that bytes spell, where they spell one of the kind, and this many attempts count
 abbrev pub value_of : ℕ → FieldKind → List ℕ → Option FieldValue
 value_of _ kind.Number bytes = option_map value.Number (number_between 1 9999 bytes)
 value_of _ kind.Name bytes = option_map value.Name (name_of bytes)
@@ -65,7 +65,7 @@ abbrev pub no_field : ℕ → Option (List ℕ) → Result (Unit {0}) CommandFau
 no_field index None = Ok tt
 no_field index (Some bytes) = Err (fault.BadField index)
 
--- the values of fields of these kinds, the first of which has this index; so many attempts stand
+-- the values of fields of these kinds, the first of which has this index; this many attempts count
 abbrev pub values_of : ℕ → List FieldKind → ℕ → Option (List ℕ)
     → Result (List FieldValue) CommandFault
 values_of stands [] index left = do

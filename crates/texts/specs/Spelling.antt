@@ -61,12 +61,12 @@ abbrev pub was_text : List Value → List ℕ
 was_text [] = codes "-"
 was_text (v ∷ vs) = join_with_byte 44 (map counted_text (v ∷ vs))
 
--- what is to stand for an attempt; `=` where it stays as it stands
+-- what is to count for an attempt; `=` where it stays as it is
 abbrev pub stays_or_text : Option Entered → List ℕ
 stays_or_text None = codes "="
 stays_or_text (Some x) = entered_text x
 
--- the attempts that are to stand, with a slash between two of them; `-` where there is none
+-- the attempts that are to count, with a slash between two of them; `-` where there is none
 abbrev pub now_text : List (Option Entered) → List ℕ
 now_text [] = codes "-"
 now_text (x ∷ xs) = join_with_byte 47 (map stays_or_text (x ∷ xs))
@@ -157,13 +157,13 @@ IsCounted counted.Dns = Unit {0}
 abbrev pub AreCounted : List Value → Type 0
 AreCounted vs = IsWithin 0 5 (length vs) × All IsCounted vs
 
--- of so many attempts that stand some may stay; something is entered for each later one
+-- of this many attempts that count some may stay; something is entered for each later one
 abbrev pub AreToStand : ℕ → List (Option Entered) → Type 0
 AreToStand stands now =
     IsWithin 0 5 (length now) × All (λ x. IfSome x IsEntered) now
     × IsTrue (enters_later stands now)
 
--- a value is of a kind, and in its range, where so many attempts stand
+-- a value is of a kind, and in its range, where this many attempts count
 abbrev pub Fits : ℕ → FieldKind → FieldValue → Type 0
 Fits _ kind.Number (value.Number n) = IsWithin 1 9999 n
 Fits _ kind.Name (value.Name name) = IsTrue (is_name name)
@@ -182,7 +182,7 @@ Fits _ kind.Was (value.Was was) = AreCounted was
 Fits stands kind.Now (value.Now now) = AreToStand stands now
 Fits _ _ _ = ⊥
 
--- how many attempts stand by a value that says what they count, or else as many as were said before
+-- how many attempts count by a value that says what they count, or else as many as were said before
 abbrev pub standing : ℕ → FieldValue → ℕ
 standing stands (value.Was was) = length was
 standing stands _ = stands

@@ -1,4 +1,4 @@
--- The table of commands: the constant of the code, and what is looked up in it.
+-- The table of commands: the constant of the code, and what is looked up in it (the project's own).
 use Rattle.std.specs.Prelude.{ℕ, ◌+◌, ◌-◌, Bool, true, false, not, ◌&&◌, if◌then◌else◌}
 use Rattle.std.specs.Prelude.{List, [], ◌∷◌, map, find, bytes_eq, slice_get}
 use Rattle.std.specs.Prelude.{Option, None, Some}
@@ -23,7 +23,7 @@ is_rest kind.Outcome = true
 is_rest kind.Now = true
 is_rest _ = false
 
--- moves may stand in it, as many as a text has room for
+-- moves may be in it, as many as a text has room for
 abbrev pub has_moves : FieldKind → Bool
 has_moves kind.Moves = true
 has_moves kind.Outcome = true
@@ -79,7 +79,7 @@ same_tag = sameb the_type
 abbrev pub row_of : Tag → Option TheRow
 row_of tag = find (λ row. same_tag row.tag tag) rows
 
--- what stands in it
+-- what is in it
 
 abbrev pub word_in : Option TheRow → List ℕ
 word_in None = []
@@ -101,13 +101,13 @@ takes_remark_in (Some row) = row.takes_remark
 abbrev pub kind_at : List ℕ → ℕ → Option FieldKind
 kind_at word index = slice_get (fields_in (row_named word)) (index - 1)
 
--- where the first field stands that memory is taken for while it is read, counted from an index; 0
+-- where the first field is that memory is taken for while it is read, counted from an index; 0
 -- where none does
 abbrev pub kept_at : ℕ → List FieldKind → ℕ
 kept_at index [] = 0
 kept_at index (k ∷ ks) = if is_kept k then index else kept_at (index + 1) ks
 
--- no field stands after one that is all that is left
+-- no field is after one that is all that is left
 abbrev pub is_rest_last : List FieldKind → Bool
 is_rest_last [] = true
 is_rest_last (k ∷ []) = true

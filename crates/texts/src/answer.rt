@@ -18,7 +18,7 @@ pub enum Code {
     RoundUnknown,
     /// The round was opened before.
     RoundOpen,
-    /// The number of competitors does not allow so many rounds.
+    /// The number of competitors does not allow that many rounds.
     RoundsRule,
     /// The event does not have the format.
     FormatNotAllowed,
@@ -54,7 +54,7 @@ pub enum Code {
     HasAttempts,
     /// The round is not closed.
     NotClosed,
-    /// Other attempts stand than the writer of the card saw.
+    /// Other attempts count than the writer of the card saw.
     Changed,
 }
 

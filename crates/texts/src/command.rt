@@ -135,8 +135,8 @@ impl Was {
     }
 }
 
-/// The attempts that are to stand, in order: at most five, each what a judge enters, or nothing
-/// where it stays as it stands.
+/// The attempts that are to count, in order: at most five, each what a judge enters, or nothing
+/// where it stays as it is.
 #[derive(Drop)]
 pub struct Now {
     outcomes: Vec<Option<Entered>>,
@@ -168,7 +168,7 @@ impl Now {
 }
 
 /// A scorecard: what its writer saw of the attempts of a competitor in a round, and the attempts
-/// that are to stand.
+/// that are to count.
 #[derive(Drop)]
 pub struct CardEntry {
     pub id: RoundId,
@@ -256,7 +256,7 @@ pub enum Command {
     Reopen {
         id: RoundId,
     },
-    /// `CARD`: all attempts of a competitor in a round at once, where what stands is what the
+    /// `CARD`: all attempts of a competitor in a round at once, where what counts is what the
     /// writer of the card saw.
     Card(CardEntry),
     /// `FIX`: the same in a closed round, which stays closed.
@@ -267,7 +267,7 @@ pub enum Command {
     },
 }
 
-/// A command, and the remark that stands behind it: who entered it, when, why. A remark is told and
+/// A command, and the remark that is behind it: who entered it, when, why. A remark is shown and
 /// not believed: nothing depends on it.
 #[derive(Drop)]
 pub struct Remarked {

@@ -52,7 +52,7 @@ const MOST_COUNTED: u32 = 990_599_949;
 /// The longest attempt of multi-blind, in seconds.
 const MOST_SECONDS: u16 = 5999;
 
-/// Where the first of a byte stands.
+/// Where the first of a byte is.
 fn place_of(bytes: &[u8], by: u8) -> Option<usize>
     ensures value { result ≡ position (λ b. b == by) bytes.now }
     ensures within { IfSome result (λ place. place < length bytes.now) }
@@ -60,7 +60,7 @@ fn place_of(bytes: &[u8], by: u8) -> Option<usize>
     bytes.iter().position(|byte| *byte == by)
 }
 
-/// What stands in front of the first of a byte, and what stands after it, where it is there.
+/// What is in front of the first of a byte, and what is after it, where it is there.
 #[tactic(auto, unfolding(crate::specs::Fields::cut))]
 pub fn cut(bytes: &[u8], by: u8) -> (&[u8], Option<&[u8]>)
     ensures { (result.0.now, option_map (λ s. s.now) result.1) ≡ cut by bytes.now }
@@ -261,7 +261,7 @@ pub fn was_of(alloc: Global, bytes: &[u8]) -> Result<Option<Was>, NoMemory>
     }
 }
 
-/// What is entered for an attempt, or `=` where it stays as it stands.
+/// What is entered for an attempt, or `=` where it stays as it is.
 fn stays_or_of(alloc: Global, bytes: &[u8]) -> Result<Option<Option<Entered>>, NoMemory>
     ensures { IfOk result (λ outcome. outcome ≡ stays_or_of bytes.now) }
 {
@@ -274,7 +274,7 @@ fn stays_or_of(alloc: Global, bytes: &[u8]) -> Result<Option<Option<Entered>>, N
     }
 }
 
-/// Whether something is entered for each attempt after those that stand, so many.
+/// Whether something is entered for each attempt after those that count, this many.
 fn enters_later(stands: usize, now: &[Option<Entered>]) -> bool
     ensures { result ≡ enters_later stands now.now }
 {
@@ -306,8 +306,8 @@ fn outcomes_of(alloc: Global, bytes: &[u8]) -> Result<Option<Vec<Option<Entered>
     }
 }
 
-/// The attempts that are to stand, with a slash between two of them, or `-` for none. Those that
-/// stay are among those that stand, so many.
+/// The attempts that are to count, with a slash between two of them, or `-` for none. Those that
+/// stay are among those that count, this many.
 #[tactic(auto, unfolding(crate::specs::Fields::now_of))]
 pub fn now_of(alloc: Global, stands: usize, bytes: &[u8]) -> Result<Option<Now>, NoMemory>
     ensures { IfOk result (λ now. now ≡ now_of stands bytes.now) }
@@ -324,7 +324,7 @@ pub fn now_of(alloc: Global, stands: usize, bytes: &[u8]) -> Result<Option<Now>,
     Ok(Some(Now::new(outcomes)))
 }
 
-/// What stands in front of the first ` # `, and what stands after it, where it is there.
+/// What is in front of the first ` # `, and what is after it, where it is there.
 pub fn cut_remark(bytes: &[u8]) -> (&[u8], Option<&[u8]>)
     ensures { (result.0.now, option_map (λ s. s.now) result.1) ≡ cut_remark bytes.now }
 {

@@ -169,7 +169,7 @@ pub fn push_was(out: &mut Vec<u8>, was: &[Value]) -> Result<(), NoMemory>
     Ok(())
 }
 
-/// What is to stand for an attempt.
+/// What is to count for an attempt.
 fn push_stays_or(
     alloc: Global,
     out: &mut Vec<u8>,
@@ -183,7 +183,7 @@ fn push_stays_or(
     }
 }
 
-/// The attempts that are to stand, with a slash between two of them.
+/// The attempts that are to count, with a slash between two of them.
 fn push_now(alloc: Global, out: &mut Vec<u8>, now: &[Option<Entered>]) -> Result<(), NoMemory>
     ensures { OnOk result (out.new.items ≡ out.old.items ++ now_text now.now) }
 {

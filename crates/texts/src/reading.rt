@@ -38,7 +38,7 @@ const MOST_TEXT: usize = 600;
 pub enum CommandFault {
     /// The text has more than 600 bytes.
     TooLong,
-    /// What stands before the first space is no word of a command.
+    /// What is before the first space is no word of a command.
     NotACommand,
     /// The first field, from the left, that is missing or misspelt; or, where all are right, the
     /// one too many, or the remark, as the field after the last one.
@@ -137,7 +137,7 @@ fn now_value(alloc: Global, stands: usize, bytes: &[u8]) -> Result<Option<FieldV
     }
 }
 
-/// The value that bytes spell, where they spell one of a kind, and so many attempts stand.
+/// The value that bytes spell, where they spell one of a kind, and this many attempts count.
 fn value_of(
     alloc: Global,
     stands: usize,
@@ -193,7 +193,7 @@ fn value_of(
     }
 }
 
-/// The bytes of a field that stands in front, and what is left after it.
+/// The bytes of a field that is in front, and what is left after it.
 fn field_of(kind: FieldKind, bytes: &[u8]) -> (&[u8], Option<&[u8]>)
     ensures { (result.0.now, option_copied result.1) ≡ field_of kind bytes.now }
 {
@@ -221,7 +221,7 @@ fn next_of(
     Ok((value, left))
 }
 
-/// How many attempts stand by a value that says what they count, or else as many as were said
+/// How many attempts count by a value that says what they count, or else as many as were said
 /// before.
 fn standing(stands: usize, value: &FieldValue) -> usize
     ensures { result ≡ standing stands value.now }
@@ -333,7 +333,7 @@ fn is_too_long(text: &[u8]) -> bool
 /// The command that a text spells, with its remark: a word and its fields, parted by one space
 /// each, and a remark after ` # `, where the command may have one; of at most 600 bytes in all. The
 /// spellings are those of all editions, and [`is_spelled_in`](crate::is_spelled_in) says which
-/// edition has which of them. The faults stand in the order of `CommandFault`; that of a remark is
+/// edition has which of them. The faults are in the order of `CommandFault`; that of a remark is
 /// the field after the last one. Memory is taken for a name, for moves, for a scorecard and for a
 /// remark.
 pub fn read(alloc: Global, text: &[u8]) -> Result<Remarked, CommandFault>

@@ -3,7 +3,7 @@
 ghost use Rattle.std.specs.Prelude.{◌≡◌, bytes_eq, find, map, option_map};
 ghost use Rattle.texts.specs.Table.{is_rest, kind_at, plain, row_named, row_of, same_tag};
 
-/// What stands in a field of a command.
+/// What is in a field of a command.
 #[derive(Clone, Copy)]
 pub enum FieldKind {
     Number,
@@ -19,9 +19,9 @@ pub enum FieldKind {
     Moves,
     Outcome,
     Edition,
-    /// What the attempts that stand count.
+    /// The values of the attempts that count.
     Was,
-    /// The attempts that are to stand. Those that stay are among those of the field before.
+    /// The attempts that are to count. Those that stay are among those of the field before.
     Now,
 }
 
@@ -67,7 +67,7 @@ pub enum Tag {
 /// A row of the table: a command.
 #[derive(Clone, Copy)]
 pub struct Row<Word, Fields> {
-    /// What stands before the first space.
+    /// What is before the first space.
     pub word: Word,
     /// The edition since which it is.
     pub since: u8,

@@ -140,7 +140,7 @@ fn now_in(value: Option<FieldValue>) -> Option<Now>
     }
 }
 
-/// The event and the round that stand in front.
+/// The event and the round that are in front.
 fn id_in(first: Option<FieldValue>, second: Option<FieldValue>) -> Option<RoundId>
     ensures { result ≡ id_in first second }
 {

@@ -8,7 +8,7 @@ use formats::{Advance, Event, Format};
 /// The most fields of a command.
 pub(crate) const MOST_FIELDS: usize = 6;
 
-/// What stands in a field of a command, as it was read.
+/// What is in a field of a command, as it was read.
 #[derive(Drop)]
 pub enum FieldValue {
     Number(u16),
@@ -28,13 +28,13 @@ pub enum FieldValue {
 }
 
 impl Default for FieldValue {
-    /// What stands in the places of a list of values that are not taken.
+    /// What is in the places of a list of values that are not taken.
     fn default() -> Self {
         FieldValue::Number(0)
     }
 }
 
-/// What stands in a field of a command that is there.
+/// What is in a field of a command that is there.
 #[derive(Drop)]
 pub enum LentValue<'a> {
     Number(u16),
@@ -54,7 +54,7 @@ pub enum LentValue<'a> {
 }
 
 impl<'a> Default for LentValue<'a> {
-    /// What stands in the places of a list of values that are not taken.
+    /// What is in the places of a list of values that are not taken.
     fn default() -> Self {
         LentValue::Number(0)
     }

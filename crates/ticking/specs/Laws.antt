@@ -1,4 +1,4 @@
--- Laws of tickers.
+-- Laws of tickers (the project's own).
 use Rattle.std.specs.Prelude.{◌≡◌, ◌⊎◌, ◌↔◌, ℕ, zero, suc, ◌+◌, ◌*◌, ◌≤◌, ◌<◌, min, Bool, true}
 use Rattle.std.specs.Prelude.{false, List, [], ◌∷◌, ◌++◌, IsTrue, IsFalse}
 use Rattle.std.specs.List.{AllByRecursion}
@@ -129,7 +129,7 @@ pub record AreFellows (a b : Ticking) : Type 0 where
   pub others : ¬ (a.desk ≡ b.desk)
   pub since : a.since ≡ b.since
 
--- one moment comes so long after the other
+-- one moment comes this long after the other
 abbrev pub AreApart : ℕ → ℕ → ℕ → Type 0
 AreApart gap m n = (m + gap ≤ n) ⊎ (n + gap ≤ m)
 
@@ -145,7 +145,7 @@ AreSpread a b waiting = IsReached a → IsReached b → AreFellows a b → AreDu
 abbrev pub due_look : Ticking → Look
 due_look t = record { log = t.log; queued = 1; now = due_at t true }
 
--- the moment of a Tick after so many others, where each is taken when it is due
+-- the moment of a Tick after this many others, where each is taken when it is due
 abbrev pub tick_at : Ticking → ℕ → ℕ
 tick_at t zero = due_at t true
 tick_at t (suc k) = tick_at (after t (due_look t)) k

@@ -1,4 +1,4 @@
--- When a desk takes a Tick of itself. Times are milliseconds.
+-- When a desk takes a Tick of itself (the project's own). Times are milliseconds.
 use Rattle.std.specs.Prelude.{ℕ, ◌+◌, ◌-◌, ◌*◌, ◌/◌, ◌≤◌, min, max, Bool, false, not, ◌&&◌, ◌||◌}
 use Rattle.std.specs.Prelude.{nat_le, nat_lt, if◌then◌else◌, List, [], ◌∷◌}
 
@@ -6,7 +6,7 @@ use Rattle.std.specs.Prelude.{nat_le, nat_lt, if◌then◌else◌, List, [], ◌
 abbrev pub IsPeriod : ℕ → Type 0
 IsPeriod n = (100 ≤ n) × (n ≤ 60000)
 
--- the number of a desk, of so many desks
+-- the number of a desk, of this many desks
 pub record IsDesk (desk desks : ℕ) : Type 0 where
   pub first : 1 ≤ desk
   pub last : desk ≤ desks

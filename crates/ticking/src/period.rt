@@ -33,7 +33,7 @@ impl Period {
 
     const LONGEST: u32 = 60_000;
 
-    /// The period of so many milliseconds. None: they are fewer than 100 or more than 60,000.
+    /// The period of this many milliseconds. None: they are fewer than 100 or more than 60,000.
     pub fn new(milliseconds: u32) -> Option<Period>
         ensures { SomeIff result (IsPeriod milliseconds) milliseconds }
     {

@@ -57,7 +57,7 @@ impl Model for Ticker {
 
 impl Ticker {
     /// A ticker of the desk with this number, 1 to the number of desks, which is at most 5, whose
-    /// log is so long. Its time counts from the moment `now`, in milliseconds.
+    /// log is this long. Its time counts from the moment `now`, in milliseconds.
     pub fn new(period: Period, desk: u8, desks: u8, log: u32, now: u64) -> Ticker
         requires { IsDesk desk desks }
         ensures { result ≡ new_ticker period desk desks log now }
@@ -102,9 +102,9 @@ impl Ticker {
         u64::from(u32::from(self.factor(waiting)) * self.first_pause())
     }
 
-    /// Looks at the desk at the moment `now`, in milliseconds: its log is so long, and in its queue
-    /// wait so many commands. Returns whether a Tick is to be taken now. If so, it is counted as
-    /// taken.
+    /// Looks at the desk at the moment `now`, in milliseconds: its log is this long, and in its
+    /// queue wait this many commands. Returns whether a Tick is to be taken now. If so, it is
+    /// counted as taken.
     ///
     /// Where `now` is before an earlier moment, no time has passed.
     pub fn look(&mut self, log: u32, queued: u8, now: u64) -> bool

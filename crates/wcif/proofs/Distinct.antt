@@ -66,7 +66,7 @@ name_free how events everyone earlier p none accepted =
     (front_none _ (events_faults events (event_ids p))
     (map_none _ _ (rw accepted at none))))
 
--- the first that passes is this one, or stands behind
+-- the first that passes is this one, or is behind
 pub found_at : (b : Bool) (x p : Data) (rest : Option Data) → cond b (Some x) rest ≡ Some p
     → ((b ≡ true) × (x ≡ p)) ⊎ (rest ≡ Some p)
 found_at true x p rest h = let same : x ≡ p = cc in inl (refl, same)

@@ -1,4 +1,4 @@
--- What stands after accepted commands: the people, the edition and the rounds; and what one more
+-- What is after accepted commands: the people, the edition and the rounds; and what one more
 -- command makes of it.
 use Rattle.std.proofs.Common.{◌≡◌, ◌≤◌, ◌==◌, ◌&&◌, ℕ, zero, suc, Bool, true, false, cond}
 use Rattle.std.proofs.Common.{List, [], ◌∷◌, ◌++◌, Option, Some, None, unwrap_or, refl, ap, ◌∙◌}

@@ -56,7 +56,7 @@ pub adds_none : {B : Type 0} (f : List Data → Data → List B) (old : List B)
     → old ≡ old ++ told f []
 adds_none f old = sym (ap (λ more. old ++ more) (told_none f) ∙ append-nil old)
 
--- how many stand in front
+-- how many are in front
 pub in_front : (vs : List Value) (i : ℕ) → i < length vs → length (map view (take i vs)) ≡ i
 in_front vs i within =
     length-map (take i vs) view ∙ length-take-le i vs (omega arith)

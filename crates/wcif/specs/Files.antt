@@ -1,4 +1,4 @@
--- A competition from the bytes of a file: JSON in UTF-8, within limits.
+-- A competition from the bytes of a file: JSON in UTF-8, within limits (the project's own).
 use Rattle.std.specs.Prelude.{◌≡◌, ◌≢◌, ◌≤◌, ◌<◌, ℕ, if◌then◌else◌, List, [], ◌∷◌, length, take}
 use Rattle.std.specs.Prelude.{drop}
 use Rattle.std.specs.Prelude.{bytes_eq, Some, None}

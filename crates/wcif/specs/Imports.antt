@@ -1,4 +1,4 @@
--- Why a competition is not imported.
+-- Why a competition is not imported (the project's own).
 use Rattle.std.specs.Prelude.{◌≡◌, ◌≢◌, List, []}
 use Rattle.wcif.specs.declared.fault.Fault.{Fault}
 use Rattle.wcif.specs.declared.importing.ImportFault.{ImportFault}

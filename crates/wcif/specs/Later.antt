@@ -1,5 +1,5 @@
 -- What an import says of rounds that it does not open: later rounds as the file has them, and
--- rounds from which nobody advances, though the file has a next one.
+-- rounds from which nobody advances, though the file has a next one (the project's own).
 use Rattle.std.specs.Prelude.{◌≡◌, ℕ, ◌-◌, Bool, true, false, ◌&&◌, nat_lt, if◌then◌else◌, List, []}
 use Rattle.std.specs.Prelude.{◌∷◌, ◌++◌, length, flat_map, slice_get, codes, Option, Some, None}
 use Rattle.std.specs.Prelude.{unwrap_or}
@@ -33,7 +33,7 @@ is_final (Percent n) = false
 abbrev pub opening_later : RoundId → Settings → List Later
 opening_later id s = if nat_lt 1 id.round then Opening id s ∷ [] else []
 
--- nobody advances from a round, of so many of its event, and there is a next one
+-- nobody advances from a round, of this many of its event, and there is a next one
 abbrev pub final_later : ℕ → RoundId → Settings → List Later
 final_later count id s =
     if is_final s.advance && nat_lt id.round count then Final id ∷ [] else []

@@ -1,4 +1,4 @@
--- What holds of the commands of a competition of which a desk can hold all.
+-- What holds of the commands of a competition of which a desk can hold all (the project's own).
 use Rattle.std.specs.Prelude.{◌≡◌, ◌≤◌, ◌==◌, ℕ, Bool, true, false, List, [], ◌∷◌, ◌++◌, map}
 use Rattle.std.specs.Prelude.{filter, find, Option, Some, None, slice_get, All, codes}
 use Rattle.std.specs.List.{list_any, slice_split}

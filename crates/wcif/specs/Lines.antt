@@ -1,4 +1,4 @@
--- Commands as lines.
+-- Commands as lines (the project's own).
 use Rattle.std.specs.Prelude.{ℕ, List, ◌++◌, codes, flat_map}
 use Rattle.texts.specs.declared.command.Command.{Command}
 use Rattle.texts.specs.Spelling.{spelling}

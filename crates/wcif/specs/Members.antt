@@ -1,4 +1,5 @@
--- What stands in a JSON value: members by their names, and what kind of value they are.
+-- What is in a JSON value: members by their names, and what kind of value they are (the project's
+-- own).
 use Rattle.std.specs.Prelude.{ℕ, List, [], ◌∷◌, Option, Some, None}
 use Rattle.std.specs.Option.{option_and_then, option_map}
 use Rattle.serde_json.specs.Data.{Data, null, boolean, number, string, array, object, Items}

@@ -1,4 +1,4 @@
--- What is said of the items of a list, one after the other.
+-- What is said of the items of a list, one after the other (the project's own).
 use Rattle.std.specs.Prelude.{ℕ, ◌+◌, List, [], ◌∷◌, ◌++◌, length}
 
 -- f says something of an item, given those in front of it

@@ -131,7 +131,7 @@ fn push_rounds(
     push_each_round(alloc, how, faults, event, rounds)
 }
 
-/// Adds that an event stands in front too.
+/// Adds that an event is in front too.
 fn push_repeated(faults: &mut Vec<Fault>, event: Event, earlier: &[Value]) -> Result<(), NoMemory>
     ensures { OnOk result
         (faults.new.items ≡ faults.old.items ++ repeated_faults event (map view earlier.now)) }

@@ -69,7 +69,7 @@ pub enum PersonFault {
     /// The item of the list at this place, from 1, is no event of the file.
     #[error("event {item} of the registration is not held")]
     NotHeld { item: usize },
-    /// The item of the list at this place, from 1, stands in front of it too.
+    /// The item of the list at this place, from 1, is in front of it too.
     #[error("event {item} of the registration stands there twice")]
     EnteredTwice { item: usize },
 }
@@ -80,7 +80,7 @@ pub enum EventFault {
     /// It is no event of a desk.
     #[error("the desk has no such event")]
     Unknown,
-    /// It stands in the list more than once.
+    /// It is in the list more than once.
     #[error("the event stands there twice")]
     Repeated,
     /// More than 999 accepted persons are registered for it.

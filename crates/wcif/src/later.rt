@@ -87,7 +87,7 @@ fn settings_at(
     }
 }
 
-/// Adds what is said of a round with these settings, of an event with so many rounds.
+/// Adds what is said of a round with these settings, of an event with this many rounds.
 fn push_held(
     later: &mut Vec<Later>,
     count: usize,

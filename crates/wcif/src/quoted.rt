@@ -1,4 +1,4 @@
-//! A text of a competition's file that is told.
+//! A text of a competition's file that is shown.
 
 ghost use Rattle.std.specs.Prelude.{◌≡◌, IfOk};
 
@@ -7,7 +7,7 @@ use std::alloc::Global;
 use std::fmt;
 use std::marker::Model;
 
-/// A text as it is told: in double quotes, with escapes for what is not seen. A character that is
+/// A text as it is shown: in double quotes, with escapes for what is not seen. A character that is
 /// cut at its end is left out.
 #[derive(Debug, Drop)]
 pub struct Quoted {
@@ -23,7 +23,7 @@ impl Model for Quoted {
 }
 
 impl Quoted {
-    /// A text to be told, copied.
+    /// A text to be shown, copied.
     pub fn of(alloc: Global, text: &[u8]) -> Result<Self, NoMemory>
         ensures { IfOk result (λ told. told ≡ text.now) }
     {

@@ -149,7 +149,7 @@ fn limit_in(how: CumulativeLimits, event: Event, round: &Value) -> Result<Option
     }
 }
 
-/// So many of the ranking.
+/// This many of the ranking.
 fn ranking_of(condition: &Value) -> Result<Advance, RoundFault>
     ensures { result ≡ level_of MOST_ENTRANTS TopOf (view condition.now) }
 {
@@ -159,7 +159,7 @@ fn ranking_of(condition: &Value) -> Result<Advance, RoundFault>
     }
 }
 
-/// So many in a hundred.
+/// This many in a hundred.
 fn percent_of(condition: &Value) -> Result<Advance, RoundFault>
     ensures { result ≡ level_of MOST_PERCENT PercentOf (view condition.now) }
 {

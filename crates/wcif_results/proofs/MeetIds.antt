@@ -32,7 +32,7 @@ own = numerals_by_value (AllDigits 10) tells_digits
 
 -- The parts of an id
 
--- what stands in front of the first dash, and behind it
+-- what is in front of the first dash, and behind it
 abbrev front : List ℕ → List ℕ
 front [] = []
 front (x ∷ xs) = cond (x == 45) [] (x ∷ front xs)

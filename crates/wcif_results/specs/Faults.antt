@@ -1,5 +1,6 @@
 -- What of a meet a competition's file has no place for: a round with a result that it lacks, and an
--- entrant who is none of its accepted persons, by his number or by each name that he was given.
+-- entrant who is none of its accepted persons, by his number or by each name that he was given (the
+-- project's own).
 use Rattle.std.specs.Prelude.{ℕ, if◌then◌else◌, List, [], ◌∷◌, ◌++◌, map, flat_map, codes, decimal}
 use Rattle.std.specs.Prelude.{bytes_eq, Bool, true, false, ◌&&◌, ◌||◌, unwrap_or, find, is_some}
 use Rattle.std.specs.Prelude.{Option, None, Some}

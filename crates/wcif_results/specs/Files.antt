@@ -1,4 +1,4 @@
--- A competition's file read, and written with the results of a meet.
+-- A competition's file read, and written with the results of a meet (the project's own).
 use Rattle.std.specs.Prelude.{◌≡◌, ◌≢◌, ◌≤◌, ◌<◌, ℕ, List, [], length, Some, None}
 use Rattle.std.specs.Str.{IsUtf8}
 use Rattle.json.specs.Json.{Json, document}

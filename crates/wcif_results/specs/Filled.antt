@@ -1,7 +1,7 @@
 -- A competition's file with the results of a meet: its JSON value, in which the `results` of each
--- round that the meet has are those of the meet. Every other member stands as it was, in its place:
--- a number with its spelling, a text with its characters, an object with its members in order,
--- those that come twice included.
+-- round that the meet has are those of the meet (the project's own). Every other member is as it
+-- was, in its place: a number with its spelling, a text with its characters, an object with its
+-- members in order, those that come twice included.
 use Rattle.std.specs.Prelude.{ℕ, Bool, true, false, if◌then◌else◌, List, [], codes, bytes_eq}
 use Rattle.std.specs.Prelude.{Option, Some, None, unwrap_or}
 use Rattle.std.specs.Option.{option_and_then}

@@ -1,5 +1,5 @@
 -- What a reader finds in the file that an export wrote: the results of a round are what its sheet
--- has, and all else is what it was.
+-- has, and all else is what it was (the project's own).
 use Rattle.std.specs.Prelude.{◌≡◌, ℕ, ℤ, pos, neg_ℤ, if◌then◌else◌, ◌==◌, List, [], ◌∷◌, map}
 use Rattle.std.specs.Prelude.{codes, bytes_eq, Option, Some, None, unwrap_or, true, drop}
 use Rattle.std.specs.Prelude.{slice_index, flat_map, option_to_list}

@@ -11,7 +11,7 @@ use Rattle.attempts.specs.declared.Value.TheVariants as value
 use Rattle.attempts.specs.Attempts.{value_of, IsOutcome, is_multi_finished}
 use Rattle.attempts.specs.MultiLaws.{Multi}
 
--- so many of the last decimal digits of a number
+-- this many of the last decimal digits of a number
 abbrev pub last_digits : ℕ → ℕ → List ℕ
 last_digits zero n = []
 last_digits (suc k) n = (48 + n / 10 ^ k % 10) ∷ last_digits k n

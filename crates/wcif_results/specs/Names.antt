@@ -1,4 +1,5 @@
--- The names that commands gave, and whose of them a person of a competition's file has.
+-- The names that commands gave, and whose of them a person of a competition's file has (the
+-- project's own).
 use Rattle.std.specs.Prelude.{ℕ, Bool, ◌==◌, ◌&&◌, ◌||◌, List, [], ◌∷◌, ◌++◌, codes, bytes_eq}
 use Rattle.std.specs.Prelude.{flat_map, option_to_list, Option, Result, Ok, Err}
 use Rattle.std.specs.List.{list_any}

@@ -1,5 +1,5 @@
--- What is told of an export that is made: rounds that still run, rounds that are left out, and
--- formats that differ.
+-- What is said of an export that is made: rounds that still run, rounds that are left out, and
+-- formats that differ (the project's own).
 use Rattle.std.specs.Prelude.{ℕ, if◌then◌else◌, Bool, true, false, List, [], ◌∷◌, ◌++◌, flat_map}
 use Rattle.std.specs.Prelude.{bytes_eq, codes, Option, Some, None, map}
 use Rattle.std.specs.List.{list_any}

@@ -1,4 +1,4 @@
--- What a writer of JSON has been given.
+-- What a writer of JSON has been given (the project's own).
 use Rattle.std.specs.Prelude.{◌≡◌, List, ◌++◌}
 use Rattle.json.specs.Token.{Token}
 use Rattle.json.specs.Written.{Written}

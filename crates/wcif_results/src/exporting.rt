@@ -26,7 +26,7 @@ const MOST_BYTES: usize = 67_108_864;
 /// How deep lists and objects may nest in a file.
 const MOST_LEVELS: u32 = 64;
 
-/// A competition's file with the results of a meet, and what is told of it.
+/// A competition's file with the results of a meet, and what is said of it.
 #[derive(Drop)]
 pub struct Exported {
     pub text: Vec<u8>,
@@ -98,10 +98,10 @@ fn text_of(alloc: Global, rounds: &[MeetRound<'_>], file: &Value<'_>) -> Result<
 /// A competition's file in the WCA Competition Interchange Format with the results of a meet: the
 /// `results` of each round that the meet has are those of the meet.
 ///
-/// Every other member stands as it was and where it was: numbers are spelled as they were, texts
-/// have their characters, and members that come twice stay. White space goes, and the shortest
-/// escapes stand in texts. A byte-order mark at the front is dropped. A round that the file lacks
-/// is left out where it has no result.
+/// Every other member is as it was and where it was: numbers are spelled as they were, texts have
+/// their characters, and members that come twice stay. White space goes, and the shortest escapes
+/// are in texts. A byte-order mark at the front is dropped. A round that the file lacks is left out
+/// where it has no result.
 ///
 /// # Errors
 ///

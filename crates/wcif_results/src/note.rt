@@ -1,4 +1,4 @@
-//! What is told of an export that is made.
+//! What is said of an export that is made.
 
 ghost use Rattle.std.specs.Prelude.{◌≡◌};
 ghost use Rattle.wcif_results.specs.Notes.{any_runs, is_running};
@@ -7,7 +7,7 @@ use formats::{Event, Format};
 use std::fmt;
 use wcif::Quoted;
 
-/// What is told of an export that is made.
+/// What is said of an export that is made.
 #[derive(Drop)]
 pub enum Note {
     /// The round is not closed.

@@ -1,4 +1,4 @@
-//! What is told of the file with the results of a meet.
+//! What is said of the file with the results of a meet.
 
 ghost use Rattle.std.specs.Prelude.{◌≡◌, ◌++◌, map, IfOk, OnOk, option_map};
 ghost use Rattle.json.specs.Value.{value_view};
@@ -63,7 +63,7 @@ fn push_format(
     Ok(())
 }
 
-/// Adds what is told of a round, given the file's round with its id.
+/// Adds what is said of a round, given the file's round with its id.
 fn push_round(
     alloc: Global,
     notes: &mut Vec<Note>,
@@ -84,7 +84,7 @@ fn push_round(
     push_format(alloc, notes, round, held.format.as_bytes())
 }
 
-/// All that is told of the file with the results of these rounds, by rounds.
+/// All that is said of the file with the results of these rounds, by rounds.
 #[tactic(auto, unfolding(crate::specs::Notes::notes_of))]
 pub(crate) fn notes_of(
     alloc: Global,

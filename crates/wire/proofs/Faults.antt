@@ -1,4 +1,4 @@
--- Which fault stands at the front of bytes.
+-- Which fault is at the front of bytes.
 use Rattle.std.proofs.Common.{◌≡◌, ℕ, ◌+◌, ◌<◌, ◌≤◌, Bool, true, false, cond, ltb, not, List, []}
 use Rattle.std.proofs.Common.{◌∷◌, length, get_or, take, drop, Option, Some, None, Result, Ok, Err}
 use Rattle.std.proofs.Common.{refl, sym, ap, subst, ◌∙◌, arith, inl, inr}
@@ -267,7 +267,7 @@ no_wait bytes BadKind p t = short bytes p.0 t
 no_wait bytes BadBody p t = short bytes p.0 t
 no_wait bytes NoMemory p t = p
 
--- nor does a frame stand there
+-- nor is a frame there
 no_begin : (bytes : List ℕ) (e : WireFault) (f : Frame) (rest : List ℕ) → IsFirstFault e bytes
     → BeginsWithFrame bytes → Tells (Begins f rest) bytes → ⊥
 no_begin bytes BadLength f rest p has t = p.1 t.0.counted

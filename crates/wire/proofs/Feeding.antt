@@ -74,7 +74,7 @@ reads_on stream before after size fault taken = record {
   };
 }
 
--- where a whole frame stands after the first ones, one stands at the front
+-- where a whole frame is after the first ones, one is at the front
 pub first_begun : (bytes : List ℕ) (frames : List Frame) (size : ℕ) → AreFirst bytes frames size
     → IsBegun (front (drop size bytes)) → IsBegun (front bytes)
 first_begun bytes [] size first begun =

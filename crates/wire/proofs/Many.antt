@@ -11,11 +11,11 @@ use Rattle.wire.specs.Fields.{Read, ◌>>=◌, many}
 use Rattle.wire.specs.Reading.{entry_at, entries_at}
 use Rattle.wire.specs.model.Gives.{Lacks, LacksEntries}
 
--- these stand before the others
+-- these are before the others
 abbrev pub put_before : {A : Type 0} → List A → List A × List ℕ → Read (List A)
 put_before xs z = Some (xs ++ z.0, z.1)
 
--- of n fields these were read, so many are left, and these bytes stand after those that were read
+-- of n fields these were read, this many are left, and these bytes are after those that were read
 abbrev pub GoesOn : {A : Type 0} → (List ℕ → Read A) → ℕ → List ℕ → ℕ → List A → List ℕ → Type 0
 GoesOn read n bytes left xs rest =
     many read n bytes ≡ (many read left rest >>= put_before xs)

@@ -94,7 +94,7 @@ held_is : (s : List ℕ) (frames : List Frame) (old : Reader) → Feeds s frames
 held_is s frames old fed none = fed.whole ∙ ap (λ (x : List ℕ). flat_map spelling frames ++ x)
     (sym (held_at (front fed.rest) fed.rest old fed.keeps none))
 
--- a kept fault stands after the frames
+-- a kept fault is after the frames
 fault_at : (at : Front) (rest : List ℕ) (old : Reader) (e : WireFault) → old ≡ keeps at rest
     → old.fault ≡ Some e → at ≡ Breaks e
 fault_at Waits rest old e k some = let bad : None ≡ Some e = sym (ap (λ (r : Reader). r.fault) k)
@@ -129,7 +129,7 @@ all_read s frames old fault fed is kept =
           ends_at fault (front fed.rest) fed.rest old fed.ends fed.keeps (sym is) kept;
     }
 
--- a piece was refused: the fault stands after the frames, whatever comes
+-- a piece was refused: the fault is after the frames, whatever comes
 pub fault_found : (s piece later : List ℕ) (frames : List Frame) (old new : Reader) (e : WireFault)
     → Feeds s frames old → IsOfStream e → RefusesFault e piece old new
     → Splits (s ++ (piece ++ later)) frames (Some e)

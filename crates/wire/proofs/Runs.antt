@@ -52,7 +52,7 @@ count_again Three n rest fits = rw (between_holds 1 16 n fits.0 fits.1) refl
 count_again Four n rest fits = rw (between_holds 1 16 n fits.0 fits.1) refl
 count_again Five n rest fits = rw (between_holds 1 16 n fits.0 fits.1) refl
 
--- so many entries, one after the other
+-- this many entries, one after the other
 pub entries_field : (n : ℕ) → IsField (flat_map entry_bytes) (AreMany IsEntry n) (entries_at n)
 entries_field n = many_field entry_bytes IsEntry entry_at entry_field n
 
@@ -169,7 +169,7 @@ pub put_more : (es : List Entry) (i : ℕ) (e : Entry) (out : List ℕ) → i < 
     ≡ out ++ flat_map entry_bytes (take (i + 1) es)
 put_more es i e out lt is = put_one_more entry_bytes es i e out lt is
 
--- a ballot and a position were put, and then what stands after them
+-- a ballot and a position were put, and then what is after them
 placed : (out b p e : List ℕ) → (out ++ (b ++ p)) ++ e ≡ out ++ (b ++ (p ++ e))
 placed out b p e = append_assoc out (b ++ p) e ∙ ap (λ (x : List ℕ). out ++ x) (append_assoc b p e)
 

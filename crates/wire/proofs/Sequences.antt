@@ -53,7 +53,7 @@ all_again s F r f x fits =
     let read : r (s x) ≡ Some (x, []) = ap r (sym (append-nil (s x))) ∙ f.again x [] fits in
     rw read refl
 
--- ---- so many fields of one sort
+-- ---- this many fields of one sort
 
 abbrev pub AreMany : {A : Type 0} → (A → Type 0) → ℕ → List A → Type 0
 AreMany F n xs = (length xs ≡ n) × AllByRecursion F xs

@@ -117,7 +117,7 @@ promised_field = record { takes = promised_takes; again = promised_again }
 numbers_field : (n : ℕ) → IsField (flat_map u32) (AreMany IsLogLength n) (many log_length_at n)
 numbers_field n = many_field u32 IsLogLength log_length_at log_length_field n
 
--- a byte for the number of desks, and so many lengths
+-- a byte for the number of desks, and this many lengths
 counted : (desks n : ℕ) (bytes rest more ns : List ℕ) → Takes bytes (desks ∷ []) rest
     → Takes rest (flat_map u32 ns) more → desks ≡ n → length ns ≡ n
     → Takes bytes (length ns ∷ flat_map u32 ns) more
@@ -392,7 +392,7 @@ standing_short v s fits =
       length-append (promised_bytes s.promised) (lengths_bytes s.told),
     )
 
--- how a desk stands, with the fields one in the other as they are read
+-- how a desk is, with the fields one in the other as they are read
 abbrev pub nested_bytes : Version → Standing → List ℕ
 nested_bytes v s =
     u32 s.length

@@ -93,7 +93,7 @@ by_frame_is (Ok g) rest f more e = let same : g ≡ f = cc in
     (ap (λ (x : Frame). let r : Result Frame WireFault = Ok x in r) same, cc)
 by_frame_is (Err x) rest f more e = absurd cc
 
--- a frame stands at the front: its bytes, and those after it
+-- a frame is at the front: its bytes, and those after it
 pub record IsBegun (bytes : List ℕ) (f : Frame) (rest : List ℕ) : Type 0 where
   pub fits : IsFrame f
   pub spelled : bytes ≡ spelling f ++ rest

@@ -1,4 +1,4 @@
--- What a version tells of an answer, of a refusal and of how a desk stands is what it has.
+-- What a version tells of an answer, of a refusal and of how a desk is is what it has.
 use Rattle.std.proofs.Common.{◌≡◌, ◌≤◌, Bool, true, false, cond, leb, refl, arith}
 use Rattle.std.proofs.lemmas.Bool.{leb-true}
 use Rattle.texts.specs.declared.answer.Answer.{Answer}

@@ -1,4 +1,4 @@
--- The ranges of an entry.
+-- The ranges of an entry (as docs/FORMATS.md has it).
 use Rattle.std.specs.Prelude.{ℕ, ◌^◌, ◌≤◌, ◌<◌, length}
 use Rattle.acceptor.specs.declared.entry.Entry.{Entry}
 

@@ -1,9 +1,10 @@
--- Reading fields one after the other: each gives a value and the bytes after it, or nothing.
+-- Reading fields one after the other: each gives a value and the bytes after it, or nothing (as
+-- docs/FORMATS.md has it).
 use Rattle.std.specs.Prelude.{ℕ, zero, suc, ◌==◌, List, [], ◌∷◌, length, take, drop, find, Option}
 use Rattle.std.specs.Prelude.{Some, None, nat_lt, if◌then◌else◌}
 use Rattle.std.specs.Int.{Width, byte_len, from_be_bytes}
 
--- a value and what stands after it
+-- a value and what is after it
 abbrev pub Read : Type 0 → Type 0
 Read A = Option (A × List ℕ)
 
@@ -25,7 +26,7 @@ byte_at (b ∷ bytes) = Some (b, bytes)
 abbrev pub two : {A B : Type 0} → (List ℕ → Read A) → (List ℕ → Read B) → List ℕ → Read (A × B)
 two first second bytes = first bytes >>= λ x. second x.1 >>= λ y. Some ((x.0, y.0), y.1)
 
--- so many fields of one sort, one after the other
+-- this many fields of one sort, one after the other
 unfoldable pub many : {A : Type 0} → (List ℕ → Read A) → ℕ → List ℕ → Read (List A)
 many read zero bytes = Some ([], bytes)
 many read (suc n) bytes = read bytes >>= λ x. many read n x.1 >>= λ y. Some (x.0 ∷ y.0, y.1)

@@ -1,4 +1,4 @@
--- What the spellings of frames keep to.
+-- What the spellings of frames keep to (as docs/FORMATS.md has it).
 use Rattle.std.specs.Prelude.{◌≡◌, ◌⊎◌, ◌↔◌, ℕ, ◌+◌, ◌<◌, ◌≤◌, true, false, List, [], ◌++◌, length}
 use Rattle.std.specs.Prelude.{take, slice_index}
 use Rattle.std.specs.Int.{w32, from_be_bytes}
@@ -17,8 +17,8 @@ use Rattle.wire.specs.Stream.{front, Begins, Breaks}
 abbrev pub AreBytes : List ℕ → Type 0
 AreBytes bytes = (i : ℕ) → slice_index bytes i < 256
 
--- a frame stands at the front of bytes exactly where they begin with its spelling, and what stands
--- after it comes the rest
+-- a frame is at the front of bytes exactly where they begin with its spelling, and what is after it
+-- comes the rest
 abbrev pub IsReadWhereSpelled : List ℕ → Frame → List ℕ → Type 0
 IsReadWhereSpelled bytes f rest =
     (front bytes ≡ Begins f rest) ↔ (IsFrame f × (bytes ≡ spelling f ++ rest))
@@ -27,7 +27,7 @@ IsReadWhereSpelled bytes f rest =
 abbrev pub BeginsNoOther : Frame → Frame → List ℕ → Type 0
 BeginsNoOther f g more = spelling g ≡ spelling f ++ more → (f ≡ g) × (more ≡ [])
 
--- the number in the first four bytes: how many bytes stand after them
+-- the number in the first four bytes: how many bytes are after them
 abbrev pub length_at : List ℕ → ℕ
 length_at bytes = from_be_bytes w32 (take 4 bytes)
 
@@ -63,6 +63,6 @@ IsFirstFault BadBody bytes =
     × ¬ BeginsWithFrame bytes
 IsFirstFault NoMemory bytes = ⊥
 
--- a fault stands at the front of bytes exactly where it is the first
+-- a fault is at the front of bytes exactly where it is the first
 abbrev pub IsFaultWhereFirst : List ℕ → WireFault → Type 0
 IsFaultWhereFirst bytes e = (front bytes ≡ Breaks e) ↔ IsFirstFault e bytes

@@ -1,4 +1,5 @@
--- The numbers that versions, answers, refusals and roles have on the wire.
+-- The numbers that versions, answers, refusals and roles have on the wire (as docs/FORMATS.md has
+-- it).
 use Rattle.std.specs.Prelude.{ℕ, ◌≤◌, nat_le, if◌then◌else◌, List, [], ◌∷◌, map, None}
 use Rattle.texts.specs.declared.answer.Answer.{Answer}
 use Rattle.texts.specs.declared.answer.Answer.TheVariants.{Done, Refused}
@@ -95,7 +96,7 @@ abbrev pub refusal_in : Version → ClientRefusal → ClientRefusal
 refusal_in version r =
     if nat_le (refusal_number r) (last_refusal version) then r else refusal.Down
 
--- what a version tells of how a desk stands: before version 5 nothing of a difference
+-- what a version tells of how a desk is: before version 5 nothing of a difference
 abbrev pub standing_in : Version → Standing → Standing
 standing_in One s = record s { differs = None }
 standing_in Two s = record s { differs = None }

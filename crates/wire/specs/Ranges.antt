@@ -1,4 +1,4 @@
--- What a frame may hold: the ranges of its fields.
+-- What a frame may hold: the ranges of its fields (as docs/FORMATS.md has it).
 use Rattle.std.specs.Prelude.{◌≡◌, ◌⊎◌, ℕ, ◌+◌, ◌^◌, ◌≤◌, ◌<◌, List, length, Option, Some, None}
 use Rattle.std.specs.Prelude.{nat_le, if◌then◌else◌}
 use Rattle.std.specs.List.{AllByRecursion}
@@ -65,7 +65,7 @@ IsCount Three n = (1 ≤ n) × (n ≤ 16)
 IsCount Four n = (1 ≤ n) × (n ≤ 16)
 IsCount Five n = (1 ≤ n) × (n ≤ 16)
 
--- the entries from a position on, of which the last stands at 65,535 at most
+-- the entries from a position on, of which the last is at 65,535 at most
 abbrev pub AreDecided : Version → ℕ → List Entry → Type 0
 AreDecided version pos entries =
     IsCount version (length entries) × (pos + length entries ≤ 65536)
@@ -105,8 +105,8 @@ IsDiffering Three d = d ≡ None
 IsDiffering Four d = d ≡ None
 IsDiffering Five d = IsDifference d
 
--- how a desk stands: its log, its queue of at most 255 commands, its ballots, the hall's logs, and
--- how another desk differs
+-- how a desk is: its log, its queue of at most 255 commands, its ballots, the hall's logs, and how
+-- another desk differs
 pub record IsStanding (version : Version) (s : Standing) : Type 0 where
   pub log : IsLogLength s.length
   pub queue : s.waiting < 256
@@ -123,8 +123,8 @@ pub record AreOfLog (position len : ℕ) (entries : List Entry) : Type 0 where
   pub within : (length entries ≡ 0) ⊎ (position + length entries ≤ len)
   pub each : AllByRecursion IsEntry entries
 
--- the fields of a kind in a version; a sheet and all that stands in front of it fill at most
--- 300,000 bytes. Four kinds are of the versions from 3 on, and one is of version 5.
+-- the fields of a kind in a version; a sheet and all that is in front of it fill at most 300,000
+-- bytes. Four kinds are of the versions from 3 on, and one is of version 5.
 abbrev pub IsBody : Version → What → Type 0
 IsBody v (Prepare b pos) = IsBallot b × IsPosition pos
 IsBody v (Promise b pos vote) = IsBallot b × IsPosition pos × IsReport vote

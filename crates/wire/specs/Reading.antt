@@ -1,4 +1,4 @@
--- The frame that bytes spell, field by field from the left.
+-- The frame that bytes spell, field by field from the left (as docs/FORMATS.md has it).
 use Rattle.std.specs.Prelude.{ℕ, zero, suc, ◌+◌, Bool, ◌&&◌, ◌||◌, List, [], ◌∷◌, length, take}
 use Rattle.std.specs.Prelude.{drop, Option, Some, None, Result, Ok, Err, not, nat_le, ◌==◌}
 use Rattle.std.specs.Prelude.{if◌then◌else◌}
@@ -119,7 +119,7 @@ count_at Three bytes = told_count_at bytes
 count_at Four bytes = told_count_at bytes
 count_at Five bytes = told_count_at bytes
 
--- so many entries, one after the other
+-- this many entries, one after the other
 abbrev pub entries_at : ℕ → List ℕ → Read (List Entry)
 entries_at n bytes = many entry_at n bytes
 
@@ -354,7 +354,7 @@ frame_from version hall from to (Some what) =
     then Ok (record { version = version; hall = hall; from = from; to = to; what = what })
     else Err BadBody
 
--- what stands after the version, where it is one
+-- what is after the version, where it is one
 abbrev pub frame_in : Option Version → ℕ → ℕ → ℕ → ℕ → List ℕ → Result Frame WireFault
 frame_in None hall from to kind bytes = Err BadVersion
 frame_in (Some version) hall from to kind bytes =
@@ -364,7 +364,7 @@ frame_in (Some version) hall from to kind bytes =
 abbrev pub version_of : ℕ → Option Version
 version_of n = numbered version_number versions n
 
--- what stands after a length: the frame, or the first fault
+-- what is after a length: the frame, or the first fault
 unfoldable pub frame_of : List ℕ → Result Frame WireFault
 frame_of (version ∷ a ∷ b ∷ c ∷ d ∷ from ∷ to ∷ kind ∷ bytes) =
     frame_in (version_of version) (from_be_bytes w32 (a ∷ b ∷ c ∷ d ∷ [])) from to kind bytes

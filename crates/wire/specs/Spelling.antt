@@ -1,4 +1,5 @@
--- The bytes of a frame: one spelling for each. Numbers are unsigned, the highest byte first.
+-- The bytes of a frame: one spelling for each (as docs/FORMATS.md has it). Numbers are unsigned,
+-- the highest byte first.
 use Rattle.std.specs.Prelude.{ℕ, List, [], ◌∷◌, ◌++◌, length, Option, Some, None}
 use Rattle.std.specs.List.{flat_map}
 use Rattle.std.specs.Int.{w16, w32, w64, to_be_bytes}
@@ -148,7 +149,7 @@ body v Fine = []
 body v (variant.Standing standing) = standing_bytes v standing
 body v (variant.Entries position len entries) = log_bytes position len entries
 
--- what stands after the length: version, hall, sender, receiver, kind, fields
+-- what is after the length: version, hall, sender, receiver, kind, fields
 abbrev pub inside : Frame → List ℕ
 inside f =
     version_number f.version ∷ to_be_bytes w32 f.hall ++ f.from ∷ f.to ∷ kind_of f.what ∷

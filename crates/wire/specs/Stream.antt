@@ -1,4 +1,4 @@
--- What stands at the front of a stream, and what a reader of it keeps.
+-- What is at the front of a stream, and what a reader of it keeps (as docs/FORMATS.md has it).
 use Rattle.std.specs.Prelude.{◌≡◌, ◌⊎◌, ◌≤◌, ℕ, List, [], ◌++◌, length, take, drop, Option, Some}
 use Rattle.std.specs.Prelude.{None, IsSome, Result, Ok, Err, not, nat_lt, if◌then◌else◌}
 use Rattle.std.specs.Global.{Vec}
@@ -106,7 +106,7 @@ pub record IsHeld (reader : Reader) (held : ℕ) : Type 0 where
   pub most : held ≤ 300003
   pub broken : IsSome reader.fault → held ≡ 0
 
--- what ends a stream: it waits for more, or this fault stands there
+-- what ends a stream: it waits for more, or this fault is there
 abbrev pub Ends : Option WireFault → Front → Type 0
 Ends None at = at ≡ Waits
 Ends (Some e) at = (at ≡ Breaks e) × IsOfStream e

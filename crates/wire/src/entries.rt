@@ -5,7 +5,7 @@ use acceptor::entry::Entry;
 use std::alloc::Global;
 use std::marker::Model;
 
-/// Entries that stand in a log one after the other.
+/// Entries that are in a log one after the other.
 #[derive(Debug, Drop)]
 pub struct Entries {
     items: Vec<Entry>,

@@ -1,5 +1,4 @@
-//! The fields of a frame, from bytes: each gives a value and what stands after it. None takes
-//! memory.
+//! The fields of a frame, from bytes: each gives a value and what is after it. None takes memory.
 
 ghost use Rattle.std.specs.Prelude.{◌≡◌, ◌≤◌, IfOk, IfErr, IfSome, option_map};
 ghost use Rattle.std.specs.Int.{w16, w32, w64};
@@ -248,7 +247,7 @@ fn text_of(bytes: &[u8]) -> Result<(&[u8], &[u8]), WireFault>
     }
 }
 
-/// An entry as it stands in the bytes of a frame.
+/// An entry as it is in the bytes of a frame.
 #[derive(Clone, Copy)]
 pub(crate) struct EntryPart<'a> {
     id: u64,
@@ -280,7 +279,7 @@ pub(crate) fn entry_of(bytes: &[u8]) -> Result<(EntryPart<'_>, &[u8]), WireFault
     Ok((EntryPart { id, text }, rest))
 }
 
-/// A vote as it stands in the bytes of a frame.
+/// A vote as it is in the bytes of a frame.
 #[derive(Clone, Copy)]
 pub(crate) struct VotePart<'a> {
     ballot: Ballot,

@@ -70,7 +70,7 @@ pub enum What {
     Behind {
         len: u32,
     },
-    /// What stands in the log from a position on.
+    /// What is in the log from a position on.
     Decided {
         pos: u32,
         entries: Entries,
@@ -114,19 +114,19 @@ pub enum What {
     },
     /// The desk did it.
     Fine,
-    /// A client asks how the desk stands.
+    /// A client asks how the desk is.
     Status,
     /// A client asks for entries of the desk's log, from this position on, at most 65,536.
     Log {
         position: u32,
     },
-    /// A client asks what became of the command with this id, once it stands in the log, or after
-    /// so many seconds.
+    /// A client asks what became of the command with this id, once it is in the log, or after this
+    /// many seconds.
     Await {
         id: u64,
         seconds: u8,
     },
-    /// How the desk stands.
+    /// How the desk is.
     Standing {
         standing: Standing,
     },

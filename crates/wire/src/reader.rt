@@ -43,8 +43,8 @@ fn read_on(held: &mut Vec<u8>, before: Vec<Frame>, bytes: &[u8]) -> Result<Recei
     })
 }
 
-/// The frames of the held bytes and the piece, and the fault after them, if one stands there. What
-/// is left is held.
+/// The frames of the held bytes and the piece, and the fault after them, if one is there. What is
+/// left is held.
 fn read(held: &mut Vec<u8>, piece: &[u8]) -> Result<Received, NoMemory>
     requires room { 300004 ≤ vec_capacity held.old }
     requires waits { front held.old.items ≡ Waits }
@@ -123,8 +123,8 @@ impl FrameReader {
         self.bytes.len() as u32
     }
 
-    /// The fault that is kept, if there is one: each further call of `feed` answers it. Once it
-    /// stands here the frames in front of it were given.
+    /// The fault that is kept, if there is one: each further call of `feed` answers it. Once it is
+    /// here the frames in front of it were given.
     pub fn fault(&self) -> Option<WireFault>
         ensures fault { result ≡ self.now.fault }
         ensures kept { IsKept result }

@@ -9,7 +9,7 @@ use crate::fault::WireFault;
 use crate::fields::entry_of;
 use std::alloc::Global;
 
-/// What stands after so many entries. It takes no memory.
+/// What is after this many entries. It takes no memory.
 pub(crate) fn pass_entries(count: u16, bytes: &[u8]) -> Result<&[u8], WireFault>
     ensures { GivesField (λ x. x.now) result
         (option_map (λ x. x.1) (entries_at count bytes.now)) }
@@ -22,7 +22,7 @@ pub(crate) fn pass_entries(count: u16, bytes: &[u8]) -> Result<&[u8], WireFault>
     Ok(rest)
 }
 
-/// Puts so many entries after others.
+/// Puts this many entries after others.
 pub(crate) fn push_entries(
     alloc: Global,
     entries: &mut Entries,

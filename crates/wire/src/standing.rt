@@ -1,4 +1,4 @@
-//! How a desk stands, as it tells a client that asks for it.
+//! How a desk is, as it tells a client that asks for it.
 
 ghost use Rattle.std.specs.Prelude.{◌≡◌, ◌⊎◌, ◌↔◌, IfSome, IsSome, length};
 ghost use Rattle.std.specs.List.{AllByRecursion};
@@ -8,7 +8,7 @@ ghost use Rattle.wire.specs.Spelling.{lengths_of};
 use crate::values::{DeskRole, Version};
 use acceptor::ballot::Ballot;
 
-/// How a desk stands.
+/// How a desk is.
 #[derive(Clone, Copy, Debug, PartialEq, Eq)]
 pub struct Standing {
     /// The number of entries in its log, at most 65,536.
@@ -30,18 +30,18 @@ pub struct Standing {
 /// never replaced by an older one.
 #[derive(Clone, Copy, Debug, PartialEq, Eq)]
 pub enum Difference {
-    /// This desk has said that another entry stands at a position of the log, 0 to 65,535, than
-    /// the one that does.
+    /// This desk has said that another entry is at a position of the log, 0 to 65,535, than the one
+    /// that does.
     OtherEntry { desk: u8, position: u32 },
-    /// This desk has said that its log has so many entries, 0 to 65,535, after it had said that it
-    /// has more.
+    /// This desk has said that its log has this many entries, 0 to 65,535, after it had said that
+    /// it has more.
     Shorter { desk: u8, length: u32 },
 }
 
 impl Standing {
     ghost use Rattle.wire.specs.Numbers.{standing_in};
 
-    /// What a version tells of how a desk stands: before version 5 nothing of a difference.
+    /// What a version tells of how a desk is: before version 5 nothing of a difference.
     pub fn in_version(self, version: Version) -> Standing
         ensures { result ≡ standing_in version self }
     {

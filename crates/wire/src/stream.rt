@@ -55,8 +55,8 @@ fn front(alloc: Global, bytes: &[u8]) -> Result<Option<(Frame, usize)>, WireFaul
     Ok(Some((frame, size)))
 }
 
-/// The frames at the front of a stream, the number of their bytes, and the fault that stands after
-/// them, if one does.
+/// The frames at the front of a stream, the number of their bytes, and the fault that is after
+/// them, if one is.
 #[derive(Drop)]
 pub(crate) struct Taken {
     pub(crate) frames: Vec<Frame>,

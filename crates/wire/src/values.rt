@@ -46,7 +46,7 @@ pub enum CommandState {
     Unknown,
     /// It waits in the queue.
     Pending,
-    /// It stands in the log at this position, 0 to 65,535, and was answered so.
+    /// It is in the log at this position, 0 to 65,535, and was answered so.
     Done { pos: u32, answer: Answer },
 }
 
@@ -91,7 +91,7 @@ pub enum ClientRefusal {
     NoMemory,
     /// The desk's store failed, and the desk takes part no more.
     Down,
-    /// The log does not have so many entries.
+    /// The log has fewer entries.
     NotThere,
     /// The round was not opened in the entries up to the position.
     NoSuchRound,
@@ -99,9 +99,8 @@ pub enum ClientRefusal {
     Foreign,
     /// The connection may not ask for that: it is under no key, or under another than the hall's.
     NotAllowed,
-    /// Another desk of the hall has said something that differs from what stands in this desk's
-    /// log, or from what it said before. This desk takes no more commands until it is started
-    /// again.
+    /// Another desk of the hall has said something that differs from what is in this desk's log, or
+    /// from what it said before. This desk takes no more commands until it is started again.
     HallDiffers,
 }
 
@@ -132,7 +131,7 @@ impl Version {
         Version::Five,
     ];
 
-    /// The version's number, with which what stands after a frame's length begins.
+    /// The version's number, with which what is after a frame's length begins.
     pub fn number(self) -> u8
         ensures { result ≡ version_number self }
     {
@@ -189,8 +188,8 @@ impl Version {
         }
     }
 
-    /// What this version tells of a refusal. One that it does not have is told as `Down`: the desk
-    /// takes no command any more, and another one may.
+    /// What this version tells of a refusal. One that it does not have is sent as `Down`: the desk
+    /// accepts no command any more, and another one may.
     pub fn refusal(self, refusal: ClientRefusal) -> ClientRefusal
         ensures { result ≡ refusal_in self refusal }
     {
@@ -201,7 +200,7 @@ impl Version {
         }
     }
 
-    /// What this version tells of an answer. A code that it does not have is told as `Unread`,
+    /// What this version tells of an answer. A code that it does not have is sent as `Unread`,
     /// which a client without that edition takes for what it is: a command that it does not know.
     pub fn answer(self, answer: Answer) -> Answer
         ensures { result ≡ answer_in self answer }

@@ -285,7 +285,7 @@ fn put_body(out: &mut Vec<u8>, version: Version, what: &What) -> Result<(), NoMe
     }
 }
 
-/// What stands after the length.
+/// What is after the length.
 fn put_inside(out: &mut Vec<u8>, frame: &Frame) -> Result<(), NoMemory>
     requires { IsFrame frame.now }
     ensures { OnOk result (out.new.items ≡ out.old.items ++ inside frame.now) }

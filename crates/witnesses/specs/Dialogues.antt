@@ -1,4 +1,5 @@
--- What is said over a connection by a mirror that is kept up, and by a survey of a desk.
+-- What is said over a connection by a mirror that is kept up, and by a survey of a desk (the
+-- project's own).
 use Rattle.std.specs.Prelude.{ℕ, true, false, List, [], ◌∷◌, codes, length, None, Some}
 use Rattle.acceptor.specs.declared.entry.Entry.{Entry}
 use Rattle.client.specs.Standings.{log_request, status_request_in_five}
@@ -69,7 +70,7 @@ abbrev pub status_answer : Frame
 status_answer =
     record { version = Five; hall = 7; from = 1; to = 0; what = what.Standing stands }
 
--- it is asked how it stands, and answers
+-- it is asked how it is, and answers
 abbrev pub survey_calls : List Dialogues.Call
 survey_calls =
     Act (wish.Open 1) 0 ∷ Opened true ∷ Act wish.Write 5

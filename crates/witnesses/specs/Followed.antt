@@ -1,4 +1,4 @@
--- Calls of a follower of three desks that holds nothing at first.
+-- Calls of a follower of three desks that holds nothing at first (the project's own).
 use Rattle.std.specs.Prelude.{◌≡◌, ℕ, true, false, List, [], ◌∷◌, None, Some}
 use Rattle.following.specs.Following.{Following, IsPlace, action_of}
 use Rattle.following.specs.Histories.{Acted, Answered, History, Lost, Opened, Start, Then}

@@ -1,4 +1,4 @@
--- A field and a file, with a boundary.
+-- A field and a file, with a boundary (the project's own).
 use Rattle.std.specs.Prelude.{◌≡◌, ◌≤◌, ℕ, true, List, [], ◌∷◌, ◌++◌, codes, length, None, Some}
 use Rattle.std.specs.List.{AllByRecursion}
 use Rattle.form_data.specs.Cutting.{crlf}

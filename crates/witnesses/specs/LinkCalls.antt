@@ -1,4 +1,4 @@
--- Calls of a link, and what was told of its desk.
+-- Calls of a link, and what was said of its desk (the project's own).
 use Rattle.std.specs.Prelude.{◌≡◌, ℕ, true, List, [], ◌∷◌, None, Some}
 use Rattle.links.specs.Histories.{Began, Failed, History, Leads, Opened, Push, Sent, Start, Then}
 use Rattle.links.specs.Histories.{connections, failures, pushed, written}

@@ -1,4 +1,4 @@
--- A round that is closed, and may be opened again.
+-- A round that is closed, and may be opened again (the project's own).
 use Rattle.std.specs.Prelude.{◌≡◌, List, [], ◌∷◌, codes, None, Some}
 use Rattle.formats.specs.declared.advance.Advance.TheVariants.{Final}
 use Rattle.formats.specs.declared.events.Event.TheVariants.{Cube3}

@@ -1,4 +1,5 @@
--- A record of a sealed stream that was changed on its way, and one that was sent the other way.
+-- A record of a sealed stream that was changed on its way, and one that was sent the other way (the
+-- project's own).
 use Rattle.std.specs.Prelude.{◌≡◌, ℕ, List, [], ◌∷◌, ◌++◌, length, replicate}
 use Rattle.seal.specs.Laws.{Differs, IsChanged, IsNotForged, changed}
 use Rattle.seal.specs.Records.{AreBodies, records, tag}

@@ -1,4 +1,4 @@
--- Entries that are told to a mirror.
+-- Entries that are given to a mirror (the project's own).
 use Rattle.std.specs.Prelude.{◌≡◌, ℕ, List, [], ◌∷◌, codes, Some}
 use Rattle.acceptor.specs.declared.entry.Entry.{Entry}
 use Rattle.mirror.specs.Fronts.{LogsOfAgree, TakesAll, Telling}

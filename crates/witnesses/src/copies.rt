@@ -1,8 +1,8 @@
-//! Entries that are told to a mirror.
+//! Entries that are given to a mirror.
 
 ghost use Rattle.witnesses.specs.Told.{WorksMirror};
 
-/// A mirror is told entries of two logs, of which one begins the other: some, some that it has
+/// A mirror is given entries of two logs, of which one begins the other: some, some that it has
 /// with more, and some past its end. So `mirror::mirrors_hold_fronts` says something.
 pub fn mirrors_are_told()
     ensures { WorksMirror }

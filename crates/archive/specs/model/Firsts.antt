@@ -1,4 +1,4 @@
--- Where an id stands first, and the line that is written for a position.
+-- Where an id is first, and the line that is written for a position.
 use Rattle.std.specs.Prelude.{◌≡◌, ℕ, ◌==◌, Bool, false, Option, None, Some, List, [], ◌∷◌, ◌++◌}
 use Rattle.std.specs.Prelude.{nat_le, if◌then◌else◌, slice_get, take}
 use Rattle.acceptor.specs.declared.entry.Entry.{Entry}

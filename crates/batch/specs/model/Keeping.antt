@@ -57,7 +57,7 @@ pub record Uses (l : Line) (request : Frame) (result : Result What ClientFault) 
   pub told : Dials old new.dialed rest
   pub leaves : Leaves (sides_from l left written) l.made result ending new.line rest
 
--- how connections to a contact's place stand before a call and afterwards
+-- how connections to a contact's place are before a call and afterwards
 abbrev pub way_of : {D R W : Type 0} → (D → Option (List Dialed)) → (R → Option (List ℕ))
     → (W → Option (List ℕ)) → Contact → (old new : D) → (before after : Option (Held R W)) → Way
 way_of dialed left new c dial dial_after held held_after =

@@ -8,8 +8,8 @@ use Rattle.batch.specs.Logs.{IsNoPart, IsPart, log_of}
 use Rattle.batch.specs.declared.asking.Receiver.{Receiver}
 use Rattle.batch.specs.declared.fault.BatchFault.{BatchFault}
 
--- the request for what stands behind these entries was made, and answered by a part that comes
--- behind them
+-- the request for what is behind these entries was made, and answered by a part that comes behind
+-- them
 pub record AddsPart (w : Way) (r : Receiver) (before : List Entry) (told : ℕ) (after : List Entry)
     (len : ℕ) : Type 0 where
   pub answer : What

@@ -18,7 +18,7 @@ use Rattle.commands.specs.Accepted.{scramble_of, lacks_scramble, unfit_card_refu
 use Rattle.commands.specs.Accepted.{seen_refusal, values_now, counts_in}
 
 -- what a card that is read keeps to: its round is one that there may be, it has at most five
--- attempts, what is entered is in its ranges, and what it lets stand is there
+-- attempts, what is entered is in its ranges, and what it keeps is there
 pub record IsReadCard (card : CardEntry) : Type 0 where
   pub round : card.id.round ≤ last_round
   pub few : length card.now ≤ 5
@@ -39,7 +39,7 @@ enters is (Some x) = is x
 abbrev pub lacks_in : (ℕ → Option (List Move)) → ℕ → Entered → Bool
 lacks_in scrambles k x = lacks_scramble (scrambles k) x
 
--- the value of an attempt by what is entered, or the one that stands
+-- the value of an attempt by what is entered, or the one that counts
 abbrev pub value_at : (Entered → Value) → Option Entered → Value → Value
 value_at counts None v = v
 value_at counts (Some x) v = counts x
@@ -59,8 +59,7 @@ early_refusal closed scrambles card round =
     (option_or (state_refusal closed round.1.is_closed)
     (seen_refusal card.was (entrant round.1 card.number)))
 
--- a round with the values that a card enters for its number; those that it lets stand are of what
--- stands
+-- a round with the values that a card enters for its number; those that it keeps are of what counts
 abbrev pub with_outcomes : (ℕ → Option (List Move)) → CardEntry → Settings × Table
     → Settings × Table
 with_outcomes scrambles card round = (

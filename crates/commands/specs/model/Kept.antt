@@ -121,7 +121,7 @@ first_of_all ns = slice_get ns 0
 abbrev pub waiting_by : RoundId → KeptRounds → Option (List ℕ)
 waiting_by id kept = kept_waiting id.event id.round kept.opened.items
 
--- those who wait still, once so many have withdrawn
+-- those who wait still, once this many have withdrawn
 abbrev pub waiting_now : Event → ℕ → Option (Settings × Table) → Opened → List ℕ
 waiting_now e r before o = drop (count_by (is_withdrawal e r) o.since) (who_wait before)
 

@@ -119,7 +119,7 @@ spells_scan total (suc n) text (move ∷ next ∷ moves) (gap, rest, spaces, par
     ∙ scan_step total n move gap rest spaces (spelled_no_space rest (next ∷ moves) spelled)
     ∙ ap (with_move move) (spells_scan total n rest (next ∷ moves) spelled (omega (arith, few)))
 
--- where no move stands, none is named
+-- where no move is, none is named
 no_move : (rest : List ℕ) → (BeginsWithMove rest → ⊥)
     → move_named (take (word_len rest) rest) ≡ None
 no_move rest none = at (move_named (take (word_len rest) rest)) refl
@@ -150,7 +150,7 @@ end_scan total at (suc n) rest offset none last =
     (scan total n (behind_spaces (behind_word rest)))) (no_move rest none)
     ∙ ap (λ n. Err (BadToken n)) (omega (arith, offset))
 
--- a token that stands nowhere is told
+-- a token that is nowhere is told
 pub bad_scan : (text : List ℕ) (at : ℕ) → IsBadTokenAt text at → scan (length text) 400 text
     ≡ Err (BadToken at)
 bad_scan text at bad =
@@ -260,7 +260,7 @@ sound_end text some moves [] behind full = record {
 sound_end text some moves (c ∷ cs) behind full =
     record { moves = moves; rest = c ∷ cs; behind = behind; many = full; more = λ e. cc }
 
--- where a move stands it is named
+-- where a move is it is named
 begins_named : (rest : List ℕ) → BeginsWithMove rest → (move : Move)
     × (move_named (take (word_len rest) rest) ≡ Some move)
 begins_named rest (move, more, parts, ends) = (

@@ -62,7 +62,7 @@ abbrev pub BeginsWithMove : List ℕ → Type 0
 BeginsWithMove bytes = (move : Move) × (more : List ℕ) × (bytes ≡ token move ++ more)
     × ((more ≡ []) ⊎ BeginsWithSpace more)
 
--- the offset in the text where a token was expected, behind at most 400 moves, and no move stands;
+-- the offset in the text where a token was expected, behind at most 400 moves, and no move is;
 -- behind 400 moves that is the end of the text, since anything else there is too much
 pub record IsBadTokenAt (text : List ℕ) (at : ℕ) : Type 0 where
   pub some_text : text ≢ []

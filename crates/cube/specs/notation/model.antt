@@ -1,2 +1,3 @@
--- Models of the code: functions that proofs step through. No public contract cites them.
+-- Models of the code: functions that proofs step through (the project's own). No public contract
+-- cites them.
 pub mod Scan

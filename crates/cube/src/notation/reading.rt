@@ -19,8 +19,7 @@ pub const MOST_MOVES: usize = 400;
 pub enum ReadFault {
     /// The text has no bytes.
     Empty,
-    /// A token was expected at this offset, and no move stands there up to the next space or the
-    /// end.
+    /// A token was expected at this offset, and no move is there up to the next space or the end.
     BadToken { at: usize },
     /// Behind 400 moves and one or more spaces another byte comes, whatever follows it.
     TooMany,
@@ -57,8 +56,8 @@ impl<T: Drop> From<AllocFailed<T>> for ReadFault {
 /// a half turn.
 ///
 /// A text without bytes is `Empty`. Otherwise the text is read from the left, and the first token
-/// that is none is told as `BadToken`, or, behind 400 moves and a space, the first further byte as
-/// `TooMany`. `NoMemory` comes only where a growth was refused, in place of any of these but
+/// that is none is reported as `BadToken`, or, behind 400 moves and a space, the first further byte
+/// as `TooMany`. `NoMemory` comes only where a growth was refused, in place of any of these but
 /// `Empty`.
 pub fn read(alloc: Global, text: &[u8]) -> Result<Moves, ReadFault>
     // What is read is spelled so, and has at most 400 moves.
@@ -106,7 +105,7 @@ fn read_tokens(alloc: Global, text: &[u8]) -> Result<Moves, ReadFault>
     }
 }
 
-/// How many bytes stand before the first space, or the end.
+/// How many bytes are before the first space, or the end.
 fn word_len(bytes: &[u8]) -> usize
     ensures value { result ≡ length_of_word bytes.now }
     ensures within { result ≤ length bytes.now }
@@ -121,7 +120,7 @@ fn without_spaces(bytes: &[u8]) -> &[u8]
     &bytes[space_len(bytes)..]
 }
 
-/// How many spaces stand at the front.
+/// How many spaces are at the front.
 fn space_len(bytes: &[u8]) -> usize
     ensures value { result ≡ length_of_spaces bytes.now }
     ensures within { result ≤ length bytes.now }

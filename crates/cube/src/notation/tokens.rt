@@ -93,7 +93,7 @@ fn axis_byte(axis: Axis) -> u8
     }
 }
 
-/// Writes the token of a move at the end of a text. Where memory runs out, a part of it may stand
+/// Writes the token of a move at the end of a text. Where memory runs out, a part of it may be
 /// there.
 pub fn push_token(text: &mut Vec<u8>, turn: Move) -> Result<(), AllocError>
     ensures { OnOk result (text.new.items ≡ text.old.items ++ token turn) }

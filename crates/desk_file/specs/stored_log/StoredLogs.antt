@@ -1,4 +1,4 @@
--- What is written of a stored log.
+-- What is written of a stored log (the project's own).
 use Rattle.std.specs.Prelude.{◌≡◌, ◌⊎◌, ℕ, List, Option}
 use Rattle.std.specs.Io.KnownBytes.{Appends, Keeps}
 use Rattle.sqlite.specs.Effect.{Database, IsDatabase}

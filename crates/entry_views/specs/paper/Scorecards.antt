@@ -1,4 +1,4 @@
--- Blank scorecards of a round.
+-- Blank scorecards of a round (the project's own).
 use Rattle.std.specs.Prelude.{◌≡◌, ℕ, List, [], ◌∷◌, ◌++◌, codes, decimal, flat_map}
 use Rattle.std.specs.Prelude.{Option, None, Some, option_map, unwrap_or}
 use Rattle.markup.specs.board_page.Escaped.{escaped}

@@ -1,4 +1,4 @@
--- The sheet of a round for the wall: the round as the board shows it.
+-- The sheet of a round for the wall: the round as the board shows it (the project's own).
 use Rattle.std.specs.Prelude.{◌≡◌, ℕ, List, [], ◌∷◌, ◌++◌, codes, length}
 use Rattle.std.specs.Prelude.{Option, None, Some}
 use Rattle.acceptor.specs.declared.entry.Entry.{Entry}

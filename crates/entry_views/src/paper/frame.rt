@@ -15,7 +15,7 @@ const HEAD_END: &[u8] = b"\
 </title><link rel=\"stylesheet\" href=\"/table.css\"></head>
 ";
 
-/// Adds what stands before what is printed, under a class of the style.
+/// Adds what is before what is printed, under a class of the style.
 #[tactic(auto, unfolding(crate::specs::paper::Frame::top))]
 pub(crate) fn push_top<'a>(
     out: &mut Vec<u8>,
@@ -37,7 +37,7 @@ pub(crate) fn push_top<'a>(
     )
 }
 
-/// Adds what stands after it.
+/// Adds what is after it.
 pub(crate) fn push_bottom(out: &mut Vec<u8>) -> Result<(), NoMemory>
     ensures { OnOk result (out.new.items ≡ out.old.items ++ bottom) }
 {

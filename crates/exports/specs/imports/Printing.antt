@@ -1,4 +1,4 @@
--- What is printed of a competition's file, and what its faults leave.
+-- What is printed of a competition's file, and what its faults leave (the project's own).
 use Rattle.std.specs.Prelude.{◌≡◌, ℕ, ◌+◌, ◌++◌, List, take, Option, None, Some}
 use Rattle.std.specs.Io.KnownBytes.{Appends, Keeps}
 use Rattle.lines.specs.Bytes.{AppendsPart, HasLeft}

@@ -1,4 +1,4 @@
-//! Why a competition's file is not printed as commands, and what is told of it.
+//! Why a competition's file is not printed as commands, and what is said of it.
 
 ghost use Rattle.std.specs.Prelude.{◌≡◌};
 ghost use Rattle.exports.specs.imports.Printing.{status_of};

@@ -53,7 +53,7 @@ pub fn print_import<R: Read + Drop, W: Write>(
     }
 }
 
-/// As [`print_import`], of the file at a path. What a file holds is not told, so the contract says
+/// As [`print_import`], of the file at a path. What a file holds is not known, so the contract says
 /// it of some bytes.
 ///
 /// # Errors

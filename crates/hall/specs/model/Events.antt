@@ -9,7 +9,7 @@ use Rattle.learner.specs.declared.event.WorldEvent.TheVariants.{Restart}
 use Rattle.texts.specs.Fields.{cut, number_between}
 use Rattle.hall.specs.Scripts.{most_delivered}
 
--- The fields of a line stand after a space; where nothing is left the next field is missing.
+-- The fields of a line are after a space; where nothing is left the next field is missing.
 
 infixl 10 ◌>>=◌
 abbrev pub ◌>>=◌ : {A B : Type 0} → Option A → (A → Option B) → Option B

@@ -12,7 +12,7 @@ use Rattle.hall.specs.Scripts.{Spells, SpellsNone}
 use Rattle.hall.specs.Halls.{Run, RunFails, event_text, script_text, logs_text, run_of}
 use Rattle.hall.specs.model.Events.{are_events, events_of}
 
--- the line spells this event, which was done, and what is printed for it stands after the rest
+-- the line spells this event, which was done, and what is printed for it is after the rest
 pub record DoesLine (n : ℕ) (line : List ℕ) (old new : WorldValue) (before after : List ℕ) : Type 0
   where
     pub event : WorldEvent

@@ -1,4 +1,5 @@
--- What the desks of a hall agree on: their logs, their answers, and their sheets.
+-- What the desks of a hall agree on: their logs, their answers, and their sheets (the safety of
+-- 'Paxos Made Simple', section 2.1, of every position, and what follows of it here).
 use Rattle.std.specs.Prelude.{ℕ, ◌≡◌, ◌≤◌, ◌<◌, ◌⊎◌, List, Some, slice_get, take, length}
 use Rattle.acceptor.specs.declared.entry.Entry.{Entry}
 use Rattle.texts.specs.declared.answer.Answer.{Answer}
@@ -31,8 +32,8 @@ pub record Agreement (n : ℕ) (events : List WorldEvent) : Type 0 where
       → position ≤ length (log_at n events i d) → position ≤ length (log_at n events j k)
       → sheet_at style (log_at n events i d) position event round
       ≡ sheet_at style (log_at n events j k) position event round
-  -- an entry that is answered Done at a position stands there in every longer log, and every desk
-  -- that has such a log gives the same answer
+  -- an entry that is answered Done at a position is there in every longer log, and every desk that
+  -- has such a log gives the same answer
   pub answers : (i j d k id pos : ℕ) (answer : Answer) (queue other : List Entry)
       → told (log_at n events i d) queue id ≡ Done pos answer → pos < length (log_at n events j k)
       → (slice_get (log_at n events j k) pos ≡ slice_get (log_at n events i d) pos)

@@ -1,5 +1,5 @@
 -- What a world is seen as: the number of its desks and the events that were done; and the refusal
--- of the last.
+-- of the last (the project's own).
 use Rattle.std.specs.Prelude.{ℕ, if◌then◌else◌, List, [], ◌∷◌, ◌++◌, Option, Some, None, Result, Ok}
 use Rattle.std.specs.Prelude.{Err}
 use Rattle.std.specs.Option.{option_map}
@@ -16,7 +16,7 @@ use Rattle.learner.specs.Worlds.{World, new_world, happens}
 use Rattle.replica.specs.roles.Faults.{refused_as}
 use Rattle.replica.specs.declared.roles.fault.NodeFault.{NodeFault}
 
--- so many desks, and the events that were done, in order
+-- this many desks, and the events that were done, in order
 pub record WorldValue : Type 0 where
   pub desks : ℕ
   pub events : List WorldEvent

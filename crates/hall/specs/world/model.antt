@@ -1,2 +1,3 @@
--- Models of the code: what the desks of a hall are as they run. No contract of `World` cites them.
+-- Models of the code: what the desks of a hall are as they run (the project's own). No contract of
+-- `World` cites them.
 pub mod Halls

@@ -121,7 +121,7 @@ impl Desks {
         submit(&mut self.desks[desk as usize - 1], entry)
     }
 
-    /// A desk is told to start.
+    /// A desk gets a Start.
     fn start(&mut self, desk: u8) -> Result<Option<Refusal>, NoMemory>
         ensures world { OnOk result
             (world_of self.new ≡ at_desk self.old.desks (world_of self.old) desk Start) }

@@ -9,7 +9,7 @@ use learner::laws::{logs_agree, logs_are_submitted};
 /// is a prefix of the other, and every entry was submitted. At a position that both logs have, the
 /// sheet of a round is the same for both, byte for byte: it is the Regulations' sheet for the
 /// accepted commands of the log up to there. The law speaks of definitions; the bytes that a desk
-/// gives are these definitions' by `Node::sheet_at`. An entry that was answered Done stands at its
+/// gives are these definitions' by `Node::sheet_at`. An entry that was answered Done is at its
 /// position in every longer log.
 pub fn headline()
     ensures { DesksAgree }

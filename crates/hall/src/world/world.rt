@@ -64,8 +64,8 @@ impl World {
     ghost use Rattle.hall.specs.world.WorldValues.{extended, last_fault};
     ghost use Rattle.hall.specs.world.Headline.{Agreement};
 
-    /// So many desks before their first event. A count other than 3 and 5 is BadCount. Else, where
-    /// memory is refused, the answer is NoMemory.
+    /// This many desks before their first event. A count other than 3 and 5 is BadCount. Else,
+    /// where memory is refused, the answer is NoMemory.
     pub fn new(alloc: Global, desks: u8) -> Result<World, WorldFault>
         ensures made { IfOk result (λ w. w ≡ record { desks = desks; events = [] }) }
         ensures bad_count { IsErrOf result WorldFault.BadCount ↔ (¬ ((desks ≡ 3) ⊎ (desks ≡ 5))) }

@@ -1,4 +1,4 @@
--- What options name: numbers, a hall, its desks and its key.
+-- What options name: numbers, a hall, its desks and its key (the project's own).
 use Rattle.std.specs.Prelude.{◌≡◌, ◌⊎◌, ◌≤◌, ◌||◌, ℕ, Bool, true, false, List, codes, decimal}
 use Rattle.std.specs.Prelude.{Option, None, Some, is_some, length, option_map, unwrap_or, vec_len}
 use Rattle.clap.specs.Words.{Text, first_value, matched_of, raw_values}

@@ -1,4 +1,4 @@
--- Exit statuses.
+-- Exit statuses (the project's own).
 use Rattle.std.specs.Prelude.{ℕ}
 use Rattle.std.specs.declared.io.ErrorKind.{ErrorKind}
 use Rattle.std.specs.declared.io.ErrorKind.TheVariants as kind

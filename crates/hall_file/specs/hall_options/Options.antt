@@ -1,4 +1,5 @@
--- The options by which the desks of a hall are found, as the parser knows them.
+-- The options by which the desks of a hall are found, as the parser knows them (in the words of the
+-- crate `clap`).
 use Rattle.std.specs.Prelude.{◌≡◌, ◌∷◌, [], false, List, codes, map, option_map, Some}
 use Rattle.std.specs.Borrow.{Bor}
 use Rattle.clap.specs.Words.{AddsArg, AddsInTurn, Rule, Text, items_of, new_rule, rule_of}
@@ -11,7 +12,7 @@ use Rattle.clap.specs.declared.builder.value_parser.ValueParser.{ValueParser}
 use Rattle.clap.specs.declared.builder.value_parser.ValueParser.TheVariants as parser
 
 -- what an option is: how it is read, what help calls its value and says of it, which others cannot
--- stand beside it, and without which it cannot stand
+-- be given beside it, and without which it cannot be given
 pub record Described : Type 0 where
   pub rule : Rule
   pub name : Text
@@ -42,11 +43,11 @@ plain_option id name help parser = record {
 abbrev pub bound : Rule → Rule
 bound rule = record rule { is_free = false }
 
--- these others cannot stand beside it
+-- these others cannot be given beside it
 abbrev pub excluding : List Text → Described → Described
 excluding ids d = record d { rule = bound d.rule; excluded = ids }
 
--- it cannot stand without these others
+-- it cannot be given without these others
 abbrev pub needing : List Text → Described → Described
 needing ids d = record d { rule = bound d.rule; needed = ids }
 

@@ -28,7 +28,7 @@ pub fn option<'a>(
         .value_parser(parser)
 }
 
-/// The option of the hall's file, beside which no number and no address stands.
+/// The option of the hall's file, beside which no number and no address is given.
 fn config_option<'a>(alloc: Global) -> Result<Arg<'a>, AllocError>
     ensures { IfOk result (IsOption config_option) }
 {

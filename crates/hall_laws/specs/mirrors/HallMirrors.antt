@@ -1,4 +1,4 @@
--- A mirror that takes what desks of a hall answer.
+-- A mirror that takes what desks of a hall answer (the project's own).
 use Rattle.std.specs.Prelude.{ℕ, ◌≡◌, ◌≤◌, ◌⊎◌, List, [], ◌∷◌, length, Option, Some, slice_get}
 use Rattle.acceptor.specs.declared.entry.Entry.{Entry}
 use Rattle.answers.specs.Answers.{sheet_at}

@@ -17,7 +17,8 @@ use store::keeper::Keeper;
 ///
 /// The runs of a hall, and the premises on messages and on stores, are those of `halls_are_runs`.
 pub fn mirrors_print_what_desks_print<K: Keeper>()
-    // None is told apart, and the mirror's list is empty or begins the log of one that answered.
+    // None is reported as differing, and the mirror's list is empty or begins the log of one that
+    // answered.
     ensures fronts { HallMirrorsHoldFronts K.Keeper }
     // Its sheet at a position is that of any desk's log, at any moment, that has the position.
     ensures alike { HallMirrorsPrintAlike K.Keeper }

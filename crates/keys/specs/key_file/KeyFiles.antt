@@ -1,4 +1,4 @@
--- The file of a hall's key.
+-- The file of a hall's key (the project's own).
 use Rattle.std.specs.Prelude.{◌≡◌, ◌≢◌, ◌⊎◌, ℕ, List, [], ◌∷◌, ◌++◌, length, Option, Some}
 use Rattle.std.specs.Prelude.{None, Ok, bit_and, replicate}
 use Rattle.std.specs.List.{AllPass}
@@ -38,7 +38,7 @@ Spells bytes key = decode_of (digits_of bytes) ≡ Ok key
 abbrev pub HasMark : List ℕ → Type 0
 HasMark bytes = (rest : List ℕ) × (bytes ≡ 239 ∷ 187 ∷ 191 ∷ rest)
 
--- a carriage return and a line feed stand after a key's text
+-- a carriage return and a line feed are after a key's text
 abbrev pub HasReturn : List ℕ → Type 0
 HasReturn bytes = (text : List ℕ) × (bytes ≡ text ++ 13 ∷ 10 ∷ []) × IsKeyText text
 
@@ -76,7 +76,7 @@ pub record KeyFileOf : Type 0 where
   pub about : Metadata
   pub bytes : List ℕ
 
--- where the file is told, this is known of it
+-- where the file is known, this is known of it
 abbrev pub IsAbout : Option KeyFileOf → Metadata → Type 0
 IsAbout None about = Unit {0}
 IsAbout (Some file) about = about ≡ file.about
@@ -86,20 +86,20 @@ abbrev pub HasBytes : Option KeyFileOf → Option (List ℕ) → Type 0
 HasBytes None had = Unit {0}
 HasBytes (Some file) had = had ≡ Some file.bytes
 
--- the file, where it is told, is its owner's alone, and its bytes spell this key, which is not all
--- zeros; where it is not told, some bytes do
+-- the file, where it is known, is its owner's alone, and its bytes spell this key, which is not all
+-- zeros; where it is not known, some bytes do
 abbrev pub IsKeyAt : Option KeyFileOf → List ℕ → Type 0
 IsKeyAt None key = IsSpelt key
 IsKeyAt (Some file) key = IsAlone file.about × HasKey (Some file.bytes) key
 
--- nothing is known of a file, or of its bytes: whoever was asked for them refused
+-- nothing is known of a file, or of its bytes: the system that was asked for them refused
 abbrev pub IsOfAsking : KeyFileFault → Type 0
 IsOfAsking NotThere = Unit {0}
 IsOfAsking Unreadable = Unit {0}
 IsOfAsking NoMemory = Unit {0}
 IsOfAsking _ = ⊥
 
--- why the file, where it is told, gives no key
+-- why the file, where it is known, gives no key
 abbrev pub RefusesAt : Option KeyFileOf → KeyFileFault → Type 0
 RefusesAt None fault = Unit {0}
 RefusesAt (Some file) fault =
@@ -107,7 +107,7 @@ RefusesAt (Some file) fault =
 
 -- ---- keys that are made
 
--- the source, where that is told, gave this key
+-- the source, where that is known, gave this key
 abbrev pub IsDrawn : Option (List ℕ) → List ℕ → Type 0
 IsDrawn None key = Unit {0}
 IsDrawn (Some given) key = key ≡ given

@@ -21,7 +21,7 @@ pub enum KeyFileFault {
     /// It begins with a byte-order mark, which an editor puts there.
     #[error("the key file begins with a byte-order mark: copy it again, byte by byte")]
     Mark,
-    /// A carriage return stands before its line feed, which an editor puts there.
+    /// A carriage return is before its line feed, which an editor puts there.
     #[error("the key file ends with a carriage return: copy it again, byte by byte")]
     Return,
     /// Its digits are all zeros: nobody drew that key.

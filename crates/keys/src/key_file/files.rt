@@ -1,4 +1,4 @@
-//! Where keys' files stand, and where new keys come from.
+//! Where keys' files are, and where new keys come from.
 
 ghost use Rattle.std.specs.Prelude.{ℕ, List, Option, IfOk, IfSome};
 ghost use Rattle.keys.specs.key_file.KeyFiles.{HasBytes, IsAbout, IsDrawn, KeyFileOf};
@@ -9,11 +9,11 @@ use std::random::RandomSource;
 use std::rt::Files;
 use std::{fs, io};
 
-/// Files, of which it may be told what stands in them.
+/// Files, of which it may be known what is in them.
 pub trait KeyFiles {
     type Opened: Read + Drop;
 
-    /// The file at a path, where that is told.
+    /// The file at a path, where that is known.
     ghost file_at: { Self → List ℕ → Option KeyFileOf };
 
     /// What is known of the file at a path beside its bytes.
@@ -32,7 +32,7 @@ impl<R: Files> KeyFiles for R {
 
     type Opened = R::File;
 
-    // What stands in a file of the system no contract can say.
+    // What is in a file of the system no contract can say.
     ghost file_at = { λ _ _. None };
 
     fn look(&self, path: &str) -> io::Result<Metadata> {
@@ -46,9 +46,9 @@ impl<R: Files> KeyFiles for R {
     }
 }
 
-/// A source of keys, of which it may be told what it gives.
+/// A source of keys, of which it may be known what it gives.
 pub trait KeySource {
-    /// The key that it gives, where that is told.
+    /// The key that it gives, where that is known.
     ghost gives: { Self → Option (List ℕ) };
 
     /// A key that was drawn, or none where the source fails.

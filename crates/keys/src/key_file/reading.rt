@@ -33,7 +33,7 @@ fn fault_of(error: &io::Error) -> KeyFileFault
     }
 }
 
-/// Whether a key's text stands before a carriage return and a line feed.
+/// Whether a key's text is before a carriage return and a line feed.
 fn has_return(bytes: &[u8]) -> bool
     ensures { IsTrue result ↔ HasReturn bytes.now }
 {

@@ -1,4 +1,4 @@
--- What a log keeps beside its entries: where each id stands first, and the room for more.
+-- What a log keeps beside its entries: where each id is first, and the room for more.
 use Rattle.std.specs.Prelude.{ℕ, ◌≡◌, ◌≤◌, ◌+◌, nat_eq, vec_len, vec_capacity}
 use Rattle.std.specs.declared.hash.FoldHasher.{FoldHasher}
 use Rattle.std.specs.declared.hash.BuildHasherDefault.{BuildHasherDefault}

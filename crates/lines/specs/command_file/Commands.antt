@@ -1,4 +1,5 @@
--- The commands of an input: its lines, but for those that are empty and those that are comments.
+-- The commands of an input: its lines, but for those that are empty and those that are comments
+-- (the project's own).
 use Rattle.std.specs.Prelude.{◌≡◌, ℕ, ◌+◌, ◌-◌, Bool, ◌==◌, true, if◌then◌else◌, List, [], ◌∷◌}
 use Rattle.std.specs.Prelude.{◌++◌, length, take, drop, Option, nat_eq}
 use Rattle.std.specs.List.{starts_with, ends_with}

@@ -1,4 +1,4 @@
--- What is wrong with a line that is no command, in words.
+-- What is wrong with a line that is no command, in words (the project's own).
 use Rattle.std.specs.Prelude.{ℕ, ◌-◌, Bool, false, ◌==◌, ◌&&◌, ◌||◌, nat_lt, nat_le, not, zero}
 use Rattle.std.specs.Prelude.{suc, if◌then◌else◌, List, [], ◌∷◌, ◌++◌, length, take, drop, map}
 use Rattle.std.specs.Prelude.{codes, decimal, slice_index, Option, None, Some}
@@ -41,8 +41,8 @@ shown text =
 
 -- ---- the fields of a text
 
--- what is left of a text after so many fields, of which its word is the first, where so many and a
--- space are there
+-- what is left of a text after this many fields, of which its word is the first, where this many
+-- and a space are there
 abbrev pub left_after : ℕ → List ℕ → Option (List ℕ)
 left_after zero text = Some text
 left_after (suc n) text = option_and_then (λ bytes. (cut 32 bytes).1) (left_after n text)
@@ -52,11 +52,11 @@ abbrev pub field_at : Bool → ℕ → List ℕ → Option (List ℕ)
 field_at rest index text =
     option_map (λ left. if rest then left else (cut 32 left).0) (left_after index text)
 
--- what stands in front of the first space
+-- what is in front of the first space
 abbrev pub word_of : List ℕ → List ℕ
 word_of text = (cut 32 text).0
 
--- what stands before a remark, and the remark, where the text may have one and has one
+-- what is before a remark, and the remark, where the text may have one and has one
 abbrev pub parts_of : List ℕ → List ℕ × Option (List ℕ)
 parts_of text =
     if takes_remark_in (row_named (word_of text)) then cut_remark text else (text, None)
@@ -85,7 +85,7 @@ abbrev pub values_in : List ℕ → ℕ
 values_in was =
     if bytes_eq was (codes "-") then 0 else length (slice_split (λ b. b == 44) was)
 
--- after so many attempts that are to stand, one stays as it stands
+-- after this many attempts that are to count, one stays as it is
 abbrev pub keeps_beyond : ℕ → List ℕ → Bool
 keeps_beyond values now =
     list_any (λ part. bytes_eq part (codes "=")) (drop values (slice_split (λ b. b == 47) now))
@@ -95,7 +95,7 @@ kept_text now =
     named kind.Now ++ codes " " ++ quoted now
     ++ codes " keep one that the values before do not have"
 
--- the attempts that are to stand, after the field of the values before
+-- the attempts that are to count, after the field of the values before
 abbrev pub now_text : Option (List ℕ) → Option (List ℕ) → List ℕ
 now_text None given = field_text kind.Now given
 now_text (Some was) None = field_text kind.Now None
@@ -110,7 +110,7 @@ remark_text bytes =
     else quoted bytes ++ codes " is no remark of at most 80 bytes with single spaces and no "
     ++ codes "double quote, as A 14:02")
 
--- what stands after the last field: another one, or a remark
+-- what is after the last field: another one, or a remark
 abbrev pub extra_text : Option (List ℕ) → Option (List ℕ) → List ℕ
 extra_text None None = codes "a field is missing"
 extra_text None (Some remark) = remark_text remark

@@ -1,4 +1,4 @@
--- How a message names the fields of a command.
+-- How a message names the fields of a command (the project's own).
 use Rattle.std.specs.Prelude.{ℕ, Bool, true, false, List, codes}
 use Rattle.texts.specs.declared.table.FieldKind.{FieldKind}
 use Rattle.texts.specs.declared.table.FieldKind.TheVariants as kind
@@ -47,7 +47,7 @@ field_form kind.Edition = codes "edition, as 4"
 field_form kind.Was = codes "list of what stands, as - or 1043,1198,DNF"
 field_form kind.Now = codes "list of attempts of which = stays, as T:1043:0/=/DNF"
 
--- it is the attempts that are to stand
+-- it is the attempts that are to count
 abbrev pub is_now : FieldKind → Bool
 is_now kind.Now = true
 is_now _ = false

@@ -40,7 +40,7 @@ abbrev pub GivesByte : Reading → Reading → (before now : Option (List ℕ)) 
 GivesByte old new before now byte =
     MatchOption byte (MeetsEnd old new before now) (λ b. TakesByte old new b before now)
 
--- after so many bytes of a line, so many more are within the limits
+-- after this many bytes of a line, this many more are within the limits
 pub record IsRoomFor (p : Reading) (in_line count : ℕ) : Type 0 where
   pub bytes : p.bytes + count ≤ most_bytes
   pub lines : p.lines < most_lines

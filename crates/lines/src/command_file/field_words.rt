@@ -61,7 +61,7 @@ pub(crate) fn form(kind: FieldKind) -> &'static str
     }
 }
 
-/// Whether it is the attempts that are to stand.
+/// Whether it is the attempts that are to count.
 pub(crate) fn is_now(kind: FieldKind) -> bool
     ensures { result ≡ is_now kind }
 {

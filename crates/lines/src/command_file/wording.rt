@@ -73,7 +73,7 @@ fn push_shown(out: &mut Vec<u8>, text: &[u8]) -> Result<(), AllocError>
     out.extend_from_slice(b"..")
 }
 
-/// What is left of a text after so many fields, of which its word is the first.
+/// What is left of a text after this many fields, of which its word is the first.
 fn left_after(text: &[u8], fields: u8) -> Option<&[u8]>
     ensures { option_copied result ≡ left_after fields text.now }
 {
@@ -103,14 +103,14 @@ fn field_at(text: &[u8], index: u8, is_rest: bool) -> Option<&[u8]>
     }
 }
 
-/// What stands in a text in front of its first space.
+/// What is in a text in front of its first space.
 fn word_of(text: &[u8]) -> &[u8]
     ensures { result.now ≡ word_of text.now }
 {
     cut(text, b' ').0
 }
 
-/// What stands in a text in front of a remark, and the remark, where it may have one and has one.
+/// What is in a text in front of a remark, and the remark, where it may have one and has one.
 fn parts_of(text: &[u8]) -> (&[u8], Option<&[u8]>)
     ensures { (result.0.now, option_copied result.1) ≡ parts_of text.now }
 {
@@ -186,7 +186,7 @@ fn values_in(was: &[u8]) -> usize
     }
 }
 
-/// Whether one stays as it stands of the attempts that are to stand after so many.
+/// Whether one stays as it is of the attempts that are to count after this many.
 fn keeps_beyond(values: usize, now: &[u8]) -> bool
     ensures { result ≡ keeps_beyond values now.now }
 {
@@ -195,7 +195,7 @@ fn keeps_beyond(values: usize, now: &[u8]) -> bool
         .any(|part| part == b"=".as_slice())
 }
 
-/// Adds that attempts that are to stand keep one that does not stand.
+/// Adds that attempts that are to count keep one that does not count.
 fn push_kept(out: &mut Vec<u8>, now: &[u8]) -> Result<(), AllocError>
     ensures { OnOk result (out.new.items ≡ out.old.items ++ kept_text now.now) }
 {
@@ -205,7 +205,7 @@ fn push_kept(out: &mut Vec<u8>, now: &[u8]) -> Result<(), AllocError>
     out.extend_from_slice(b" keep one that the values before do not have")
 }
 
-/// Adds what is wrong with the attempts that are to stand, by the field of the values before.
+/// Adds what is wrong with the attempts that are to count, by the field of the values before.
 fn push_now_fault(
     out: &mut Vec<u8>,
     was: Option<&[u8]>,
@@ -235,7 +235,7 @@ fn push_remark_fault(out: &mut Vec<u8>, bytes: &[u8]) -> Result<(), AllocError>
     out.extend_from_slice(b"double quote, as A 14:02")
 }
 
-/// Adds what is said of what stands after the last field: another one, or a remark.
+/// Adds what is said of what is after the last field: another one, or a remark.
 fn push_extra(
     out: &mut Vec<u8>,
     left: Option<&[u8]>,
@@ -310,9 +310,9 @@ fn line_text(
 }
 
 /// What is wrong with the first of these whose text is no command in any edition: the number of its
-/// line, and the field with what stands in it (`line 7: the outcome '16.26' is no T:h:p, as
-/// T:1626:0`), without a line feed. None where each is a command. Of a long field the front is
-/// shown, and a question mark in place of a control character.
+/// line, and the field with what is in it (`line 7: the outcome '16.26' is no T:h:p, as T:1626:0`),
+/// without a line feed. None where each is a command. Of a long field the front is shown, and a
+/// question mark in place of a control character.
 pub fn first_fault(alloc: Global, commands: &[CommandText]) -> Result<Option<Vec<u8>>, AllocError>
     ensures { IfOk result
         (λ said. option_map (λ text. text.items) said ≡ first_fault commands.now) }

@@ -59,7 +59,7 @@ pub first_and_rest : {X : Type 0} (xs : List X) (d : X) → 1 ≤ length xs
 first_and_rest [] d some = absurd (omega arith)
 first_and_rest (x ∷ xs) d some = refl
 
--- what stands after the first item is all that is left
+-- what is after the first item is all that is left
 pub rest_whole : {X : Type 0} (xs : List X) → take (length xs - 1) (drop 1 xs) ≡ drop 1 xs
 rest_whole [] = take_all (0 - 1) [] (omega arith)
 rest_whole (x ∷ xs) = take_all (suc (length xs) - 1) xs (omega arith)

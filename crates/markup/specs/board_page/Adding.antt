@@ -1,4 +1,4 @@
--- What a call adds to a text.
+-- What a call adds to a text (the project's own).
 use Rattle.std.specs.Prelude.{◌≡◌, ℕ, List, ◌++◌}
 
 -- a text of which this holds was added at the end, and nothing else changed

@@ -1,5 +1,5 @@
 -- A text as HTML has it between tags and in an attribute's double quotes: the four characters that
--- mean something there stand as character references (HTML Living Standard, 13.1.4 and 13.1.2.3).
+-- mean something there are as character references (HTML Living Standard, 13.1.4 and 13.1.2.3).
 use Rattle.std.specs.Prelude.{ℕ, ◌==◌, if◌then◌else◌, List, [], ◌∷◌, flat_map, codes}
 
 abbrev pub escaped_byte : ℕ → List ℕ

@@ -1,4 +1,4 @@
--- The answer to a request for a page.
+-- The answer to a request for a page (the project's own).
 use Rattle.std.specs.Prelude.{ℕ, ◌||◌, Bool, true, false, List, [], ◌∷◌, Option, None, Some, codes}
 use Rattle.std.specs.Str.{bytes_eq}
 use Rattle.http.specs.declared.request.Request.{Request}
@@ -17,7 +17,7 @@ is_read method = bytes_eq method (codes "GET") || bytes_eq method (codes "HEAD")
 abbrev pub text_field : Header
 text_field = (codes "content-type", codes "text/plain; charset=utf-8")
 
--- where no page stands now, one may stand soon
+-- where no page is now, one may be soon
 abbrev pub no_store : Header
 no_store = (codes "cache-control", codes "no-store")
 

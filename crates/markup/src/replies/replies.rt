@@ -79,7 +79,7 @@ fn describe(page: &Page, response: &mut Response) -> Result<(), AllocError>
     response.add_header(header::CACHE_CONTROL, page.cache_control.clone()?)
 }
 
-/// A browser that has the page already is told so.
+/// A browser that has the page already gets just that answer.
 fn keep(page: &Page, response: &mut Response) -> Result<(), AllocError>
     requires { IsBlank response.old }
     ensures { OnOk result (IsResponse 304 (page_fields page.now) [] response.new) }
@@ -99,9 +99,9 @@ fn send(page: &Page, response: &mut Response) -> Result<(), AllocError>
     response.body.push(page.body.clone()?)
 }
 
-/// Answers a request for a page, if one stands at its path: with the page, with 304 where the
-/// browser has it already, with 404 where there is none, which no browser is to keep, and with 405
-/// where the method is neither GET nor HEAD. The error is for memory alone.
+/// Answers a request for a page, if one is at its path: with the page, with 304 where the browser
+/// has it already, with 404 where there is none, which no browser is to keep, and with 405 where
+/// the method is neither GET nor HEAD. The error is for memory alone.
 pub fn reply(
     request: &Request<Bytes>,
     page: Option<&Page>,

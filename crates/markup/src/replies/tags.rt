@@ -53,7 +53,7 @@ fn is_open_after(quoted: bool, byte: u8) -> bool
     if byte == b'"' { !quoted } else { quoted }
 }
 
-/// Whether a tag stands in a list of tags. What stands within another tag doesn't count. Weak tags
+/// Whether a tag is in a list of tags. What is within another tag doesn't count. Weak tags
 /// (`W/"17-hall"`) and others are compared alike.
 fn is_listed(value: &[u8], tag: &[u8]) -> bool
     ensures { result ≡ is_listed false value.now tag.now }

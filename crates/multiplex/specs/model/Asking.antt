@@ -37,7 +37,7 @@ abbrev pub IsWatchedIf : ℕ → Guest → Guest → Option Why → List Request
 IsWatchedIf k old g None last = IsWatched k old g last
 IsWatchedIf k old g (Some w) last = last ≡ []
 
--- a client has its turn, before and after which its connection stands so
+-- a client has its turn, before and after which its connection is so
 pub record AsksHosted (k : ℕ) (old new : Guest) (fate : Option Why) (asked : List Request)
     : Type 0 where
   pub first : List Request

@@ -42,7 +42,7 @@ KeepsKept home wire old new = AreKept home wire old → AreKept home wire new
 abbrev pub KeepsAll : Table → Table → Type 0
 KeepsAll old new = (home : Home) (wire : Version) → KeepsKept home wire old new
 
--- which of the first so many was ready longest ago, if there is one, and when it was
+-- which of the first this many was ready longest ago, if there is one, and when it was
 abbrev pub IsEarliest : Option ℕ → ℕ → ℕ → List Guest → Type 0
 IsEarliest None earliest count guests = count ≡ 0
 IsEarliest (Some i) earliest count guests =

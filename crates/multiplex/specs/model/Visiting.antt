@@ -43,7 +43,7 @@ place_at d p version s = record {
   outside = outside d p version s.node s.peers;
 }
 
--- these turns were taken, in which so many pieces came at most, and these frames were begun
+-- these turns were taken, in which this many pieces came at most, and these frames were begun
 pub record Takes {V U C : Type 0} (d : DeskOf V) (p : PeersOf U)
     (happened : C → Option (List Happened)) (k : ℕ) (cause : Option Why) (most : ℕ)
     (begun : List Begun) (a b : Spot V U C) (turns : List Turn) : Type 0 where
@@ -61,8 +61,8 @@ abbrev pub Goes : {V U C : Type 0} → DeskOf V → PeersOf U → (C → Option 
 Goes d p happened k cause most begun a b =
     (turns : List Turn) × Takes d p happened k cause most begun a b turns
 
--- what stands beside a turn: whether a sheet or entries of the log were asked for and answered in
--- the round, what is kept of the client, and how another desk differs
+-- what is beside a turn: whether a sheet or entries of the log were asked for and answered in the
+-- round, what is kept of the client, and how another desk differs
 pub record Beside : Type 0 where
   pub spent : Bool
   pub notes : Notes

@@ -1,4 +1,4 @@
--- What the answers of the system say of a peer.
+-- What the answers of the system say of a peer (the project's own).
 use Rattle.std.specs.Prelude.{ℕ, ℤ, pos, ◌==◌, ◌||◌, if◌then◌else◌, Bool, true, false}
 use Rattle.std.specs.Prelude.{Option, None, Some, Result, Ok, Err}
 use Rattle.std.specs.IoError.{error_kind, raw_os_error}

@@ -1,4 +1,4 @@
--- The sockets of peers, and the poll that tells which of them is ready.
+-- The sockets of peers, and the poll that tells which of them is ready (the project's own).
 use Rattle.std.specs.Prelude.{◌≡◌, ◌≢◌, ℕ, Bool, false, true, is_some, nat_eq, nat_le}
 use Rattle.std.specs.Prelude.{List, [], length}
 use Rattle.std.specs.Map.{lookup}

@@ -1,4 +1,4 @@
--- The peers' sockets.
+-- The peers' sockets (the project's own).
 use Rattle.std.specs.Prelude.{◌≡◌, ◌≢◌, ◌==◌, ◌-◌, ℕ, Bool, false, is_some, nat_eq, nat_le, nat_lt}
 use Rattle.std.specs.Prelude.{not, if◌then◌else◌, List, [], ◌∷◌}
 use Rattle.indexmap.specs.IndexMap.{get, index_map_len}

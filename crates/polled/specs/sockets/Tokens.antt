@@ -1,4 +1,4 @@
--- Which socket a token names.
+-- Which socket a token names (the project's own).
 use Rattle.std.specs.Prelude.{ℕ, ◌-◌, ◌^◌, nat_lt, if◌then◌else◌}
 use Rattle.polled.specs.declared.sockets.tokens.Source.{Source}
 use Rattle.polled.specs.declared.sockets.tokens.Source.TheVariants as source

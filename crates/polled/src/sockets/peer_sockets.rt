@@ -20,16 +20,16 @@ use std::marker::Model;
 use std::net::{Net, SocketAddr};
 use std::time::{Clock, Duration, Instant};
 
-/// How many sockets that are ready are told of at once, beside those of open connections: those
-/// that are ending, the listener, and the program's own.
+/// How many sockets that are ready are named at once, beside those of open connections: those that
+/// are ending, the listener, and the program's own.
 const MOST_OTHERS: usize = MOST_ENDING + 16;
 
 /// The sockets of peers over TCP, each by the number under which it was accepted, and one poll that
 /// tells which of them is ready. No call but `ready` waits.
 ///
 /// At most as many connections are open at once as was asked for, and 64 more are ending: the peer
-/// was told that no more comes, and what it still sends is read and dropped, for two seconds at
-/// most, so that what it was sent isn't lost by a reset.
+/// knows that no more comes, and what it still sends is read and dropped, for two seconds at most,
+/// so that what it was sent isn't lost by a reset.
 ///
 /// A contract sees how many connections may be open at once, which ones are, whether a round was
 /// begun and isn't over, and what of it is still to be named.
@@ -84,7 +84,7 @@ fn note_all(events: &Events, registry: &Registry, streams: &mut Streams, agenda:
 }
 
 impl<'a, R: Net + Clock> PeerSockets<'a, R> {
-    /// Listens at this address. At most so many connections are open at once. No round was begun.
+    /// Listens at this address. At most this many connections are open at once. No round was begun.
     pub fn listen(
         runtime: &'a R,
         alloc: Global,
@@ -135,7 +135,7 @@ impl<R> PeerSockets<'_, R> {
         self.deaf = asked.is_err();
     }
 
-    /// Begins a round: waits until something is ready, so many milliseconds at most. False: the
+    /// Begins a round: waits until something is ready, this many milliseconds at most. False: the
     /// system doesn't tell it.
     fn begin_round(&mut self, wait: u64) -> bool
         requires { self.old.round.begun ≡ false }
@@ -307,9 +307,9 @@ impl<R: Clock> PeerSockets<'_, R> {
         }
     }
 
-    /// Waits until something is ready, so many milliseconds at most, and names it. A round is begun
-    /// where the last one is over. First of a round is named that somebody waits, then the peers
-    /// that are ready in the order of their numbers, and then it is over.
+    /// Waits until something is ready, this many milliseconds at most, and names it. A round is
+    /// begun where the last one is over. First of a round is named that somebody waits, then the
+    /// peers that are ready in the order of their numbers, and then it is over.
     pub fn ready(&mut self, wait: u64) -> Ready
         ensures named { NamesNext result self.old.round self.new.round }
         ensures most { self.new.most ≡ self.old.most }

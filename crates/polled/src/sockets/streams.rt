@@ -23,8 +23,8 @@ const ENDING: u64 = 2000;
 /// How often a connection that is ending is read at once.
 const MOST_READS: u32 = 16;
 
-/// A connection that is ending: the peer was told that no more is sent to it. What it still sends
-/// is read and dropped, since bytes that were not read would reset the connection, and what it was
+/// A connection that is ending: the peer knows that no more is sent to it. What it still sends is
+/// read and dropped, since bytes that were not read would reset the connection, and what it was
 /// sent would be lost.
 #[derive(Drop)]
 struct Ending {
@@ -46,8 +46,8 @@ fn goes_on(mut stream: &TcpStream) -> bool {
     true
 }
 
-/// The sockets of peers, each by the peer's number: at most so many of open connections, and 64 of
-/// connections that are ending.
+/// The sockets of peers, each by the peer's number: at most this many of open connections, and 64
+/// of connections that are ending.
 #[derive(Drop)]
 pub struct Streams {
     staying: IndexMap<u64, TcpStream>,
@@ -162,7 +162,7 @@ impl Streams {
         }
     }
 
-    /// Ends the connection of a peer: it is told that no more is sent, and its socket is kept
+    /// Ends the connection of a peer: it is said to it that no more is sent, and its socket is kept
     /// until the peer ends the connection too, but not where sockets are scarce.
     pub fn end(&mut self, registry: &Registry, number: u64, now: u64, scarce: bool)
         ensures ended { is_open self.new number ≡ false }

@@ -1,4 +1,4 @@
--- How a desk names what keeps it from a step.
+-- How a desk names what keeps it from a step (the project's own).
 use Rattle.proposer.specs.declared.fault.Refusal.{Refusal}
 use Rattle.proposer.specs.declared.fault.Refusal.TheVariants as refusal
 use Rattle.proposer.specs.declared.fault.StepFault.{StepFault}

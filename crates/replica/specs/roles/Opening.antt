@@ -1,4 +1,4 @@
--- What a desk is when it is opened.
+-- What a desk is when it is opened (the project's own).
 use Rattle.std.specs.Prelude.{List, []}
 use Rattle.acceptor.specs.declared.entry.Entry.{Entry}
 use Rattle.acceptor.specs.declared.stored.Stored.{Stored}

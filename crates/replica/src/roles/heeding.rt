@@ -7,7 +7,7 @@ use acceptor::MOST_ENTRIES;
 use acceptor::ballot::Ballot;
 use acceptor::message::{Body, Message};
 
-/// Whether a hall of so many desks has a desk of this number: 1 to `desks`.
+/// Whether a hall of this many desks has a desk of this number: 1 to `desks`.
 pub fn is_desk(desks: u8, desk: u8) -> bool
     ensures { result ≡ is_desk desks desk }
 {

@@ -167,8 +167,7 @@ impl Running {
         self.proposer.submit(entry, len)
     }
 
-    /// What the desk plans when it is told to start. It makes room for the plan, and changes
-    /// nothing else.
+    /// What the desk plans at a Start. It makes room for the plan, and changes nothing else.
     ///
     /// An idle desk makes a new ballot. One that leads asks for votes for the first entry of its
     /// queue, by the ballot that it has; where it has promised a higher one it makes a new ballot.

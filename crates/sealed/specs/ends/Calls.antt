@@ -1,4 +1,5 @@
--- A caller's end of a connection: what it keeps, what it has read, and what it takes.
+-- A caller's end of a connection: what it keeps, what it has read, and what it takes (the project's
+-- own).
 use Rattle.std.specs.Prelude.{◌≡◌, ℕ, ◌==◌, ◌&&◌, not, Bool, true, false, List, [], ◌∷◌, ◌++◌}
 use Rattle.std.specs.Prelude.{length, take, min, Option, None, Some, option_map, if◌then◌else◌}
 use Rattle.seal.specs.declared.fault.SealFault.{SealFault}
@@ -80,7 +81,7 @@ GivesBy false bytes count old new = (count ≡ 0) × (new ≡ old)
 GivesBy true bytes count old new =
     (count ≡ min (length bytes) 16384) × Takes (take count bytes) old new
 
--- so many of the bytes are taken, those in front
+-- this many of the bytes are taken, those in front
 abbrev pub Gives : List ℕ → ℕ → CallOf → CallOf → Type 0
 Gives bytes count old new = GivesBy (is_ready old) bytes count old new
 

@@ -1,4 +1,4 @@
--- What a caller's end of a connection has sent of what it was given.
+-- What a caller's end of a connection has sent of what it was given (the project's own).
 use Rattle.std.specs.Prelude.{◌≡◌, ℕ, List, [], ◌++◌, Option, None, Some}
 use Rattle.seal.specs.declared.channel.Direction.TheVariants.{ToServer}
 use Rattle.seal.specs.Records.{key_of, preface_of}

@@ -1,4 +1,4 @@
--- Laws of a caller's end of a connection.
+-- Laws of a caller's end of a connection (the project's own).
 use Rattle.std.specs.Prelude.{◌≡◌, ◌≢◌, ◌⊎◌, ℕ, List, [], ◌++◌, drop, take}
 use Rattle.std.specs.Prelude.{Option, None, Some}
 use Rattle.seal.specs.declared.channel.Direction.TheVariants.{ToServer, ToClient}
@@ -69,7 +69,7 @@ IsSent (Some key) random came given sent =
     ((given ≡ []) × (sent ≡ preface_of random)) ⊎ IsSentSealed key random came given sent
 
 -- what was handed on: without a key all that came, but of a desk that asks for one; and with a key
--- what stands in records that fit
+-- what is in records that fit
 abbrev pub IsHanded : Option (List ℕ) → List ℕ → List ℕ → List ℕ → Type 0
 IsHanded None random came handed = handed ≡ handed_plain came
 IsHanded (Some key) random came handed = (handed ≡ []) ⊎ IsOpened key random came handed

@@ -1,4 +1,5 @@
--- What a caller without a key is handed on: all that comes, but of a desk that asks for a key.
+-- What a caller without a key is handed on: all that comes, but of a desk that asks for a key (the
+-- project's own).
 use Rattle.std.specs.Prelude.{ℕ, ◌==◌, ◌&&◌, Bool, List, [], ◌++◌, length, take, nat_eq}
 use Rattle.std.specs.Prelude.{if◌then◌else◌}
 use Rattle.std.specs.List.{starts_with}

@@ -1,4 +1,4 @@
--- How whoever calls a desk begins to read a sealed stream.
+-- How the caller of a desk begins to read a sealed stream.
 use Rattle.std.specs.Prelude.{◌≡◌, ℕ, List, Some}
 use Rattle.seal.specs.declared.channel.Direction.TheVariants.{ToClient}
 use Rattle.seal.specs.Records.{key_of}

@@ -18,9 +18,9 @@ const MOST: usize = 16_384;
 /// pieces. `output` is what is to be sent over the connection.
 ///
 /// With a key the caller's preface is to be sent first, and what is given is taken once the desk's
-/// came. Each time it is sealed into one record. What is handed on stands in records that fit.
-/// Without a key all is sent and handed on as it is, but for what a desk sends that asks for a key:
-/// of that nothing is handed on.
+/// came. Each time it is sealed into one record. What is handed on is in records that fit. Without
+/// a key all is sent and handed on as it is, but for what a desk sends that asks for a key: of that
+/// nothing is handed on.
 ///
 /// A contract sees the side of the key, where there is one, the first bytes that came, whether
 /// something was handed on, and what is to be sent.
@@ -162,7 +162,7 @@ impl Call {
         &self.output[self.taken..]
     }
 
-    /// Says that so many bytes of the output were sent.
+    /// Says that this many bytes of the output were sent.
     pub fn sent(&mut self, count: usize)
         requires { count ≤ length self.old.output }
         ensures { self.new ≡ record self.old { output = drop count self.old.output } }

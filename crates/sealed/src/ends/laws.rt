@@ -8,13 +8,13 @@ pub fn stays_call()
 {}
 
 /// A caller sends nothing but what it is given, in order: with a key its preface, and once the
-/// desk's came records of it that are numbered from 0. It is handed on nothing but what stands in
+/// desk's came records of it that are numbered from 0. It is handed on nothing but what is in
 /// records that fit; and without a key all that came, but of a desk that asks for one: a law.
 pub fn calls_speak()
     ensures { CallsSpeak }
 {}
 
-/// What is wrong by what came is told exactly where it is so: a law.
+/// A law: what is wrong by what came is reported exactly where it is so.
 pub fn tells_trouble()
     ensures { TellsTrouble }
 {}

@@ -39,7 +39,7 @@ pub(crate) fn is_mark(bytes: &[u8]) -> bool
 }
 
 /// What is handed on with a piece, where the first bytes so far are these, at most four, and were
-/// so many before it.
+/// this many before it.
 pub(crate) fn passed(
     alloc: Global,
     front: &[u8],

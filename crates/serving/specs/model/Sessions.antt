@@ -123,7 +123,7 @@ abbrev pub MeetsPart : {V U : Type 0} → DeskOf V → PeersOf U → Session →
     → Desks V U → Type 0
 MeetsPart d p s event a b = ComesPart d p s (λ t. settle_by s.home a.left (call s.home event t)) a b
 
--- Start, where the log has more than so many entries
+-- Start, where the log has more than this many entries
 abbrev pub Starts : {V U : Type 0} → DeskOf V → PeersOf U → Session → ℕ → Point V U → Point V U
     → Type 0
 Starts d p s before a b = Comes d p s (start_if_grown s.home before) a b
@@ -187,7 +187,7 @@ LearnsPart d p s run a b =
     ComesPart d p s (λ t. settle_by s.home 16 (learn s.home run.from run.to run.pos run.entries t))
     (idle a.node a.peers 16) b
 
--- what a desk that lacks entries is told
+-- what a desk that lacks entries is sent
 abbrev pub TellsAll : {V U : Type 0} → DeskOf V → PeersOf U → Session → Message → Desks V U
     → Point V U → Type 0
 TellsAll d p s message a b =

@@ -1,4 +1,4 @@
--- What the sheet of a round has of its entrants, as JSON values.
+-- What the sheet of a round has of its entrants, as JSON values (the project's own).
 use Rattle.std.specs.Prelude.{ℕ, Bool, List, codes, flat_map, option_to_list}
 use Rattle.std.specs.Option.{option_map}
 use Rattle.json.specs.Json.{Json, boolean, array, object, Members, no_members, member}

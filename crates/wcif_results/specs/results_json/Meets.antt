@@ -1,5 +1,5 @@
 -- The results of a meet as a JSON value: an object with the list of all rounds that were opened, in
--- the order of the events' numbers and then of the rounds'.
+-- the order of the events' numbers and then of the rounds' (the project's own).
 use Rattle.std.specs.Prelude.{List, ◌++◌, codes, flat_map}
 use Rattle.json.specs.Json.{Json, array, object, no_members, member}
 use Rattle.json.specs.Value.{items_of}

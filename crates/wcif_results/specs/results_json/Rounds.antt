@@ -1,4 +1,4 @@
--- A round as a JSON value: an object with these members, in this order.
+-- A round as a JSON value: an object with these members, in this order (the project's own).
 use Rattle.std.specs.Prelude.{ℕ, Bool, List, codes, option_to_list}
 use Rattle.std.specs.Option.{option_map}
 use Rattle.json.specs.Json.{Json, boolean, string, object, Members, no_members, member}

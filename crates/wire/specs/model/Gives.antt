@@ -31,7 +31,7 @@ abbrev pub GivesBody : Result What WireFault → Option What → Type 0
 GivesBody (Ok what) read = read ≡ Some what
 GivesBody (Err e) read = LacksBody e read
 
--- entries were put after others; memory may be refused whatever stands there
+-- entries were put after others; memory may be refused whatever is there
 abbrev pub LacksEntries : WireFault → Option (List Entry × List ℕ) → Type 0
 LacksEntries BadLength read = ⊥
 LacksEntries BadVersion read = ⊥

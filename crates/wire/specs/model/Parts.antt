@@ -1,4 +1,4 @@
--- Entries and votes as they stand in the bytes of a frame, seen as those that are made of them.
+-- Entries and votes as they are in the bytes of a frame, seen as those that are made of them.
 use Rattle.acceptor.specs.declared.entry.Entry.{Entry}
 use Rattle.acceptor.specs.declared.message.Report.{Report}
 use Rattle.acceptor.specs.Entries.{IsId, IsText}

@@ -24,7 +24,7 @@ GivesLength (Err BadKind) bytes = ⊥
 GivesLength (Err BadBody) bytes = ⊥
 GivesLength (Err NoMemory) bytes = ⊥
 
--- what was found at the front, with the number of its bytes, is what stands there; memory is wanted
+-- what was found at the front, with the number of its bytes, is what is there; memory is wanted
 -- only for a frame
 abbrev pub GivesFront : Result (Option (Frame × ℕ)) WireFault → List ℕ → Front → Type 0
 GivesFront (Ok None) bytes at = at ≡ Waits
@@ -75,6 +75,6 @@ pub record ReadsOn (bytes : List ℕ) (before after : List Frame) (reader : Read
   pub added : after ≡ before ++ frames
   pub feeds : Feeds bytes frames reader
 
--- the bytes held at first still stand in front
+-- the bytes held at first still are in front
 abbrev pub StandsInFront : List ℕ → List ℕ → Type 0
 StandsInFront old new = take (length old) new ≡ old

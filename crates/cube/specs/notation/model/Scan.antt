@@ -74,8 +74,8 @@ abbrev pub with_move : Move → Result (List Move) ReadFault → Result (List Mo
 with_move move (Ok moves) = Ok (move ∷ moves)
 with_move move (Err fault) = Err fault
 
--- a word of the rest names a move or none, the word stands at this offset, and this is behind it;
--- what is read behind that
+-- a word of the rest names a move or none, the word is at this offset, and this is behind it; what
+-- is read behind that
 abbrev pub scan_on : Option Move → ℕ → List ℕ → Result (List Move) ReadFault
     → Result (List Move) ReadFault
 scan_on None at more further = Err (BadToken at)
@@ -87,8 +87,8 @@ abbrev pub scan_end : ℕ → List ℕ → Result (List Move) ReadFault
 scan_end total [] = Err (BadToken total)
 scan_end total (c ∷ cs) = Err TooMany
 
--- what is read from the rest of a text of so many bytes, where so many more moves may come and a
--- token is expected
+-- what is read from the rest of a text of this many bytes, where this many more moves may come and
+-- a token is expected
 unfoldable pub scan : ℕ → ℕ → List ℕ → Result (List Move) ReadFault
 scan total zero rest = scan_end total rest
 scan total (suc n) rest =

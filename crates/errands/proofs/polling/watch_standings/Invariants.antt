@@ -2,7 +2,7 @@ use Rattle.errands.specs.Polling.{outside}
 use Rattle.errands.specs.Watching.{HasWatched}
 use Rattle.errands.proofs.polling.watch_standings.Given as goal
 
--- so many reports were written
+-- this many reports were written
 abbrev pub invariant-loop-report : goal.invariant-loop-report
 invariant-loop-report g l =
     HasWatched l.fn.form l.fn.inquiry

@@ -17,7 +17,7 @@ abbrev pub desk_from : ℕ → List Desk → ℕ → Desk
 desk_from first [] d = first_desk
 desk_from first (x ∷ xs) d = if first == d then x else desk_from (suc first) xs d
 
--- so many desks, numbered from 1, and all messages that they have sent
+-- this many desks, numbered from 1, and all messages that they have sent
 pub record HallValue : Type 0 where
   pub desks : ℕ
   pub places : List Desk

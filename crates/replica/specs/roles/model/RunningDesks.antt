@@ -16,7 +16,7 @@ use Rattle.learner.specs.Ranges.{DeskIsInRange, AreInRange}
 use Rattle.learner.specs.Steps.{IsDesk, is_heeded, on_body, done, step}
 use Rattle.learner.specs.declared.event.DeskEvent.{DeskEvent}
 
--- this desk of so many, all that it knows, and the room that its log has for the next entry
+-- this desk of this many, all that it knows, and the room that its log has for the next entry
 pub record RunningDesk : Type 0 where
   pub number : ℕ
   pub desks : ℕ

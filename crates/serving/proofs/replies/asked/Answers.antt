@@ -9,7 +9,7 @@ use Rattle.wire.proofs.Told.{HasPlace, state_told}
 use Rattle.serving.specs.Answering.{state_of}
 use Rattle.serving.proofs.replies.asked.Goals as goal
 
--- a command that is told as done stands at a position of the log
+-- a command that is told as done is at a position of the log
 placed_at : (log : List Entry) (pos : ℕ) (e : Option Entry) → length log ≤ 65536
     → slice_get log pos ≡ e → HasPlace (state_of (told_at log pos e))
 placed_at log pos None few is = tt

@@ -7,7 +7,7 @@ use Rattle.markup.proofs.board_page.Steps.{two_parts, when_ok}
 use Rattle.table_views.specs.Recent.{standing_words, value_words}
 use Rattle.table_views.proofs.recent.push_standing.Goals as goal
 
--- where something stands
+-- where something is
 something_stands : (unit : Measure) (values : List Value) → nat_eq (length values) 0 ≡ false
     → flat_map (value_words unit) values ++ codes "stands now" ≡ standing_words unit values
 something_stands unit [] some = absurd (cc some)

@@ -4,7 +4,7 @@ use Rattle.texts.specs.Fields.{all_of, counted_of}
 use Rattle.texts.proofs.Splits.{ahead_parts, in_front, parts}
 use Rattle.texts.proofs.fields.was_of.Given as goal
 
--- the values so far stand in front of those that are ahead
+-- the values so far are in front of those that are ahead
 abbrev pub invariant-loop-attempt : goal.invariant-loop-attempt
 invariant-loop-attempt l =
     record {

@@ -4,7 +4,7 @@ use Rattle.texts.specs.Reading.{values_of}
 use Rattle.texts.specs.model.Returned.{after}
 use Rattle.texts.proofs.reading.values_of.Given as goal
 
--- what the fields so far are stands in front of what the later ones are
+-- what the fields so far are is in front of what the later ones are
 abbrev pub invariant-loop-kind : goal.invariant-loop-kind
 invariant-loop-kind l =
     record {

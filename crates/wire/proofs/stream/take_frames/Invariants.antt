@@ -3,7 +3,7 @@ use Rattle.wire.specs.declared.frame.Frame.{Frame}
 use Rattle.wire.specs.model.Steps.{AreFirst}
 use Rattle.wire.proofs.stream.take_frames.Given as goal
 
--- the frames taken here stand after those that were taken before
+-- the frames taken here are after those that were taken before
 abbrev pub invariant-loop-frame : goal.invariant-loop-frame
 invariant-loop-frame l =
     (frames : List Frame) × (l.frames.items ≡ l.fn.before.items ++ frames)

@@ -2,7 +2,7 @@ use Rattle.std.proofs.Common.{◌≡◌, ◌-◌, ◌*◌, ◌+◌, ◌<◌, ◌
 use Rattle.sealed.specs.Tunnels.{SealsAll}
 use Rattle.sealed.proofs.tunnel.Tunnel.seal.Given as goal
 
--- what stands in front was sealed
+-- what is in front was sealed
 abbrev pub invariant-loop-start : goal.invariant-loop-start
 invariant-loop-start l = record {
   within : l.start ≤ length l.bytes;
