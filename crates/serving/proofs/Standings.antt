@@ -1,4 +1,4 @@
--- How a desk is is in the ranges of a frame.
+-- What a desk says of itself is in the ranges of a frame.
 use Rattle.std.proofs.Common.{◌≡◌, inl, inr, ◌⊎◌, ◌∙◌, sym, ap}
 use Rattle.std.proofs.Common.{subst, arith, ℕ, ◌<◌, ◌≤◌, ◌^◌, ◌==◌}
 use Rattle.std.proofs.Common.{Bool, true, false, if◌then◌else◌, Option, None, Some}
