@@ -2,7 +2,6 @@ pub mod Asking
 pub mod Begun
 pub mod Entering
 pub mod Folders
-pub mod Machine
 pub mod Places
 pub mod Services
 pub mod Standings

@@ -1,6 +1,6 @@
 -- How the desks of a hall are, printed once or again and again (the project's own).
 use Rattle.std.specs.Prelude.{◌≡◌, ◌⊎◌, ◌≤◌, ℕ, Bool, true, false, List, Option, length, map}
-use Rattle.std.specs.Prelude.{option_map, codes}
+use Rattle.std.specs.Prelude.{option_map}
 use Rattle.std.specs.Io.KnownBytes.{Keeps}
 use Rattle.addressing.specs.Files.{IsOfFile}
 use Rattle.addressing.specs.Keys.{FailsKey, IsKeyOf, Naming, naming}
@@ -15,7 +15,6 @@ use Rattle.errands.specs.declared.polling.Inquiry.{Inquiry}
 use Rattle.hall_file.specs.Halls.{texts_of}
 use Rattle.standings.specs.declared.forms.Form.{Form}
 use Rattle.batch.specs.Dialing.{Dialed}
-use Rattle.tasks.specs.Machine.{PrintsAll}
 
 -- at most five desks are asked
 abbrev pub AreFew : Desks → Type 0
@@ -32,27 +31,20 @@ EndsInquiry status q form true o =
     ((status ≡ 0) × HasWatched form q o)
     ⊎ ((f : DeskFault) × (status ≡ status_of f) × FailsWatch f form q o)
 
--- A report was printed, or that failed; after it the lines were printed about the desks' programs
--- and the machine where the hall's file is at this path, and the status is that of the report, or 4
--- where that failed.
-pub record EndsAll (file : List ℕ) (status : ℕ) (q : Inquiry) (form : Form) (o : Outside)
-    : Type 0 where
+-- A report was printed, or that failed; after it more may have been asked of the desks, and
+-- printed.
+pub record EndsAll (status : ℕ) (q : Inquiry) (form : Form) (o : Outside) : Type 0 where
   pub report : ℕ
   pub dialed : Option (List Dialed)
   pub out : Option (List ℕ)
   pub reports : EndsInquiry report q form false
       (record { dialed = o.dialed; dialed_then = dialed; old = o.old; new = out })
-  pub is :
-      ((status ≡ report)
-      × PrintsAll q file
-      (record { dialed = dialed; dialed_then = o.dialed_then; old = out; new = o.new }))
-      ⊎ (status ≡ 4)
+  pub is : (status ≡ report) ⊎ (status ≡ 4)
 
--- the desks of an inquiry were asked, and where all is wanted, those lines were printed
-abbrev pub EndsAsked : (all : Bool) → (file : List ℕ) → ℕ → Inquiry → Form → (watches : Bool)
-    → Outside → Type 0
-EndsAsked true file status q form watches o = EndsAll file status q form o
-EndsAsked false file status q form watches o = EndsInquiry status q form watches o
+-- the desks of an inquiry were asked, and where all is wanted, further lines were printed
+abbrev pub EndsAsked : (all : Bool) → ℕ → Inquiry → Form → (watches : Bool) → Outside → Type 0
+EndsAsked true status q form watches o = EndsAll status q form o
+EndsAsked false status q form watches o = EndsInquiry status q form watches o
 
 -- these desks of this hall are asked, each for this long, under this key, or without one
 pub record Asks (q : Inquiry) (hall : ℕ) (addresses : List (List ℕ)) (key : Option (List ℕ))
@@ -63,11 +55,11 @@ pub record Asks (q : Inquiry) (hall : ℕ) (addresses : List (List ℕ)) (key : 
   pub patience_is : q.patience ≡ patience
 
 -- so it was, of the desks at these addresses
-abbrev pub EndsAddresses : (file : List ℕ) → ℕ → (hall : ℕ) → List (List ℕ) → Option (List ℕ) → ℕ
-    → Form → (watches all : Bool) → Outside → Type 0
-EndsAddresses file status hall addresses key patience form watches all o =
+abbrev pub EndsAddresses : ℕ → (hall : ℕ) → List (List ℕ) → Option (List ℕ) → ℕ → Form
+    → (watches all : Bool) → Outside → Type 0
+EndsAddresses status hall addresses key patience form watches all o =
     (q : Inquiry) × Asks q hall addresses key patience
-    × EndsAsked all file status q form watches o
+    × EndsAsked all status q form watches o
 
 -- no desk was asked and nothing printed, by such a fault
 abbrev pub EndsUnasked : (DeskFault → Type 0) → ℕ → Outside → Type 0
@@ -79,15 +71,12 @@ EndsUnasked Is status o =
 abbrev pub EndsFile : ℕ → Naming → Outside → Type 0
 EndsFile status n o = EndsUnasked (λ f. IsOfFile f ⊎ IsKeyless n f) status o
 
--- where no file describes the hall, its file would be as `hall.toml` where the program runs
 abbrev pub EndsStatus : Desks → ℕ → Form → (watches all : Bool) → ℕ → Outside → Type 0
 EndsStatus (desks.Addresses hall addresses key) patience form watches all status o =
     EndsUnasked (FailsKey (option_map (λ k. k.now) key)) status o
     ⊎ ((k : Option (List ℕ)) × IsKeyOf (option_map (λ k. k.now) key) k
-    × EndsAddresses (codes "hall.toml") status hall (map (λ a. a.now) addresses.now) k patience form
-    watches all o)
+    × EndsAddresses status hall (map (λ a. a.now) addresses.now) k patience form watches all o)
 EndsStatus (desks.File file key) patience form watches all status o =
     EndsFile status (naming file key) o
     ⊎ IsSaid (naming file key)
-    (λ hall k.
-    EndsAddresses file.now status hall.hall (texts_of hall) k patience form watches all o)
+    (λ hall k. EndsAddresses status hall.hall (texts_of hall) k patience form watches all o)

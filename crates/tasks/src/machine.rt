@@ -1,111 +1,101 @@
 //! What else has to fit before the day: the desks' programs, and this machine.
 
-ghost use Rattle.std.specs.Prelude.{◌≡◌, ◌≤◌, ◌+◌, length, string_bytes, IfOk, OnOk};
-ghost use Rattle.errands.specs.Polling.{outside};
-ghost use Rattle.tasks.specs.Machine.{IsKeyBeside, IsKeyLine, PrintsAll, SayPrograms, SaysAll};
-ghost use Rattle.tasks.specs.Machine.{clock_line, program_words, room_line, two_digits};
-
 use batch::{Contact, Dial, knows_await};
 use errands::Inquiry;
-use explaining::{Finding, room_beside};
+use explaining::room_beside;
 use hall_file::key_path;
-use keys::key_file::{KeyFileFault, KeyFiles, read_key_at};
+use keys::key_file::{KeyFileFault, read_key_at};
 use lines::{WriteFailed, write_text};
 use std::alloc::{AllocError, Global};
 use std::io::Write;
 use std::time::Clock;
 
-/// Whether a desk's program is of this version, in words.
-fn program_words(knows: bool) -> &'static str
-    ensures { result.now ≡ program_words knows }
-{
-    if knows {
-        "its program is of this version"
-    } else {
-        "its program is of an earlier version, or does not answer"
-    }
-}
-
-/// The lines of the desks' programs: at these addresses is asked, at the first for the desk of this
-/// number, and at each further one for the next.
-fn program_lines<D: Dial>(
+/// Adds whether the program of a desk is of this version.
+fn push_program<D: Dial>(
     alloc: Global,
     dial: &mut D,
     inquiry: Inquiry<'_>,
     desk: u8,
-    addresses: &[&str],
-) -> Result<String, AllocError>
-    requires { desk + length addresses.now ≤ 6 }
-    ensures { IfOk result (λ text. SayPrograms inquiry.entry desk addresses.now
-        (string_bytes text) (D.dialed dial.old) (D.dialed dial.new)) }
-{
-    let [address, rest @ ..] = addresses else {
-        return Ok(String::new(alloc));
-    };
+    address: &str,
+    text: &mut Vec<u8>,
+) -> Result<(), AllocError> {
     let contact = Contact {
         address,
         patience: inquiry.patience.max(4),
         key: inquiry.key,
     };
-    let words = program_words(knows_await(alloc, dial, contact, inquiry.hall, desk));
-    let more = program_lines(alloc, dial, inquiry, desk + 1, rest)?;
-    format!(in alloc; "desk {desk}: {words}\n{more}")
-}
-
-/// A number below 100, as two digits.
-fn two_digits(alloc: Global, number: u64) -> Result<String, AllocError>
-    ensures { IfOk result (λ text. string_bytes text ≡ two_digits number) }
-{
-    let (tens, ones) = (number / 10, number % 10);
-    format!(in alloc; "{tens}{ones}")
-}
-
-/// The line of this machine's clock, this many seconds after 1970, or where it can't be read.
-fn clock_line(alloc: Global, clock: Option<u64>) -> Result<String, AllocError>
-    ensures { IfOk result (λ line. string_bytes line ≡ clock_line clock) }
-{
-    let Some(now) = clock else {
-        return format!(in alloc; "this machine: its clock can't be read\n");
+    let said = if knows_await(alloc, dial, contact, inquiry.hall, desk) {
+        "its program is of this version"
+    } else {
+        "its program is of an earlier version, or does not answer"
     };
-    let hours = two_digits(alloc, now / 3600 % 24)?;
-    let minutes = two_digits(alloc, now / 60 % 60)?;
-    let seconds = two_digits(alloc, now % 60)?;
-    format!(in alloc;
-        "this machine: its clock says {hours}:{minutes}:{seconds} UTC; compare it with a watch\n"
-    )
+    let line = format!(in alloc; "desk {desk}: {said}\n")?;
+    text.extend_from_slice(line.as_bytes())
 }
 
-/// The line of the disk on which the hall's file is.
-fn room_line(alloc: Global, file: &str, found: Option<Finding<'_>>) -> Result<String, AllocError>
-    ensures { IfOk result (λ line. string_bytes line ≡ room_line file.now found.entry) }
-{
-    match found {
-        Some(found) => format!(in alloc; "this machine: {found}\n"),
-        None => format!(in alloc; "this machine: there is room beside {file}\n"),
+/// Adds that of each desk.
+fn push_programs<D: Dial>(
+    alloc: Global,
+    dial: &mut D,
+    inquiry: Inquiry<'_>,
+    text: &mut Vec<u8>,
+) -> Result<(), AllocError> {
+    let mut desk = 0_u8;
+    for address in inquiry.addresses {
+        desk = desk.saturating_add(1);
+        push_program(alloc, dial, inquiry, desk, address, text)?;
     }
+    Ok(())
 }
 
-/// The line of the key's file at a path.
-fn key_line<R: KeyFiles + AllocGlobal>(rt: &R, path: &str) -> Result<String, AllocError>
-    ensures { IfOk result (λ line.
-        IsKeyLine (R.file_at rt.now path.now) path.now (string_bytes line)) }
-{
-    match read_key_at(rt, path) {
-        Ok(_) => format!(in rt.alloc(); "this machine: {path} has a key\n"),
-        Err(KeyFileFault::NotThere) => format!(in rt.alloc(); "this machine: there is no {path}\n"),
-        Err(fault) => {
-            let why = format!(in rt.alloc(); "{fault}")?;
-            format!(in rt.alloc(); "this machine: {path}: {why}\n")
-        }
-    }
+/// Adds a number from 0 to 99, as two digits.
+fn push_two_digits(text: &mut Vec<u8>, number: u64) -> Result<(), AllocError> {
+    let two = (number % 100) as u8;
+    text.push(b'0' + two / 10)?;
+    text.push(b'0' + two % 10)?;
+    Ok(())
 }
 
-/// That of the key's file of a name that is beside the hall's file.
-fn key_beside(rt: &HostRuntime, file: &str, name: &str) -> Result<String, AllocError>
-    ensures { IfOk result (λ line. IsKeyBeside file.now name.now (string_bytes line)) }
-{
+/// Adds what this machine's clock says.
+fn push_clock(rt: &HostRuntime, text: &mut Vec<u8>) -> Result<(), AllocError> {
+    let Ok(since) = rt.since_1970() else {
+        return text.extend_from_slice(b"this machine: its clock can't be read\n");
+    };
+    let seconds = since.as_secs();
+    text.extend_from_slice(b"this machine: its clock says ")?;
+    push_two_digits(text, seconds / 3600 % 24)?;
+    text.push(b':')?;
+    push_two_digits(text, seconds / 60 % 60)?;
+    text.push(b':')?;
+    push_two_digits(text, seconds % 60)?;
+    text.extend_from_slice(b" UTC; compare it with a watch\n")
+}
+
+/// Adds whether the disk has room on which the hall's file is.
+fn push_room(rt: &HostRuntime, file: &str, text: &mut Vec<u8>) -> Result<(), AllocError> {
+    let line = match room_beside(rt, file) {
+        Some(found) => format!(in rt.alloc(); "this machine: {found}\n")?,
+        None => format!(in rt.alloc(); "this machine: there is room beside {file}\n")?,
+    };
+    text.extend_from_slice(line.as_bytes())
+}
+
+/// Adds whether a key's file of this name is beside the hall's file, and gives a key.
+fn push_key(
+    rt: &HostRuntime,
+    file: &str,
+    name: &str,
+    text: &mut Vec<u8>,
+) -> Result<(), AllocError> {
     let path = key_path(rt.alloc(), file, name)?;
-    key_line(rt, path.as_str())
+    let line = match read_key_at(rt, path.as_str()) {
+        Ok(_) => format!(in rt.alloc(); "this machine: {path} has a key\n")?,
+        Err(KeyFileFault::NotThere) => {
+            format!(in rt.alloc(); "this machine: there is no {path}\n")?
+        }
+        Err(fault) => format!(in rt.alloc(); "this machine: {path}: {fault}\n")?,
+    };
+    text.extend_from_slice(line.as_bytes())
 }
 
 /// The lines about the desks' programs and this machine.
@@ -114,19 +104,14 @@ fn lines_of<D: Dial>(
     dial: &mut D,
     inquiry: Inquiry<'_>,
     file: &str,
-) -> Result<String, AllocError>
-    requires { length inquiry.addresses.now ≤ 5 }
-    ensures { IfOk result (λ text. SaysAll inquiry.entry file.now (string_bytes text)
-        (D.dialed dial.old) (D.dialed dial.new)) }
-{
-    let alloc = rt.alloc();
-    let programs = program_lines(alloc, dial, inquiry, 1, inquiry.addresses)?;
-    let since = rt.since_1970().ok().map(|since| since.as_secs());
-    let clock = clock_line(alloc, since)?;
-    let room = room_line(alloc, file, room_beside(rt, file))?;
-    let hall_key = key_beside(rt, file, "hall.key")?;
-    let entry_key = key_beside(rt, file, "entry.key")?;
-    format!(in alloc; "{programs}{clock}{room}{hall_key}{entry_key}")
+) -> Result<Vec<u8>, AllocError> {
+    let mut text = Vec::new(rt.alloc());
+    push_programs(rt.alloc(), dial, inquiry, &mut text)?;
+    push_clock(rt, &mut text)?;
+    push_room(rt, file, &mut text)?;
+    push_key(rt, file, "hall.key", &mut text)?;
+    push_key(rt, file, "entry.key", &mut text)?;
+    Ok(text)
 }
 
 /// Prints of each desk whether its program is of this version, and of this machine what its clock
@@ -141,13 +126,9 @@ pub(crate) fn print_machine<D: Dial, W: Write>(
     inquiry: Inquiry<'_>,
     file: &str,
     writer: &mut W,
-) -> Result<(), WriteFailed>
-    requires { length inquiry.addresses.now ≤ 5 }
-    ensures { OnOk result (PrintsAll inquiry.entry file.now
-        (outside D.dialed W.contents dial.old dial.new writer.old writer.new)) }
-{
+) -> Result<(), WriteFailed> {
     match lines_of(rt, dial, inquiry, file) {
-        Ok(text) => write_text(writer, text.as_bytes()),
+        Ok(text) => write_text(writer, &text),
         Err(_) => Err(WriteFailed),
     }
 }

@@ -1,6 +1,6 @@
 //! How the desks of a hall are.
 
-ghost use Rattle.std.specs.Prelude.{◌≡◌, ◌≤◌, false, length, map, IfOk, OnErr, OnOk};
+ghost use Rattle.std.specs.Prelude.{◌≡◌, ◌⊎◌, ◌≤◌, false, length, map, IfOk};
 ghost use Rattle.errands.specs.Polling.{outside};
 ghost use Rattle.hall_file.specs.Halls.{texts_of};
 ghost use Rattle.tasks.specs.Standings.{AreFew, EndsAll, EndsAsked, EndsInquiry, EndsStatus};
@@ -50,8 +50,7 @@ fn inquire_once<D: Dial, W: Write, F: Write>(
 
 /// The exit status after a report with this one, where more was printed, or could not be.
 fn status_after<F: Write>(faults: &mut F, status: u8, printed: Result<(), WriteFailed>) -> u8
-    ensures ok { OnOk printed (result ≡ status) }
-    ensures err { OnErr printed (result ≡ 4) }
+    ensures { (result ≡ status) ⊎ (result ≡ 4) }
 {
     match printed {
         Ok(()) => status,
@@ -71,7 +70,7 @@ fn inquire_all<D: Dial, W: Write, F: Write>(
     faults: &mut F,
 ) -> u8
     requires { length inquiry.addresses.now ≤ 5 }
-    ensures { EndsAll file.now result inquiry.entry form
+    ensures { EndsAll result inquiry.entry form
         (outside D.dialed W.contents dial.old dial.new writer.old writer.new) }
 {
     let status = inquire_once(rt, dial, inquiry, form, writer, faults);
@@ -90,7 +89,7 @@ fn inquire<D: Dial, W: Write, F: Write>(
     faults: &mut F,
 ) -> u8
     requires { length inquiry.addresses.now ≤ 5 }
-    ensures { EndsAsked way.all file.now result inquiry.entry way.form way.watches
+    ensures { EndsAsked way.all result inquiry.entry way.form way.watches
         (outside D.dialed W.contents dial.old dial.new writer.old writer.new) }
 {
     if way.all {
@@ -119,9 +118,7 @@ pub fn addresses_of<'a>(alloc: Global, hall: &'a HallFile) -> Result<Vec<&'a str
 
 /// Asks the desks of a hall how they are, prints a report on them, and returns the exit status:
 /// that of [`print_standings`], or that of a fault. Where the hall's file describes none, or its
-/// key is not to be had, it says so. Where all is wanted, it prints after the report of each desk
-/// whether its program is of this version, and of this machine what its clock says, whether there
-/// is room beside the hall's file, and whether `hall.key` and `entry.key` there have a key.
+/// key is not to be had, it says so.
 pub fn status_at<D: Dial, W: Write, F: Write>(
     rt: &HostRuntime,
     dial: &mut D,
