@@ -91,6 +91,12 @@ class Browser:
         self.pressed += len(keys)
         self.ask("POST", "/actions", {"actions": [{"type": "key", "id": "k", "actions": steps}]})
 
+    def resize(self, width, height):
+        """The page is shown on a screen of so many pixels: on a phone's below 500."""
+        screen = {"width": width, "height": height, "deviceScaleFactor": 1, "mobile": width < 500}
+        self.ask("POST", "/goog/cdp/execute",
+                 {"cmd": "Emulation.setDeviceMetricsOverride", "params": screen})
+
     def source(self):
         return self.ask("GET", "/source")
 
