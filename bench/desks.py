@@ -20,14 +20,14 @@ sys.dont_write_bytecode = True
 sys.path += [str(TOP / "scripts"), str(TOP / "examples")]
 import running
 import sealing
-from client import (ASK, CODES, FINE, REFUSALS, REFUSED, SHEET, SHEET_TEXT, STOP, SUBMIT, TAKEN,
-                    TICK, TOLD)
+from client import (ASK, AWAIT, CODES, FINE, REFUSALS, REFUSED, SHEET, SHEET_TEXT, STOP, SUBMIT,
+                    TAKEN, TICK, TOLD)
 
 HALL = 7
 PATIENCE = 60  # seconds that anything is waited for
 FRAMES = 64  # that a desk takes on one connection
-PAUSE = 0.0002  # seconds between two questions of a client, at least
-SHARE = 0.25  # the longer it has waited, the longer it pauses: by this part of its time so far
+AWAITED = 1  # seconds after which an Await is answered in any case
+PAUSE = 0.0005  # seconds between two questions to a program that knows no Await
 THREADS = 16  # clients of one process, where there are many
 
 
@@ -94,8 +94,8 @@ def read_frame(stream, desk):
 
 
 class Client:
-    """A client of one desk. It keeps a connection for so many frames. Only the program that serves
-    its connections side by side can be asked so: with an earlier one it has to be one frame."""
+    """A client of one desk. It keeps a connection for so many frames. An earlier program, which
+    serves one connection after the other, has to be asked one frame on each."""
 
     def __init__(self, address, desk, frames=FRAMES, patience=PATIENCE, key=None):
         host, _, port = address.rpartition(":")
@@ -154,6 +154,16 @@ class Client:
         expect(f"id that desk {self.desk} tells of", fields[:8], id_of(number))
         return state_of(fields)
 
+    def awaited(self, number):
+        """What the desk says of an id once it is decided, or after a second; an earlier program
+        at once."""
+        if self.frames == 1:
+            time.sleep(PAUSE)
+            return self.state(number)
+        fields = self.exchange(AWAIT, id_of(number) + bytes([AWAITED]), TOLD, 5)
+        expect(f"id that desk {self.desk} tells of", fields[:8], id_of(number))
+        return state_of(fields)
+
     def has(self, number):
         return isinstance(self.state(number), tuple)
 
@@ -183,14 +193,13 @@ class Client:
         brought nothing, the desk is ticked, unless it ticks itself."""
         self.enter_when_room(number, text)
         start = ticked = time.monotonic()
-        while not isinstance(told := self.state(number), tuple):
+        while not isinstance(told := self.awaited(number), tuple):
             now = time.monotonic()
             if now > start + self.patience:
                 raise Fault(f"desk {self.desk} has not decided {number} after {self.patience} s")
-            if ticks and now > ticked + 1:
+            if ticks and now > ticked + 0.9 * AWAITED:
                 self.tick()
                 ticked = now
-            time.sleep(max(PAUSE, SHARE * (now - start)))
         return told
 
 
@@ -405,7 +414,7 @@ def words_of(text):
 
 def programs_of(given):
     """The program of these arguments, and the earlier one, or None."""
-    return Program(given.program), given.earlier and Program(given.earlier, is_earlier=True)
+    return Program(given.program), given.earlier and Program(given.earlier)
 
 
 def run_script(main):

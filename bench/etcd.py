@@ -2,7 +2,9 @@
 
 import base64
 import json
+import os
 import shutil
+import signal
 import socket
 import subprocess
 import time
@@ -52,9 +54,9 @@ class Asker:
 
 
 class Nodes:
-    """Three nodes with their files in a folder."""
+    """Three nodes with their files in a folder; `front` are words before the program's own."""
 
-    def __init__(self, folder):
+    def __init__(self, folder, front=()):
         ports = running.free_ports(2 * NODES)
         self.ports = ports[:NODES]
         peers = [f"http://127.0.0.1:{port}" for port in ports[NODES:]]
@@ -62,12 +64,13 @@ class Nodes:
         self.running = []
         for at, (port, peer) in enumerate(zip(self.ports, peers)):
             url = f"http://127.0.0.1:{port}"
-            words = ["etcd", "--name", f"n{at}", "--data-dir", f"{folder}/n{at}"]
+            words = [*front, "etcd", "--name", f"n{at}", "--data-dir", f"{folder}/n{at}"]
             words += ["--listen-client-urls", url, "--advertise-client-urls", url]
             words += ["--listen-peer-urls", peer, "--initial-advertise-peer-urls", peer]
             words += ["--initial-cluster", cluster, "--initial-cluster-state", "new"]
             silent = {"stdout": subprocess.DEVNULL, "stderr": subprocess.DEVNULL}
-            self.running.append(subprocess.Popen(words, **silent))
+            # a session of its own, so that it ends with whatever stands in front of it
+            self.running.append(subprocess.Popen(words, **silent, start_new_session=True))
         try:
             self.leader = self.found_leader()
         except BaseException:
@@ -96,5 +99,5 @@ class Nodes:
 
     def close(self):
         for process in self.running:
-            process.kill()
+            os.killpg(process.pid, signal.SIGKILL)
             process.communicate()

@@ -122,7 +122,7 @@ class Fields:
                  ("promised", Fields.promised), ("told", Fields.lengths)]
         values = [f"{name}: {taken(self)}" for name, taken in named]
         differs = self.difference() if self.version >= 5 else "None"
-        return f"Standing {{ {', '.join(values)}, differs: {differs} }}"
+        return f"DeskStatus {{ {', '.join(values)}, differs: {differs} }}"
 
     def difference(self):
         """What a desk heard that does not agree with its log: from version 5 on."""

@@ -32,7 +32,7 @@ NOTES = {
     "f": (2, "a time is like 1043, 10.43 or 1:02.33", "-"),
     "g": (3, "attempt 3 is empty", "-"),
     "c": (6, "the round is closed: send it all the same?", "refused-14"),
-    "k": (6, "other attempts stand now than the page showed: is it still right?", "refused-25"),
+    "k": (6, "the page showed other attempts: is it still right?", "refused-25"),
     "u": (1, "more than twice or less than half of the others: is it right?", "unlike-1"),
     "m": (1, "nobody has ever been that fast: is it right?", "fast-1"),
     "h": (2, "less than half of the best of this round, or of this competitor's in another: is it "
@@ -45,7 +45,7 @@ NOTES = {
 FLOORS = {"222": 0.30, "333": 2.50, "444": 13.00, "555": 27.00, "666": 50.00, "777": 80.00,
           "333bf": 10.00, "333oh": 5.00, "clock": 1.30, "minx": 20.00, "pyram": 0.60,
           "skewb": 0.60, "sq1": 3.00, "444bf": 45.00, "555bf": 105.00}
-CHANGES = (1, "another result stands: change it?", "changes-1")
+CHANGES = (1, "another result counts: change it?", "changes-1")
 CARD = re.compile("CARD ([0-9a-z]+) ([1-4]) ([0-9]+) ([^ ]+) ([^#]*?)( # .*)?")
 NUMBERS = ["no", "one", "two", "three", "four", "five"]
 KEYS = {
@@ -183,7 +183,7 @@ class Pages:
             if card:
                 values = "".join(rules.printed(value, card[1]) + " "
                                  for value in self.standing(card))
-                told += f": {values or 'nothing '}stands now"
+                told += f": {values or 'nothing '}on record now"
             return "changed", f"{told}, by result {count + 1}"
         if text[0] == "r":
             return "refused", "not entered: the round is closed"
@@ -199,7 +199,7 @@ class Pages:
         if card and state[0] == "c" and "=" not in card[5].split("/")[len(stands):]:
             again = (f'<form method="post" action="/again">{carried}'
                      f'{hidden("was", spelled_was(stands))}'
-                     "<button>Enter it over what stands now</button></form>\n")
+                     "<button>Enter it over what is on record now</button></form>\n")
         return (again + f'<form method="post" action="/answered">{carried}'
                 "<button>Leave it</button></form>\n")
 
@@ -366,7 +366,7 @@ class Pages:
                f'</label></p>\n<section id="round"><h2>{self.words(what, which)}</h2>\n'
                f'<p class="count">{counts["done"]} of {len(table.entrants)} done, '
                f'{counts["begun"]} in the middle, {counts["absent"]} without an attempt</p>\n'
-               "<table><caption>Who is in this round, by place, and what stands</caption>"
+               "<table><caption>Entrants of this round by place, with attempts</caption>"
                f"<thead><tr>{self.headings(names)}</tr></thead><tbody>\n")
         for fields in lines:
             who = fields[1]
@@ -449,7 +449,7 @@ class Pages:
 
     def edition_form(self, back):
         return ("<h2>Edition 4</h2>\n<p>An earlier edition of the commands holds in this hall, and "
-                "this table takes no card under it. With edition 4 a scorecard is one command, "
+                "this table accepts no card under it. With edition 4 a scorecard is one command, "
                 "which counts over what its scoretaker saw, or not at all. The commands can also "
                 "change a name, the settings of a round and a scramble, withdraw a competitor, and "
                 "open a closed round again. First each desk has to run a program that knows "
@@ -521,7 +521,7 @@ class Pages:
                 ("cumulative", "as-single",
                  "A time limit for several attempts together becomes the limit of each"),
                 ("same-names", "id",
-                 "Each of several persons with one name gets his WCA ID behind it")):
+                 "Each of several persons with one name gets the WCA ID behind it")):
             out += (f'<label><input type="checkbox" name="{name}" value="{value}"> '
                     f"{words}</label>\n")
         out += ("<button>Look at it</button></form>\n<h2>Lines of commands</h2>\n"
@@ -575,14 +575,14 @@ class Pages:
                       'more, under <a href="/people">competitors</a>.')
         else:
             undone = ("It can't be taken back: the best of the round before who has a result, did "
-                      "not advance and has not taken a place yet takes the place, and stands here "
-                      "until the first attempt.")
+                      "not advance and has not taken a place yet takes the place, and is shown "
+                      "here until the first attempt.")
         forms = [("<p>Who never came is withdrawn, and has no result in this round then. " + undone
                   + " If one of these still comes, withdraw each of the others on the page of that "
                   "competitor. The button enters nothing yet: it shows each command, with the "
                   "name.</p>\n", 16, absent, "Withdraw who never came")]
         if others := self.to_come(where, table):
-            forms.append(("<p>Where nobody is to come any more, whoever would take a place is "
+            forms.append(("<p>Where nobody is to come any more, all who would take a place are "
                           "withdrawn too, one after the other, and the places stay empty. That "
                           "can't be taken back either. This button enters nothing yet too.</p>\n",
                           17, absent + others, "Withdraw these and all who wait"))
@@ -699,7 +699,7 @@ class Pages:
         if table.advance == ("final",):
             return "<p>It is the final: nobody advances.</p>\n"
         numbers, most = table.advancing(), rules.quota(table.advance, len(table.started()))
-        out = (f"<h2>Who advances, as it stands: {len(numbers)}</h2>\n<ol>\n"
+        out = (f"<h2>Who advances, as of now: {len(numbers)}</h2>\n<ol>\n"
                + self.entrants(where, numbers) + "</ol>\n")
         if len(numbers) >= most:
             return out

@@ -52,7 +52,7 @@ HasAttempts NotClosed Changed""".split()
 REFUSALS = """Busy LogFull BallotsSpent NoMemory Down NotThere NoSuchRound Foreign NotAllowed
 HallDiffers""".split()
 ROLES = "idle gathering proposing leading".split()
-SUBMIT, ASK, SHEET, TICK, STOP, STATUS, LOG = 16, 17, 18, 19, 20, 21, 22
+SUBMIT, ASK, SHEET, TICK, STOP, STATUS, LOG, AWAIT = 16, 17, 18, 19, 20, 21, 22, 23
 TAKEN, TOLD, SHEET_TEXT, REFUSED, FINE, STANDING, ENTRIES = 32, 33, 34, 35, 36, 37, 38
 FIRST, SECOND, THIRD, FOURTH, FIFTH = VERSIONS = 1, 2, 3, 4, 5  # of the wire
 CLIENT = 0  # its number

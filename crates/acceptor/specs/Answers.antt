@@ -8,7 +8,7 @@ use Rattle.acceptor.specs.declared.message.Report.{Report}
 use Rattle.acceptor.specs.declared.message.Body.{Body}
 use Rattle.acceptor.specs.declared.message.Body.TheVariants.{Promise, Accepted, Nack, Decided}
 use Rattle.acceptor.specs.declared.message.Body.TheVariants.{Behind}
-use Rattle.acceptor.specs.declared.steps.Here.{Here}
+use Rattle.acceptor.specs.declared.steps.LogView.{LogView}
 use Rattle.acceptor.specs.declared.stored.Vote.{Vote}
 use Rattle.acceptor.specs.declared.stored.Stored.{Stored}
 use Rattle.acceptor.specs.declared.stored.Change.{Change}
@@ -58,13 +58,13 @@ accept_reply s len there b pos e =
     if pos == len then accept_here s b pos e else elsewhere there len pos
 
 -- the entry at the asked position of a desk's log, where there is one
-abbrev pub entry_there : Here → Option Entry
+abbrev pub entry_there : LogView → Option Entry
 entry_there here = option_map (λ e. e.now) here.entry
 
 -- what a desk with this log stores and answers when it is asked for a promise
-abbrev pub promise_reply : Stored → Here → Ballot → ℕ → Reply
+abbrev pub promise_reply : Stored → LogView → Ballot → ℕ → Reply
 promise_reply s here b pos = prepare_reply s here.len (entry_there here) b pos
 
 -- what it stores and answers when it is asked for its vote
-abbrev pub vote_reply : Stored → Here → Ballot → ℕ → Entry → Reply
+abbrev pub vote_reply : Stored → LogView → Ballot → ℕ → Entry → Reply
 vote_reply s here b pos e = accept_reply s here.len (entry_there here) b pos e

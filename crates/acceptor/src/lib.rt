@@ -18,7 +18,7 @@ pub use ballot::Ballot;
 pub use entry::{Entry, EntryFault};
 pub use message::{Body, Message, Messages, Report};
 pub use std::alloc::AllocError as NoMemory;
-pub use steps::{Here, on_accept, on_prepare};
+pub use steps::{LogView, on_accept, on_prepare};
 pub use stored::{Change, Stored, Vote};
 
 /// The most entries in a log. Positions are below it.

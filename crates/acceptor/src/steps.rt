@@ -14,7 +14,7 @@ use std::alloc::Global;
 /// A desk's log, as far as one step needs it: its length, 0 to 65,536, and the entry at the asked
 /// position, where there is one.
 #[derive(Clone, Copy, Debug)]
-pub struct Here<'a> {
+pub struct LogView<'a> {
     pub len: u32,
     pub entry: Option<&'a Entry>,
 }
@@ -29,7 +29,7 @@ pub struct Here<'a> {
 pub fn on_prepare(
     alloc: Global,
     stored: &Stored,
-    here: Here,
+    here: LogView,
     ballot: Ballot,
     pos: u32,
 ) -> Result<(Option<Change>, Body), NoMemory>
@@ -68,7 +68,7 @@ pub fn on_prepare(
 pub fn on_accept(
     alloc: Global,
     stored: &Stored,
-    here: Here,
+    here: LogView,
     ballot: Ballot,
     pos: u32,
     entry: &Entry,
@@ -114,7 +114,7 @@ fn report(alloc: Global, vote: &Option<Vote>, pos: u32) -> Result<Option<Report>
 }
 
 /// What is answered at a position that is not the log's length.
-fn told(alloc: Global, here: Here, pos: u32) -> Result<Body, NoMemory>
+fn told(alloc: Global, here: LogView, pos: u32) -> Result<Body, NoMemory>
     ensures { IfOk result
         (λ b. b ≡ (elsewhere (entry_there here.entry) here.entry.len pos).body) }
 {

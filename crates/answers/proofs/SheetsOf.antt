@@ -8,8 +8,8 @@ use Rattle.sheets.specs.Sheet.{sheet}
 use Rattle.sheets.specs.declared.Style.{Style}
 use Rattle.sheets.specs.declared.Style.TheVariants.{Text, Table}
 use Rattle.answers.specs.Answers.{texts, sheet_at, NoSheetAt, NoSheetIn}
-use Rattle.answers.specs.declared.fault.SheetFault.{SheetFault}
-use Rattle.answers.specs.declared.fault.SheetFault.TheVariants.{NotThere, NoSuchRound, NoMemory}
+use Rattle.answers.specs.declared.fault.LogSheetFault.{LogSheetFault}
+use Rattle.answers.specs.declared.fault.LogSheetFault.TheVariants.{NotThere, NoSuchRound, NoMemory}
 
 same_sheet : (style : Style) (log : List Entry) (position : ℕ) (event : Event) (round : ℕ)
     → sheet_at style log position event round
@@ -24,20 +24,20 @@ module _ (style : Style) (log : List Entry) (position : ℕ) (event : Event) (ro
       same_sheet style log position event round
       ∙ ap (λ (x : History). sheet style x.accepted event round position) (sym stands)
 
-  pub sheet_there : {A : Type 0} (r : Result (Vec ℕ A) SheetFault)
+  pub sheet_there : {A : Type 0} (r : Result (Vec ℕ A) LogSheetFault)
       → IfOk r (λ text. sheet style h.accepted event round position ≡ Some text.items)
       → IfOk r (λ text. sheet_at style log position event round ≡ Some text.items)
   sheet_there (Ok text) is = sheet_is ∙ is
   sheet_there (Err fault) is = tt
 
-  no_sheet : (fault : SheetFault) → position ≤ length log
+  no_sheet : (fault : LogSheetFault) → position ≤ length log
       → NoSheetIn fault (sheet style h.accepted event round position)
       → NoSheetAt fault log position (sheet_at style log position event round)
   no_sheet NotThere within is = absurd is
   no_sheet NoSuchRound within is = (within, sheet_is ∙ is)
   no_sheet NoMemory within is = within
 
-  pub none_there : {A : Type 0} (r : Result (Vec ℕ A) SheetFault) → position ≤ length log
+  pub none_there : {A : Type 0} (r : Result (Vec ℕ A) LogSheetFault) → position ≤ length log
       → IfErr r (λ fault. NoSheetIn fault (sheet style h.accepted event round position))
       → IfErr r
       (λ fault. NoSheetAt fault log position (sheet_at style log position event round))

@@ -6,7 +6,7 @@ ghost use Rattle.sheets.specs.Sheet.{sheet};
 ghost use Rattle.answers.specs.Answers.{texts, is_queued, told_by_queue, told, sheet_at, NoSheetAt};
 ghost use Rattle.answers.specs.Answers.{NoSheetIn};
 
-use crate::fault::SheetFault;
+use crate::fault::LogSheetFault;
 use acceptor::NoMemory;
 use acceptor::entry::Entry;
 use commands::{Answer, Meet};
@@ -17,7 +17,7 @@ use std::alloc::Global;
 
 /// What has become of a submitted id, as a desk knows it.
 #[derive(Clone, Copy, PartialEq, Eq, Debug)]
-pub enum Told {
+pub enum IdState {
     /// An entry of this id is in the log. `pos` is the first position that has one, 0 to 65,535,
     /// and `answer` is what its command was answered.
     Done { pos: u32, answer: Answer },
@@ -48,18 +48,18 @@ fn is_queued(queue: &[Entry], id: u64) -> bool
 }
 
 /// What has become of an id that is not in the log.
-fn told_by_queue(queue: &[Entry], id: u64) -> Told
+fn told_by_queue(queue: &[Entry], id: u64) -> IdState
     ensures { result ≡ told_by_queue queue.now id }
 {
     if is_queued(queue, id) {
-        Told::Pending
+        IdState::Pending
     } else {
-        Told::Unknown
+        IdState::Unknown
     }
 }
 
 /// What has become of this id, where the log and the queue are these.
-pub fn answer_of(alloc: Global, log: &Log, queue: &[Entry], id: u64) -> Result<Told, NoMemory>
+pub fn answer_of(alloc: Global, log: &Log, queue: &[Entry], id: u64) -> Result<IdState, NoMemory>
     ensures { IfOk result (λ answer. answer ≡ told log.now.entries queue.now id) }
 {
     let Some(pos) = log.position_of(id) else {
@@ -67,10 +67,10 @@ pub fn answer_of(alloc: Global, log: &Log, queue: &[Entry], id: u64) -> Result<T
     };
     let mut meet = meet_of(alloc, log, pos)?;
     let Some(entry) = log.entry(pos) else {
-        return Ok(Told::Unknown);
+        return Ok(IdState::Unknown);
     };
     let answer = meet.apply(entry.id(), entry.text())?;
-    Ok(Told::Done { pos, answer })
+    Ok(IdState::Done { pos, answer })
 }
 
 /// The sheet of a round of a meet, at a position.
@@ -81,7 +81,7 @@ pub fn sheet_in(
     event: Event,
     round: u8,
     style: Style,
-) -> Result<Vec<u8>, SheetFault>
+) -> Result<Vec<u8>, LogSheetFault>
     ensures sheet { IfOk result
         (λ text. sheet style meet.now.accepted event round position ≡ Some text.items) }
     ensures none { IfErr result
@@ -89,8 +89,8 @@ pub fn sheet_in(
 {
     match sheet(alloc, meet, event, round, position, style) {
         Ok(text) => Ok(text),
-        Err(sheets::SheetFault::NoSuchRound) => Err(SheetFault::NoSuchRound),
-        Err(sheets::SheetFault::NoMemory) => Err(SheetFault::NoMemory),
+        Err(sheets::SheetFault::NoSuchRound) => Err(LogSheetFault::NoSuchRound),
+        Err(sheets::SheetFault::NoMemory) => Err(LogSheetFault::NoMemory),
     }
 }
 
@@ -102,7 +102,7 @@ pub fn sheet_of(
     event: Event,
     round: u8,
     style: Style,
-) -> Result<Vec<u8>, SheetFault>
+) -> Result<Vec<u8>, LogSheetFault>
     ensures there { OnOk result (position ≤ length log.now.entries) }
     ensures sheet { IfOk result
         (λ text. sheet_at style log.now.entries position event round ≡ Some text.items) }
@@ -112,10 +112,10 @@ pub fn sheet_of(
         (sheet_at style log.now.entries position event round)) }
 {
     if position > log.len() {
-        return Err(SheetFault::NotThere);
+        return Err(LogSheetFault::NotThere);
     }
     let Ok(meet) = meet_of(alloc, log, position) else {
-        return Err(SheetFault::NoMemory);
+        return Err(LogSheetFault::NoMemory);
     };
     sheet_in(alloc, &meet, position, event, round, style)
 }

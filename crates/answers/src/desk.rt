@@ -1,7 +1,7 @@
 //! What the code that serves a desk needs of it.
 
 ghost use Rattle.std.specs.Prelude.{◌≡◌, ◌⊎◌, ◌↔◌, ◌≤◌, List, Result, Err, Some, IfOk, OnOk, IfErr};
-ghost use Rattle.std.specs.Prelude.{true, false, length};
+ghost use Rattle.std.specs.Prelude.{Bool, IsTrue, true, false, length};
 ghost use Rattle.std.specs.List.{AllByRecursion};
 ghost use Rattle.acceptor.specs.Ballots.{no_ballot};
 ghost use Rattle.acceptor.specs.declared.message.Message.{Message as MessageValue};
@@ -12,11 +12,11 @@ ghost use Rattle.replica.specs.declared.roles.fault.NodeFault.{NodeFault as Refu
 ghost use Rattle.learner.specs.Ranges.{IsReal};
 ghost use Rattle.replica.specs.Handles.{Takes};
 ghost use Rattle.replica.specs.Lengths.{told_after};
-ghost use Rattle.answers.specs.Seen.{Seen};
+ghost use Rattle.answers.specs.Seen.{Seen, settled};
 ghost use Rattle.store.specs.declared.home.Home.{Home as Place};
 
-use crate::answers::Told;
-use crate::fault::SheetFault;
+use crate::answers::IdState;
+use crate::fault::LogSheetFault;
 use acceptor::NoMemory;
 use acceptor::ballot::Ballot;
 use acceptor::message::Messages;
@@ -39,13 +39,20 @@ pub trait Desk {
     /// All that is said of a call: the desk before it, the event, the answer, the desk behind it.
     ghost handles: { Self → EventValue → Result (List MessageValue) Refusal → Self → Type 0 };
 
+    /// All that is said of a settling: the desk before it, the answer, the desk after it.
+    ghost settles: { Self → Bool → Self → Type 0 };
+
+    /// Nothing that an event has changed waits to be committed.
+    ghost is_settled: { Self → Type 0 };
+
     /// The hall, its number, and the number of desks.
     fn home(&self) -> Home
         ensures home { result ≡ home_of self.now }
         ensures ours { IsDesk result.desks result.desk }
         ensures few { result.desks ≤ 5 };
 
-    /// Takes an event, and gives the messages that come of it.
+    /// Takes an event, and gives the messages that come of it. They may not leave the desk before
+    /// `settle` has answered true.
     fn handle(&mut self, event: DeskEvent) -> Result<Messages, NodeFault>
         ensures handles { handles self.old event result self.new }
         ensures takes { let home = home_of self.old in let x = (seen self.old).desk in
@@ -57,6 +64,14 @@ pub trait Desk {
         ensures told { (seen self.new).told
             ≡ told_after (home_of self.old) event result (seen self.old).told }
         ensures down { (result ≡ Err NodeFault.Down) ↔ ((seen self.new).is_down ≡ true) }
+        ensures home { home_of self.new ≡ home_of self.old };
+
+    /// Commits what the events since the last such call have changed, all of it together. False:
+    /// the store has failed, now or before.
+    fn settle(&mut self) -> bool
+        ensures settles { settles self.old result self.new }
+        ensures settled { IsTrue result → is_settled self.new }
+        ensures seen { seen self.new ≡ settled result (seen self.old) }
         ensures home { home_of self.new ≡ home_of self.old };
 
     /// The decided entries.
@@ -90,7 +105,7 @@ pub trait Desk {
         ensures { result ≡ (seen self.now).is_down };
 
     /// What has become of a submitted id.
-    fn answer(&self, id: u64) -> Result<Told, NoMemory>
+    fn answer(&self, id: u64) -> Result<IdState, NoMemory>
         ensures { let x = (seen self.now).desk in
             IfOk result (λ answer. answer ≡ told x.log x.queue id) };
 
@@ -101,7 +116,7 @@ pub trait Desk {
         event: EventOf,
         round: u8,
         style: Style,
-    ) -> Result<Vec<u8>, SheetFault>
+    ) -> Result<Vec<u8>, LogSheetFault>
         ensures there { OnOk result (position ≤ length (seen self.now).desk.log) }
         ensures sheet { let log = (seen self.now).desk.log in
             IfOk result (λ text. sheet_at style log position event round ≡ Some text.items) }

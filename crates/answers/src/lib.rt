@@ -6,6 +6,6 @@ pub mod answers;
 pub mod desk;
 pub mod fault;
 
-pub use answers::Told;
+pub use answers::IdState;
 pub use desk::Desk;
-pub use fault::SheetFault;
+pub use fault::LogSheetFault;

@@ -8,7 +8,7 @@ use Rattle.std.proofs.lemmas.Bool.Decides.{nat_tests}
 use Rattle.std.proofs.lemmas.List.Sums.{fold-append}
 use Rattle.acceptor.specs.declared.entry.Entry.{Entry}
 use Rattle.texts.specs.declared.command.Command.{Command}
-use Rattle.texts.specs.declared.command.Remarked.{Remarked}
+use Rattle.texts.specs.declared.command.RemarkedCommand.{RemarkedCommand}
 use Rattle.texts.specs.declared.answer.Answer.{Answer}
 use Rattle.texts.specs.declared.answer.Answer.TheVariants.{Refused}
 use Rattle.texts.specs.declared.answer.Code.{Code}
@@ -149,7 +149,7 @@ feed-unread : SpellsWhatIsRead → (h : History) (text : List ℕ) → is_line t
     → IsUnread h text
 feed-unread spells h text feed = step (command_of text) refl
   where
-    step : (r : Result Remarked CommandFault) → command_of text ≡ r
+    step : (r : Result RemarkedCommand CommandFault) → command_of text ≡ r
         → (read_refusal h.accepted r ≡ Some code.Unread)
         × (added_read (read_refusal h.accepted r) r ≡ [])
     step (Ok c) is = absurd (false≢true (sym feed ∙ command_is_line spells text c is))

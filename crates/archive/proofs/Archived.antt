@@ -1,6 +1,6 @@
 -- An archive as it is written, line after line.
 use Rattle.std.proofs.Common.{◌≡◌, ℕ, ◌+◌, ◌<◌, ◌≤◌, zero, suc, List, [], ◌∷◌, ◌++◌, length, get_or}
-use Rattle.std.proofs.Common.{take, drop, ◌⊎◌, inl, inr, Option, None, Some, refl, sym, ap, ◌∙◌}
+use Rattle.std.proofs.Common.{take, drop, Option, Some, refl, sym, ap, ◌∙◌}
 use Rattle.std.proofs.Common.{append_assoc, append-nil, subst, drop-cons, arith, below_more}
 use Rattle.std.proofs.Common.{◌-◌, leb-true, leb-false}
 use Rattle.std.specs.Prelude.{Result, Ok, Err, OnErr, OnOk, slice_get, nat_le, if◌then◌else◌, Bool}
@@ -8,7 +8,7 @@ use Rattle.std.specs.Prelude.{true, false}
 use Rattle.std.specs.List.{All}
 use Rattle.std.specs.Io.KnownBytes.{Appends}
 use Rattle.std.proofs.KnownBytes.{Appends-nil}
-use Rattle.std.proofs.lemmas.Option.{slice_get_cases, slice_get_within, get_or_from_slice_get}
+use Rattle.std.proofs.lemmas.Option.{slice_get_within, get_or_from_slice_get}
 use Rattle.std.proofs.lemmas.List.{drop_all}
 use Rattle.acceptor.specs.Entries.{IsText}
 use Rattle.acceptor.specs.declared.entry.Entry.{Entry}
@@ -119,16 +119,6 @@ one_more from es pos e old mid new out out' out'' a is fits said w =
           (λ d. subst (λ (x : Entry). IsText x.text)
           (sym (get_or_from_slice_get es pos e d is)) fits);
     }
-
--- in front of the end there is an entry
-pub no_gap : (from : ℕ) (es : List Entry) (pos : ℕ) (old new : Option (List ℕ)) (out : List ℕ)
-    → slice_get es pos ≡ None → pos < length es → Archived from es (pos + 1) old new out
-no_gap from es pos old new out none there = step (slice_get_cases es pos).1
-  where
-    step : ((x : Entry) × (pos < length es) × (slice_get es pos ≡ Some x) × (get_or es pos x ≡ x))
-        ⊎ ((length es ≤ pos) × (slice_get es pos ≡ None)) → Archived from es (pos + 1) old new out
-    step (inl h) = absurd (let bad : None ≡ Some h.0 = sym none ∙ h.2 in cc)
-    step (inr h) = absurd (omega (arith, h.0, there))
 
 part : (from : ℕ) (es : List Entry) (pos : ℕ) (old mid new : Option (List ℕ)) (out : List ℕ)
     (a : Archived from es pos old mid out) → AppendsPart old new a.text

@@ -6,7 +6,7 @@ use Rattle.std.specs.List.{list_all, list_any, join_with_byte}
 use Rattle.std.proofs.lemmas.Bool.{false≢true}
 use Rattle.std.proofs.lemmas.List.Folds.{list_all-append}
 use Rattle.texts.specs.declared.command.Command.{Command}
-use Rattle.texts.specs.declared.command.Remarked.{Remarked}
+use Rattle.texts.specs.declared.command.RemarkedCommand.{RemarkedCommand}
 use Rattle.texts.specs.Names.{is_clear_name, is_name_byte, is_name, is_name_in, is_remark}
 use Rattle.texts.specs.Parts.{parts}
 use Rattle.texts.specs.Reading.{SpellsWhatIsRead, command_of}
@@ -134,7 +134,7 @@ line-lacks (b ∷ bytes) h =
     step false feed rest = rest
     step true feed rest = absurd (false≢true feed)
 
-pub command_is_line : SpellsWhatIsRead → (text : List ℕ) (told : Remarked)
+pub command_is_line : SpellsWhatIsRead → (text : List ℕ) (told : RemarkedCommand)
     → command_of text ≡ Ok told → is_line text ≡ true
 command_is_line spells text told h =
     let spelled = spells text told h in

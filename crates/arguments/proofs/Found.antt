@@ -1,14 +1,13 @@
 -- What was found in the arguments.
-use Rattle.std.proofs.Common.{◌≡◌, ◌∙◌, ap, sym, subst, ℕ, List, Bor, decimal, IfSome, Option}
+use Rattle.std.proofs.Common.{◌≡◌, ◌∙◌, ap, sym, subst, ℕ, List, Bor, IfSome, Option}
 use Rattle.std.proofs.Common.{None, Some, option_map}
 use Rattle.clap.specs.Words.{Row, Text, first_of, first_value, rows_of}
 use Rattle.clap.specs.declared.parser.matches.Found.{Found}
 use Rattle.clap.proofs.WalkLemmas.{first_value-rows}
-use Rattle.arguments.specs.Arguments.{IsNumberAt}
 use Rattle.arguments.specs.Asking.{Finds, HasId, HasIds, IsEntered, IsRequest, IsTask}
 use Rattle.wire.specs.Ranges.{IsId}
-use Rattle.arguments.specs.declared.task.Request.{Request}
-use Rattle.arguments.specs.declared.task.Request.TheVariants as request
+use Rattle.arguments.specs.declared.task.ClientRequest.{ClientRequest}
+use Rattle.arguments.specs.declared.task.ClientRequest.TheVariants as request
 use Rattle.arguments.specs.declared.task.Task.{Task}
 use Rattle.arguments.specs.declared.task.Task.TheVariants as task
 
@@ -38,21 +37,7 @@ pub task_renamed : (name other : Text) (rows : List Row) (t : Option Task) → n
 task_renamed name other rows t is h =
     let P : Text → Type 0 = λ n. IfSome t (λ t. IsTask t n rows) in subst P (sym is) h
 
-pub request_renamed : (name other : Text) (rows : List Row) (r : Option Request) → name ≡ other
-    → IfSome r (λ r. IsRequest r other rows) → IfSome r (λ r. IsRequest r name rows)
-request_renamed name other rows r is h =
-    let P : Text → Type 0 = λ n. IfSome r (λ r. IsRequest r n rows) in subst P (sym is) h
-
-pub renumbered : (id : Text) (rows : List Row) (m n : ℕ) → m ≡ n → IsNumberAt id rows n
-    → IsNumberAt id rows m
-renumbered id rows m n is h = h ∙ ap (λ k. Some (decimal k)) (sym is)
-
-pub renumbered_if : (id : Text) (rows : List Row) (m : Option ℕ) (n : ℕ) → IfSome m (λ m. m ≡ n)
-    → IsNumberAt id rows n → IfSome m (λ m. IsNumberAt id rows m)
-renumbered_if id rows None n is h = tt
-renumbered_if id rows (Some m) n is h = renumbered id rows m n is h
-
-request_ids : (r : Request) (name : Text) (rows : List Row) → IsRequest r name rows → HasId r
+request_ids : (r : ClientRequest) (name : Text) (rows : List Row) → IsRequest r name rows → HasId r
 request_ids (request.Ask id) name rows h = h.1
 request_ids (request.Sheet event round position style) name rows h = tt
 request_ids request.Tick name rows h = tt

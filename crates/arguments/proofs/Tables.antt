@@ -2,7 +2,7 @@
 use Rattle.std.proofs.Common.{◌≡◌, ◌∙◌, ◌+◌, ◌<◌, ◌≤◌, ◌==◌, ◌++◌, ◌&&◌, [], ◌∷◌}
 use Rattle.std.proofs.Common.{ap, arith, refl, sym}
 use Rattle.std.proofs.Common.{false, true, not, Bool, Bor, IfOk, List, ℕ, Option, Some}
-use Rattle.std.proofs.Common.{Result, Ok, Err, None, drop, get_or, length, map, max, subst}
+use Rattle.std.proofs.Common.{Result, Ok, Err, None, drop, get_or, length, map}
 use Rattle.std.specs.Prelude.{IsSomeAnd}
 use Rattle.std.proofs.lemmas.Bool.{ne_eqb}
 use Rattle.std.proofs.lemmas.List.{at_drop_all, at_drop_more, length-map}
@@ -24,15 +24,6 @@ use Rattle.arguments.specs.declared.described.Argument.{Argument}
 some_and : (o : Option ValueRange) (r : ValueRange) → IsSomeAnd o (λ x. x ≡ r) → o ≡ Some r
 some_and None r h = absurd h
 some_and (Some x) r h = ap (λ y. Some y) h
-
--- a range that was written so
-pub from_one_to_five : (o : Option ValueRange) (a b : ℕ) → a ≡ 1 → b ≡ 5
-    → IsSomeAnd o (λ r. r ≡ record { start_inclusive = a; end_inclusive = max b a })
-    → IsSomeAnd o (λ r. r ≡ record { start_inclusive = 1; end_inclusive = 5 })
-from_one_to_five o a b first last h =
-    let P : ℕ → ℕ → Type 0 =
-    λ m n. IsSomeAnd o (λ r. r ≡ record { start_inclusive = m; end_inclusive = max n m }) in
-    subst (λ n. P 1 n) last (subst (λ m. P m b) first h)
 
 pub ranged : (old new : Arg) (low high : ℕ) → new ≡ record old { num_vals = new.num_vals }
     → IsSomeAnd new.num_vals

@@ -24,19 +24,19 @@ use Rattle.arguments.specs.Arguments.{flag_rule, last_value_rule, located_argume
 use Rattle.arguments.specs.Arguments.{option_rule, optional_rule, optional_value_rule}
 use Rattle.arguments.specs.Arguments.{optional_values_rule, required_flag_rule, several}
 use Rattle.arguments.specs.Arguments.{value_rule, values_rule, wait_seconds_rule}
-use Rattle.hall_file.specs.declared.service.Making.TheVariants.{AsNeeded}
+use Rattle.hall_file.specs.declared.service.StoreOrigin.TheVariants.{AsNeeded}
 use Rattle.hall_file.specs.declared.service.Service.{Service}
-use Rattle.arguments.specs.declared.places.Desks.{Desks}
-use Rattle.arguments.specs.declared.places.Desks.TheVariants as desks
+use Rattle.arguments.specs.declared.places.DeskPlaces.{DeskPlaces}
+use Rattle.arguments.specs.declared.places.DeskPlaces.TheVariants as desks
 use Rattle.arguments.specs.declared.places.Place.{Place}
 use Rattle.arguments.specs.declared.places.Place.TheVariants as place
 use Rattle.arguments.specs.declared.task.HallService.{HallService}
-use Rattle.arguments.specs.declared.task.Lines.{Lines}
-use Rattle.arguments.specs.declared.task.LogForm.{LogForm}
-use Rattle.arguments.specs.declared.task.LogForm.TheVariants as log_form
+use Rattle.arguments.specs.declared.task.EnterOptions.{EnterOptions}
+use Rattle.arguments.specs.declared.task.LogFormOption.{LogFormOption}
+use Rattle.arguments.specs.declared.task.LogFormOption.TheVariants as log_form
 use Rattle.formats.specs.Events.{event_of_name}
-use Rattle.arguments.specs.declared.task.Request.{Request}
-use Rattle.arguments.specs.declared.task.Request.TheVariants as request
+use Rattle.arguments.specs.declared.task.ClientRequest.{ClientRequest}
+use Rattle.arguments.specs.declared.task.ClientRequest.TheVariants as request
 use Rattle.arguments.specs.declared.task.Task.{Task}
 use Rattle.arguments.specs.declared.task.Task.TheVariants as task
 pub use Rattle.replay_arguments.specs.Asking.{RoundParsers, replay_arguments, named_app}
@@ -201,7 +201,7 @@ abbrev pub IsAsked : List Row → SheetStyle → Type 0
 IsAsked rows style = IsFlag (codes "csv") rows (is_table style)
 
 -- the subcommand of this name with these values makes the request
-abbrev pub IsRequest : Request → Text → List Row → Type 0
+abbrev pub IsRequest : ClientRequest → Text → List Row → Type 0
 IsRequest (request.Ask id) name rows =
     (name ≡ codes "ask") × IsId id × IsNumberAt (codes "id") rows id
 IsRequest (request.Sheet event round position style) name rows =
@@ -245,7 +245,7 @@ pub record AreFew (id : Text) (texts : List Text) (rows : List Row) : Type 0 whe
 
 -- which desks are asked, where, and under which key's file: those of a hall at these addresses, or
 -- a file's
-abbrev pub AreDesks : Desks → List Row → Type 0
+abbrev pub AreDesks : DeskPlaces → List Row → Type 0
 AreDesks (desks.Addresses hall addresses key) rows =
     IsHall hall rows × AreFew (codes "to") (map (λ a. a.now) addresses.now) rows
     × IsText (codes "key") rows key
@@ -277,7 +277,7 @@ pub record IsFirstId (id : Option ℕ) (rows : List Row) : Type 0 where
   pub in_range : IfSome id IsId
 
 -- how lines are entered
-pub record AreLines (lines : Lines) (rows : List Row) : Type 0 where
+pub record AreLines (lines : EnterOptions) (rows : List Row) : Type 0 where
   pub first_id : IsFirstId lines.first_id rows
   pub waits : IsFlag (codes "wait") rows lines.waits
   pub progress : IsFlag (codes "progress") rows lines.progress
@@ -341,7 +341,7 @@ pub record IsStored (store : Text) (rows : List Row) : Type 0 where
   pub no_address : first_of (codes "to") rows ≡ None
 
 -- words that name a result: an event, a round and a competitor's number
-abbrev pub AreWhose : List Text → LogForm → Type 0
+abbrev pub AreWhose : List Text → LogFormOption → Type 0
 AreWhose words (log_form.ChangesOf event round number) =
     (name : Text) × (event_of_name name ≡ Some event) × (1 ≤ round) × (round ≤ 4)
     × (1 ≤ number) × (number ≤ 9999)
@@ -349,7 +349,7 @@ AreWhose words (log_form.ChangesOf event round number) =
 AreWhose words _ = ⊥
 
 -- the form of a log: lines, or with `--long` rows, or with `--who` those of one result
-abbrev pub IsForm : List Row → LogForm → Type 0
+abbrev pub IsForm : List Row → LogFormOption → Type 0
 IsForm rows log_form.Lines =
     IsFlag (codes "long") rows false × (all_of (codes "who") rows ≡ None)
 IsForm rows log_form.Rows = IsFlag (codes "long") rows true × (all_of (codes "who") rows ≡ None)
@@ -432,7 +432,7 @@ IsTask (task.ServeHall file wanted) name rows =
     (name ≡ codes "serve") × IsHallFile file.now (codes "addr") rows × IsHallService wanted rows
 
 -- the id of a request is in its range
-abbrev pub HasId : Request → Type 0
+abbrev pub HasId : ClientRequest → Type 0
 HasId (request.Ask id) = IsId id
 HasId (request.Sheet event round position style) = Unit {0}
 HasId request.Tick = Unit {0}

@@ -11,11 +11,11 @@ use Rattle.arguments.specs.Asking.{hall_file_arguments, import_arguments, key_ar
 use Rattle.arguments.specs.Asking.{replay_arguments, results_arguments, serve_arguments}
 use Rattle.arguments.specs.declared.described.Argument.{Argument}
 use Rattle.arguments.specs.declared.described.Subcommand.{Subcommand}
-use Rattle.arguments.specs.declared.described.Takes.{Takes}
-use Rattle.arguments.specs.declared.described.Takes.TheVariants as takes
+use Rattle.arguments.specs.declared.described.ArgumentKind.{ArgumentKind}
+use Rattle.arguments.specs.declared.described.ArgumentKind.TheVariants as takes
 
 -- an argument that takes this
-abbrev pub taken_rule : Text → Takes → Rule
+abbrev pub taken_rule : Text → ArgumentKind → Rule
 taken_rule id takes.Nothing = flag_rule id
 taken_rule id takes.Text = value_rule id any_text
 taken_rule id takes.FewTexts = several 1 5 (value_rule id any_text)

@@ -4,7 +4,7 @@ ghost use Rattle.std.specs.Prelude.{◌≡◌, IfOk};
 ghost use Rattle.clap.specs.Words.{app_of, with_subcommand};
 ghost use Rattle.arguments.specs.Asking.{ask_arguments};
 
-use crate::described::{Argument, Subcommand, Takes, VALUE, with_described};
+use crate::described::{Argument, ArgumentKind, Subcommand, VALUE, with_described};
 use crate::places::ERRAND;
 use clap::Command;
 use std::alloc::{AllocError, Global};
@@ -33,7 +33,7 @@ const ASK: Subcommand<'static> = Subcommand {
         id: "id",
         name: "ID",
         help: "The command's id, 1 to 9223372036854775807",
-        takes: Takes::Number {
+        takes: ArgumentKind::Number {
             low: 1,
             high: 9_223_372_036_854_775_807,
         },

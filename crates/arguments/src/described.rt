@@ -14,7 +14,7 @@ use std::alloc::{AllocError, Global};
 
 /// What an argument takes.
 #[derive(Clone, Copy)]
-pub enum Takes {
+pub enum ArgumentKind {
     /// Nothing: it is a flag.
     Nothing,
     /// A text.
@@ -34,7 +34,7 @@ pub struct Argument<'a> {
     /// What help calls the value.
     pub name: &'a str,
     pub help: &'a str,
-    pub takes: Takes,
+    pub takes: ArgumentKind,
     /// Whether it is known by its place. Else it is given after two hyphens and its id.
     pub by_place: bool,
     pub required: bool,
@@ -62,7 +62,7 @@ pub const FLAG: Argument<'static> = Argument {
     id: "",
     name: "",
     help: "",
-    takes: Takes::Nothing,
+    takes: ArgumentKind::Nothing,
     by_place: false,
     required: false,
     without: &[],
@@ -72,13 +72,13 @@ pub const FLAG: Argument<'static> = Argument {
 /// An option with a text, which may be left out.
 pub const OPTION: Argument<'static> = Argument {
     name: "FILE",
-    takes: Takes::Text,
+    takes: ArgumentKind::Text,
     ..FLAG
 };
 
 /// A value that is known by its place, and has to be given.
 pub const VALUE: Argument<'static> = Argument {
-    takes: Takes::Text,
+    takes: ArgumentKind::Text,
     by_place: true,
     required: true,
     ..FLAG
@@ -91,13 +91,15 @@ fn taking<'a>(alloc: Global, described: &Argument<'a>) -> Arg<'a>
 {
     let Argument { id, name, help, .. } = *described;
     match described.takes {
-        Takes::Nothing => flag(alloc, id, help),
-        Takes::Text => value(alloc, id, name, help, ValueParser::string()),
-        Takes::FewTexts => value(alloc, id, name, help, ValueParser::string()).num_args(1..=5),
-        Takes::Texts => {
+        ArgumentKind::Nothing => flag(alloc, id, help),
+        ArgumentKind::Text => value(alloc, id, name, help, ValueParser::string()),
+        ArgumentKind::FewTexts => value(alloc, id, name, help, ValueParser::string()).num_args(
+            1..=5,
+        ),
+        ArgumentKind::Texts => {
             value(alloc, id, name, help, ValueParser::string()).action(ArgAction::Append)
         }
-        Takes::Number { low, high } => {
+        ArgumentKind::Number { low, high } => {
             value(alloc, id, name, help, ValueParser::unsigned(low, high))
         }
     }

@@ -4,7 +4,7 @@ ghost use Rattle.std.specs.Prelude.{◌≡◌, codes, map, IfOk, IfSome};
 ghost use Rattle.clap.specs.Words.{app_of, found_of, rows_of, with_subcommand};
 ghost use Rattle.arguments.specs.Asking.{are_command, enter_arguments, is_verb, IsTask};
 
-use crate::described::{Argument, FLAG, Subcommand, Takes, VALUE, with_described};
+use crate::described::{Argument, ArgumentKind, FLAG, Subcommand, VALUE, with_described};
 use crate::places::{ERRAND, placed};
 use crate::task::Task;
 use crate::values::id_in;
@@ -43,8 +43,8 @@ const ENTER: Subcommand<'static> = Subcommand {
         Argument {
             id: "words",
             name: "TEXT",
-            help: "The command, at most 600 bytes; before it its id may stand, 1 to 2^63 - 1",
-            takes: Takes::Texts,
+            help: "The command, at most 600 bytes; its id may come before it, 1 to 2^63 - 1",
+            takes: ArgumentKind::Texts,
             ..VALUE
         },
     ],

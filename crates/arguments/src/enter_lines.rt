@@ -4,9 +4,9 @@ ghost use Rattle.std.specs.Prelude.{◌≡◌, codes, IfOk, IfSome};
 ghost use Rattle.clap.specs.Words.{app_of, found_of, rows_of, with_subcommand};
 ghost use Rattle.arguments.specs.Asking.{lines_arguments, IsTask};
 
-use crate::described::{Argument, FLAG, OPTION, Subcommand, Takes, with_described};
+use crate::described::{Argument, ArgumentKind, FLAG, OPTION, Subcommand, with_described};
 use crate::places::{ERRAND, placed};
-use crate::task::{Lines, Task};
+use crate::task::{EnterOptions, Task};
 use crate::values::optional_id_at;
 use clap::{ArgMatches, Command};
 use replay_arguments::flag_at;
@@ -45,7 +45,7 @@ const ENTER_LINES: Subcommand<'static> = Subcommand {
             id: "first-id",
             name: "ID",
             help: "The id of the first line, 1 to 9223372036854775807; without it a random one",
-            takes: Takes::Number {
+            takes: ArgumentKind::Number {
                 low: 1,
                 high: 9_223_372_036_854_775_807,
             },
@@ -93,7 +93,7 @@ pub fn lines_of<'a>(found: &ArgMatches<'a>) -> Option<Task<'a>>
     let progress = flag_at(found, "progress");
     let stops_at_refusal = flag_at(found, "stop-at-refusal");
     let sends_all = flag_at(found, "send-all");
-    let lines = Lines {
+    let lines = EnterOptions {
         first_id,
         waits,
         progress,

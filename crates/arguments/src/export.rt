@@ -26,7 +26,7 @@ does not have is left out.
 Standard error gets a line too for each round that still runs, that is left out, or that has another
 format in FILE. Where a round still runs, FILE is printed only with --running.
 
-Exit status: 0 the file was printed; 1 it was, and something was told, or a round still runs; 2
+Exit status: 0 the file was printed; 1 it was, with a note to read, or a round still runs; 2
 invalid arguments, or help; 3 input too long, the log is cut off, the log opens no round, or FILE is
 invalid or does not fit the log; 4 cannot read, cannot read FILE, or cannot write; 5 no memory.";
 

@@ -4,7 +4,7 @@ ghost use Rattle.std.specs.Prelude.{◌≡◌, codes, IfOk, IfSome};
 ghost use Rattle.clap.specs.Words.{app_of, found_of, rows_of, with_subcommand};
 ghost use Rattle.arguments.specs.Asking.{hall_arguments, IsTask};
 
-use crate::described::{Argument, Subcommand, Takes, VALUE, with_described};
+use crate::described::{Argument, ArgumentKind, Subcommand, VALUE, with_described};
 use crate::task::Task;
 use crate::values::byte_at;
 use clap::{ArgMatches, Command};
@@ -41,7 +41,7 @@ const HALL: Subcommand<'static> = Subcommand {
         id: "desks",
         name: "DESKS",
         help: "How many desks there are, 3 or 5",
-        takes: Takes::Number { low: 0, high: 255 },
+        takes: ArgumentKind::Number { low: 0, high: 255 },
         ..VALUE
     }],
 };

@@ -4,7 +4,7 @@ ghost use Rattle.std.specs.Prelude.{◌≡◌, codes, IfOk, IfSome};
 ghost use Rattle.clap.specs.Words.{app_of, found_of, rows_of, with_subcommand};
 ghost use Rattle.arguments.specs.Asking.{hall_file_arguments, IsTask};
 
-use crate::described::{Argument, FLAG, OPTION, Subcommand, Takes, with_described};
+use crate::described::{Argument, ArgumentKind, FLAG, OPTION, Subcommand, with_described};
 use crate::serve::ADDRESSES;
 use crate::task::Task;
 use crate::values::four_bytes_at;
@@ -39,7 +39,7 @@ const HALL_FILE: Subcommand<'static> = Subcommand {
             id: "hall",
             name: "H",
             help: "The hall's number, 0 to 4294967295",
-            takes: Takes::Number {
+            takes: ArgumentKind::Number {
                 low: 0,
                 high: 4_294_967_295,
             },

@@ -21,7 +21,7 @@ FILE is a competition in the WCA Competition Interchange Format, as the WCA's si
 commands are printed one a line, for `desk enter-lines`: `EDITION 4`, a `REG` for each
 accepted person, an `OPEN` for the first round of each event, and an `ENT` for each event of each
 registration. With `--edition 3` the first one is `EDITION 3`, for desks of an earlier program.
-After them stands in comments how FILE has later rounds, as `# OPEN 333 2 ao5 - 60000 top:8`.
+Comments after them show how FILE has later rounds, as `# OPEN 333 2 ao5 - 60000 top:8`.
 
 Where a desk cannot hold something of the competition, nothing is printed, and standard error gets
 a line for each such thing, as `333bf-r1: cumulative limit: enter the limit that holds for one
@@ -99,7 +99,7 @@ pub fn import_command<'a>(alloc: Global) -> Result<Command<'a>, AllocError>
         alloc,
         "same-names",
         "WAY",
-        "Each of several persons with one name gets his WCA ID behind it",
+        "Each of several persons with one name gets the WCA ID behind it",
         NAMES.as_slice(),
     );
     with_argument(command, names)

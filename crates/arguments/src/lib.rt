@@ -26,5 +26,7 @@ mod values;
 
 pub use laws::replay_is_asked_alike;
 pub use parsing::parse;
-pub use places::{Desks, Place};
-pub use task::{Asked, HallService, Lines, LogForm, Request, Task, task_of};
+pub use places::{DeskPlaces, Place};
+pub use task::{
+    ClientRequest, EnterOptions, HallService, Invocation, LogFormOption, Task, task_of,
+};

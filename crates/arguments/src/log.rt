@@ -4,9 +4,9 @@ ghost use Rattle.std.specs.Prelude.{◌≡◌, codes, map, IfOk, IfSome};
 ghost use Rattle.clap.specs.Words.{app_of, found_of, rows_of, with_subcommand};
 ghost use Rattle.arguments.specs.Asking.{log_arguments, AreWhose, IsForm, IsTask};
 
-use crate::described::{Argument, FLAG, OPTION, Subcommand, Takes, with_described};
+use crate::described::{Argument, ArgumentKind, FLAG, OPTION, Subcommand, with_described};
 use crate::places::{ERRAND, placed};
-use crate::task::{LogForm, Task};
+use crate::task::{LogFormOption, Task};
 use crate::values::{number_or, without};
 use clap::{ArgMatches, Command};
 use command_line::plain_number;
@@ -50,7 +50,7 @@ const LOG: Subcommand<'static> = Subcommand {
             id: "from",
             name: "N",
             help: "Leave out the first N commands, 0 to 65536; without this option none",
-            takes: Takes::Number {
+            takes: ArgumentKind::Number {
                 low: 0,
                 high: 65_536,
             },
@@ -65,7 +65,7 @@ const LOG: Subcommand<'static> = Subcommand {
             id: "who",
             name: "EVENT ROUND NUMBER",
             help: "Print the changes of one result alone, as 333 1 17",
-            takes: Takes::FewTexts,
+            takes: ArgumentKind::FewTexts,
             ..OPTION
         },
     ],
@@ -80,7 +80,7 @@ pub fn with_log<'a>(alloc: Global, command: Command<'a>) -> Result<Command<'a>, 
 }
 
 /// The result that three words name: an event, a round and a competitor's number.
-fn changes_of(words: &[&str]) -> Option<LogForm>
+fn changes_of(words: &[&str]) -> Option<LogFormOption>
     ensures { IfSome result (AreWhose (map (λ w. w.now) words.now)) }
 {
     let [event, round, number] = words else {
@@ -92,7 +92,7 @@ fn changes_of(words: &[&str]) -> Option<LogForm>
     if round == 0 || round > 4 || number == 0 || number > 9999 {
         return None;
     }
-    Some(LogForm::ChangesOf {
+    Some(LogFormOption::ChangesOf {
         event,
         round: round as u8,
         number: number as u16,
@@ -100,16 +100,16 @@ fn changes_of(words: &[&str]) -> Option<LogForm>
 }
 
 /// In which form the log is wanted.
-fn form_at(found: &ArgMatches<'_>) -> Option<LogForm>
+fn form_at(found: &ArgMatches<'_>) -> Option<LogFormOption>
     ensures { IfSome result (IsForm (rows_of (found_of found.now))) }
 {
     if let Some(words) = found.get_strs("who") {
         return changes_of(words);
     }
     if flag_at(found, "long") {
-        Some(LogForm::Rows)
+        Some(LogFormOption::Rows)
     } else {
-        Some(LogForm::Lines)
+        Some(LogFormOption::Lines)
     }
 }
 

@@ -4,7 +4,7 @@ ghost use Rattle.std.specs.Prelude.{IfSome};
 ghost use Rattle.clap.specs.Words.{found_of, rows_of};
 ghost use Rattle.arguments.specs.Asking.{AreDesks, IsHall, IsHallFile, IsPlace, IsPlaced};
 
-use crate::described::{Argument, FLAG, OPTION, Takes};
+use crate::described::{Argument, ArgumentKind, FLAG, OPTION};
 use crate::values::{byte_at, four_bytes_at, given_text, number_or, optional_byte_at, without};
 use clap::ArgMatches;
 use replay_arguments::text_at;
@@ -31,7 +31,7 @@ pub enum Place<'a> {
 
 /// Where all desks of a hall are asked for. `key` is as that of [`Place`].
 #[derive(Clone, Copy)]
-pub enum Desks<'a> {
+pub enum DeskPlaces<'a> {
     /// At these addresses, one to five, desk 1 first.
     Addresses {
         hall: u32,
@@ -64,7 +64,7 @@ pub const HALL: Argument<'static> = Argument {
     id: "hall",
     name: "H",
     help: "The hall's number, 0 to 4294967295, where no file describes it",
-    takes: Takes::Number {
+    takes: ArgumentKind::Number {
         low: 0,
         high: 4_294_967_295,
     },
@@ -84,7 +84,7 @@ pub const PATIENCE_OPTION: Argument<'static> = Argument {
     id: "patience",
     name: "SECONDS",
     help: "How long to wait for the desk's answer, 1 to 3600; without this option 10",
-    takes: Takes::Number { low: 1, high: 3600 },
+    takes: ArgumentKind::Number { low: 1, high: 3600 },
     ..OPTION
 };
 
@@ -105,7 +105,7 @@ pub const ERRAND: [Argument<'static>; 7] = [
         id: "desk",
         name: "D",
         help: "The desk's number, 1 to 5; with a file the last that answers, where it is left out",
-        takes: Takes::Number { low: 0, high: 255 },
+        takes: ArgumentKind::Number { low: 0, high: 255 },
         ..OPTION
     },
     Argument {
@@ -171,20 +171,20 @@ pub fn placed<'a>(found: &ArgMatches<'a>) -> Option<(Place<'a>, u32)>
 }
 
 /// Where a subcommand asks all desks of a hall.
-pub fn desks_at<'m, 'a: 'm>(found: &'m ArgMatches<'a>) -> Option<Desks<'m>>
+pub fn desks_at<'m, 'a: 'm>(found: &'m ArgMatches<'a>) -> Option<DeskPlaces<'m>>
     ensures { IfSome result (λ desks. AreDesks desks (rows_of (found_of found.now))) }
 {
     let key = given_text(found, "key");
     if found.get_str("hall").is_none() {
         let file = hall_file_at(found, "to")?;
-        return Some(Desks::File { file, key });
+        return Some(DeskPlaces::File { file, key });
     }
     let hall = hall_at(found)?;
     let addresses = found.get_strs("to")?;
     if addresses.is_empty() || addresses.len() > 5 {
         return None;
     }
-    Some(Desks::Addresses {
+    Some(DeskPlaces::Addresses {
         hall,
         addresses,
         key,

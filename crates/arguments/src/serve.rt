@@ -5,12 +5,12 @@ ghost use Rattle.clap.specs.Words.{app_of, found_of, rows_of, with_subcommand};
 ghost use Rattle.arguments.specs.Arguments.{IsNumberOr};
 ghost use Rattle.arguments.specs.Asking.{serve_arguments, wire_number, IsTask, Makes};
 
-use crate::described::{Argument, FLAG, OPTION, Subcommand, Takes, VALUE, with_described};
+use crate::described::{Argument, ArgumentKind, FLAG, OPTION, Subcommand, VALUE, with_described};
 use crate::places::{CONFIG, EXPLAIN, HALL, KEY, hall_at, hall_file_at};
 use crate::task::{HallService, Task};
 use crate::values::{byte_at, given_text, number_or, optional_at};
 use clap::{ArgMatches, Command};
-use hall_file::service::{Making, Service};
+use hall_file::service::{Service, StoreOrigin};
 use replay_arguments::{flag_at, text_at};
 use std::alloc::{AllocError, Global};
 use wire::Version;
@@ -37,10 +37,10 @@ exist. With --config the desk gives itself a Tick each second, unless --tick say
 
 The desk serves all its clients side by side, at most 512 at once.
 
-With a key (--key, or the hall file's `key`) only whoever has that key is answered: the other desks,
-and clients that have it, which may do everything. Whoever has the key of --entry-key may enter
+With a key (--key, or the hall file's `key`) only those who have it are answered: the other desks,
+and clients that have it, which may do everything. A client with the key of --entry-key may enter
 commands, ask, and send ticks, but cannot stop the desk or speak as another one. With --open-sheets
-whoever has no key may ask for sheets, answers, the log and how the desk stands. With --old-key, in
+a client without a key may ask for sheets, answers, the log and how the desk is. With --old-key, in
 the place of --entry-key, that key counts as the hall's too, while the hall's is changed at one desk
 after the other. They come with a key alone. `desk key` makes a key. Nothing that is sent is secret.
 
@@ -59,7 +59,7 @@ pub const ADDRESSES: Argument<'static> = Argument {
     id: "addr",
     name: "ADDR",
     help: "Where each desk listens, desk 1 first",
-    takes: Takes::Texts,
+    takes: ArgumentKind::Texts,
     ..VALUE
 };
 
@@ -84,7 +84,7 @@ const SERVE: Subcommand<'static> = Subcommand {
             id: "desk",
             name: "D",
             help: "The desk's number, 1 to 5",
-            takes: Takes::Number { low: 0, high: 255 },
+            takes: ArgumentKind::Number { low: 0, high: 255 },
             required: true,
             ..OPTION
         },
@@ -110,7 +110,7 @@ const SERVE: Subcommand<'static> = Subcommand {
             id: "patience",
             name: "SECONDS",
             help: "How long a client may be silent, 1 to 86400; without this option 30",
-            takes: Takes::Number {
+            takes: ArgumentKind::Number {
                 low: 1,
                 high: 86_400,
             },
@@ -120,7 +120,7 @@ const SERVE: Subcommand<'static> = Subcommand {
             id: "connections",
             name: "K",
             help: "End after K connections, 1 to 1000000; without this option when it is stopped",
-            takes: Takes::Number {
+            takes: ArgumentKind::Number {
                 low: 1,
                 high: 1_000_000,
             },
@@ -130,7 +130,7 @@ const SERVE: Subcommand<'static> = Subcommand {
             id: "wire",
             name: "VERSION",
             help: "The version of the frames for the other desks, 1 or 2; without this option 1",
-            takes: Takes::Number { low: 1, high: 2 },
+            takes: ArgumentKind::Number { low: 1, high: 2 },
             ..OPTION
         },
         Argument {
@@ -138,7 +138,7 @@ const SERVE: Subcommand<'static> = Subcommand {
             name: "MILLISECONDS",
             help: "\
 How long until a Tick of the desk's own, 100 to 60000; without it 1000, with --hall none",
-            takes: Takes::Number {
+            takes: ArgumentKind::Number {
                 low: 100,
                 high: 60_000,
             },
@@ -164,7 +164,7 @@ The file with a second key, which may only enter and ask; without it entry.key b
         Argument {
             id: "open-sheets",
             help: "\
-Lets whoever has no key ask for sheets, answers, the log and how the desk stands",
+Lets clients without a key ask for sheets, answers, the log and how the desk is",
             ..FLAG
         },
         EXPLAIN,
@@ -258,7 +258,7 @@ pub fn serve_of<'m, 'a: 'm>(found: &'m ArgMatches<'a>) -> Option<Task<'m>>
         hall,
         desk,
         store,
-        making: Making::AsNeeded,
+        making: StoreOrigin::AsNeeded,
         patience,
         connections,
         wire,

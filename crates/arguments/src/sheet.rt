@@ -5,9 +5,11 @@ ghost use Rattle.clap.specs.Words.{found_of, rows_of};
 ghost use Rattle.arguments.specs.Arguments.{IsCommand};
 ghost use Rattle.arguments.specs.Asking.{sheet_arguments, IsAsked, IsTask, RoundParsers};
 
-use crate::described::{Argument, FLAG, Subcommand, Takes, VALUE, made_subcommand, with_arguments};
+use crate::described::{
+    Argument, ArgumentKind, FLAG, Subcommand, VALUE, made_subcommand, with_arguments,
+};
 use crate::places::{ERRAND, placed};
-use crate::task::{Request, Task};
+use crate::task::{ClientRequest, Task};
 use crate::values::optional_at;
 use clap::{ArgMatches, Command};
 use replay_arguments::{event_at, event_value, flag_at, round_at, round_value, with_argument};
@@ -41,7 +43,7 @@ const LAST: [Argument<'static>; 2] = [
         id: "position",
         name: "COUNT",
         help: "How many commands of the log the sheet counts; without it all that the desk has",
-        takes: Takes::Number {
+        takes: ArgumentKind::Number {
             low: 0,
             high: 4_294_967_295,
         },
@@ -79,7 +81,7 @@ pub fn sheet_of<'a>(found: &ArgMatches<'a>) -> Option<Task<'a>>
         Some(position) => Some(Task::Carry {
             place,
             patience,
-            request: Request::Sheet {
+            request: ClientRequest::Sheet {
                 event,
                 round,
                 position,

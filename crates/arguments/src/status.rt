@@ -4,7 +4,7 @@ ghost use Rattle.std.specs.Prelude.{◌≡◌, codes, IfOk, IfSome};
 ghost use Rattle.clap.specs.Words.{app_of, found_of, rows_of, with_subcommand};
 ghost use Rattle.arguments.specs.Asking.{status_arguments, IsTask};
 
-use crate::described::{Argument, FLAG, OPTION, Subcommand, Takes, with_described};
+use crate::described::{Argument, ArgumentKind, FLAG, OPTION, Subcommand, with_described};
 use crate::places::{CONFIG, EXPLAIN, HALL, KEY, PATIENCE, PATIENCE_OPTION, desks_at};
 use crate::task::Task;
 use crate::values::number_or;
@@ -12,7 +12,7 @@ use clap::{ArgMatches, Command};
 use replay_arguments::flag_at;
 use std::alloc::{AllocError, Global};
 
-const ABOUT: &str = "Asks the desks of a hall how they stand, and says what that means.";
+const ABOUT: &str = "Asks the desks of a hall how they are, and says what that means.";
 
 const AFTER: &str = "\
 The desks are those of FILE, or those of hall H at the ADDRs. Prints a line for each: its number,
@@ -39,7 +39,7 @@ const STATUS: Subcommand<'static> = Subcommand {
             id: "to",
             name: "ADDR",
             help: "The addresses of the desks, one to five, desk 1 first, with --hall",
-            takes: Takes::FewTexts,
+            takes: ArgumentKind::FewTexts,
             needs: &["hall"],
             ..OPTION
         },

@@ -12,7 +12,7 @@ use crate::hall_files::hall_file_of;
 use crate::import::import_of;
 use crate::key::key_of;
 use crate::log::log_of;
-use crate::places::{Desks, Place, placed};
+use crate::places::{DeskPlaces, Place, placed};
 use crate::results::results_of;
 use crate::serve::serve_of;
 use crate::sheet::sheet_of;
@@ -28,7 +28,7 @@ use wire::{SheetStyle, Version};
 
 /// What a client asks of a desk with one frame.
 #[derive(Clone, Copy)]
-pub enum Request {
+pub enum ClientRequest {
     /// What happened to a command.
     Ask {
         id: u64,
@@ -48,7 +48,7 @@ pub enum Request {
 
 /// How the lines of an input are entered.
 #[derive(Clone, Copy)]
-pub struct Lines {
+pub struct EnterOptions {
     /// The id of the first line; without it one is chosen.
     pub first_id: Option<u64>,
     /// Whether each command is waited for until it is decided.
@@ -63,7 +63,7 @@ pub struct Lines {
 
 /// In which form the log of a desk that runs is printed.
 #[derive(Clone, Copy)]
-pub enum LogForm {
+pub enum LogFormOption {
     /// As lines that `replay` reads.
     Lines,
     /// As rows for people: who entered what and when.
@@ -147,7 +147,7 @@ pub enum Task<'a> {
     Carry {
         place: Place<'a>,
         patience: u32,
-        request: Request,
+        request: ClientRequest,
     },
     /// The newest sheet of a round, from a desk.
     Newest {
@@ -170,7 +170,7 @@ pub enum Task<'a> {
     EnterLines {
         place: Place<'a>,
         patience: u32,
-        lines: Lines,
+        lines: EnterOptions,
     },
     /// The log of a stopped desk, from its file.
     Log {
@@ -181,11 +181,11 @@ pub enum Task<'a> {
         place: Place<'a>,
         patience: u32,
         from: u32,
-        form: LogForm,
+        form: LogFormOption,
     },
     /// How the desks of a hall are, and this machine too where `all` is wanted.
     Status {
-        desks: Desks<'a>,
+        desks: DeskPlaces<'a>,
         patience: u32,
         json: bool,
         watches: bool,
@@ -204,23 +204,23 @@ pub enum Task<'a> {
 
 /// What the arguments ask for, and whether a second line is to say why a fault came.
 #[derive(Clone, Copy)]
-pub struct Asked<'a> {
+pub struct Invocation<'a> {
     pub task: Task<'a>,
     pub explains: bool,
 }
 
 /// The request of a subcommand's arguments, where the subcommand makes one.
-fn request_of(name: &str, found: &ArgMatches<'_>) -> Option<Request>
+fn request_of(name: &str, found: &ArgMatches<'_>) -> Option<ClientRequest>
     ensures { IfSome result
         (λ request. IsRequest request name.now (rows_of (found_of found.now))) }
 {
     match name {
         "ask" => {
             let id = id_at(found, "id")?;
-            Some(Request::Ask { id })
+            Some(ClientRequest::Ask { id })
         }
-        "tick" => Some(Request::Tick),
-        "stop" => Some(Request::Stop),
+        "tick" => Some(ClientRequest::Tick),
+        "stop" => Some(ClientRequest::Stop),
         _ => None,
     }
 }
@@ -285,7 +285,7 @@ fn task_named<'m, 'a: 'm>(name: &str, found: &'m ArgMatches<'a>) -> Option<Task<
 
 /// What parsed arguments ask for. Nothing where a number has a sign or leading zeros or is out of
 /// its range, or where arguments are given together that cannot be; the parser refuses the latter.
-pub fn task_of<'m, 'a: 'm>(matches: &'m ArgMatches<'a>) -> Option<Asked<'m>>
+pub fn task_of<'m, 'a: 'm>(matches: &'m ArgMatches<'a>) -> Option<Invocation<'m>>
     ensures task { IfSome result (λ asked. Finds (subcommand_rows_of matches.now) asked.task) }
     ensures explains { IfSome result
         (λ asked. FindsExplain (subcommand_rows_of matches.now) asked.explains) }
@@ -293,5 +293,5 @@ pub fn task_of<'m, 'a: 'm>(matches: &'m ArgMatches<'a>) -> Option<Asked<'m>>
     let (name, found) = matches.subcommand()?;
     let task = task_named(name, found)?;
     let explains = flag_at(found, "explain");
-    Some(Asked { task, explains })
+    Some(Invocation { task, explains })
 }

@@ -8,7 +8,7 @@ use Rattle.std.specs.Io.KnownBytes.{Appends}
 use Rattle.lines.specs.Bytes.{AppendsPart}
 use Rattle.lines.proofs.Inputs.{whole_written}
 use Rattle.texts.specs.declared.answer.Answer.{Answer}
-use Rattle.wire.specs.declared.frame.What.{What}
+use Rattle.wire.specs.declared.frame.FrameBody.{FrameBody}
 use Rattle.batch.specs.Asking.{Asked, Asks, IsAnswer, IsOfAsking, submit_of}
 use Rattle.batch.specs.Dialing.{GoesBy, Grows, Place, Standing, Way}
 use Rattle.batch.specs.Watching.{Begins, Entered, Notice, Telling, Watched, found_by, line_notices}
@@ -49,7 +49,8 @@ not_refusal f waits r id line h is =
     neither (subst (λ (x : BatchFault). IsOfAsking x ⊎ Hinders x waits r id line) is h)
 
 -- what was asked for a line that was entered, and why that is not all
-unsaid : (b : Batch) (id : ℕ) (line : List ℕ) (last : What) (asked : List Asked) (f : BatchFault)
+unsaid : (b : Batch) (id : ℕ) (line : List ℕ) (last : FrameBody) (asked : List Asked)
+    (f : BatchFault)
     → IsOther f → EnteredBy b.waits b.receiver id line last asked
     → StopsAsking f b.receiver id line asked
 unsaid b id line last asked f other h = (
@@ -72,7 +73,7 @@ line_heard x y z u id line asked said answer is begins told ends =
     (subst (λ a. Grows z u (Entered a ∷ [])) is ends))
 
 -- an equal text was entered
-pub entered_text : {here : Place} (b : Batch) (id : ℕ) (text line : List ℕ) (last : What)
+pub entered_text : {here : Place} (b : Batch) (id : ℕ) (text line : List ℕ) (last : FrameBody)
     (old new : Standing) (w : Watched) → text ≡ line
     → Asks here old new (Telling w notices_of (EnteredBy b.waits b.receiver id text last))
     → Asks here old new (Telling w notices_of (EnteredBy b.waits b.receiver id line last))
@@ -81,7 +82,7 @@ entered_text {here} b id text line last old new w same h =
     same h
 
 -- it was entered, and its answer could not be printed
-pub unprinted_so : {here : Place} (b : Batch) (id n : ℕ) (text line : List ℕ) (last : What)
+pub unprinted_so : {here : Place} (b : Batch) (id n : ℕ) (text line : List ℕ) (last : FrameBody)
     (old new : Standing) (x y z : Option (List Notice)) (f : BatchFault) → id ≡ n → text ≡ line
     → IsOfPrinting f → Grows x y (Begins id line ∷ [])
     → Asks here old new
@@ -104,7 +105,7 @@ unprinted_so {here} b id n text line last old new x y z f is same printing begin
     )
 
 -- it was refused, where the run ends at that
-pub refused_so : {here : Place} (b : Batch) (id n : ℕ) (text line : List ℕ) (last : What)
+pub refused_so : {here : Place} (b : Batch) (id n : ℕ) (text line : List ℕ) (last : FrameBody)
     (old new : Standing) (x y z u : Option (List Notice)) (said : Option Answer) → id ≡ n
     → text ≡ line → said ≡ told_answer last → ends_run b last ≡ true
     → Grows x y (Begins id line ∷ [])
@@ -156,7 +157,7 @@ beyond_so here b id line old x beyond = (
 )
 
 -- a line that was entered, its answer printed
-pub enters_line : {here : Place} (b : Batch) (id n : ℕ) (text line : List ℕ) (last : What)
+pub enters_line : {here : Place} (b : Batch) (id n : ℕ) (text line : List ℕ) (last : FrameBody)
     (from to : Standing) (x y z u : Option (List Notice)) (said : Option Answer)
     (old new : Option (List ℕ)) → id ≡ b.first_id + n → text ≡ line → said ≡ told_answer last
     → IsEntered b.waits b.receiver id line last → Grows x y (Begins id line ∷ [])
@@ -188,7 +189,7 @@ enters_line {here} b id n text line last from to x y z u said old new is same an
 
 -- a command that was taken was not decided, where that was waited for
 pub undecided : (Fails : BatchFault → Type 0) (f : BatchFault) (waits : Bool) (r : Receiver)
-    (id : ℕ) (text : List ℕ) (taken : What)
+    (id : ℕ) (text : List ℕ) (taken : FrameBody)
     → waits ≡ true → IsAnswer (submit_of r id text) taken → Fails f ⊎ IsUndecided f r id
     → Fails f ⊎ Hinders f waits r id text
 undecided Fails f waits r id text taken is t (inl h) = inl h
@@ -246,7 +247,7 @@ unprinted Fails f b id n line old is h = record {
 
 -- it could not be printed of an entered one, or a front part of it was
 pub printed_part : (Fails : BatchFault → Type 0) (f : BatchFault) (b : Batch) (id n : ℕ)
-    (line : List ℕ) (last : What) (old new : Option (List ℕ)) → id ≡ n → IsOfPrinting f
+    (line : List ℕ) (last : FrameBody) (old new : Option (List ℕ)) → id ≡ n → IsOfPrinting f
     → IsEntered b.waits b.receiver id line last → AppendsPart old new (reply_text last)
     → FailsLine Fails f b n line old new
 printed_part Fails f b id n line last old new is printing entered part = record {
@@ -261,7 +262,8 @@ printed_part Fails f b id n line last old new is printing entered part = record 
 }
 
 -- it was printed, and the run ends since it was refused
-pub refused : (Fails : BatchFault → Type 0) (b : Batch) (id n : ℕ) (line : List ℕ) (last : What)
+pub refused : (Fails : BatchFault → Type 0) (b : Batch) (id n : ℕ) (line : List ℕ)
+    (last : FrameBody)
     (old new : Option (List ℕ)) → id ≡ n → IsEntered b.waits b.receiver id line last
     → Appends old new (reply_text last) → ends_run b last ≡ true
     → FailsLine Fails fault.AtRefusal b n line old new

@@ -1,15 +1,11 @@
 -- What an answer says of a command that was decided, and of the entry at its position.
-use Rattle.std.proofs.Common.{◌≡◌, ◌≤◌, ◌∷◌, [], ℕ, List, Option, Result, Ok, Err}
+use Rattle.std.proofs.Common.{◌≡◌, ◌∷◌, [], ℕ, List, Option, Result, Ok, Err}
 use Rattle.std.proofs.Common.{refl, subst, sym}
 use Rattle.acceptor.specs.declared.entry.Entry.{Entry}
-use Rattle.client.specs.Answers.{answers}
-use Rattle.wire.specs.Ranges.{IsBody}
 use Rattle.wire.specs.declared.frame.Frame.{Frame}
-use Rattle.wire.specs.declared.frame.What.{What}
-use Rattle.wire.specs.declared.frame.What.TheVariants as what
-use Rattle.wire.specs.declared.values.CommandState.TheVariants.{Done}
-use Rattle.texts.specs.declared.answer.Answer.{Answer}
-use Rattle.batch.specs.Asking.{IsAnswer, ask_of, log_of}
+use Rattle.wire.specs.declared.frame.FrameBody.{FrameBody}
+use Rattle.wire.specs.declared.frame.FrameBody.TheVariants as what
+use Rattle.batch.specs.Asking.{IsAnswer, log_of}
 use Rattle.batch.specs.Confirming.{HasFirst, IsConfirmed, IsDecidedAt, IsNotOwn, IsUnconfirmed}
 use Rattle.batch.specs.Confirming.{entry_of}
 use Rattle.batch.specs.Dialing.{Asks, Goes, Grows, Place, Standing, asked_so}
@@ -19,21 +15,9 @@ use Rattle.batch.specs.declared.asking.Receiver.{Receiver}
 use Rattle.batch.specs.declared.fault.BatchFault.{BatchFault}
 use Rattle.batch.proofs.Going.{grows_none}
 use Rattle.batch.proofs.Heard.{between, found_none}
-use Rattle.batch.proofs.Parts.{judged_is}
-
--- a position that is told is one of a log
-pub told_within : (r : Receiver) (id other pos : ℕ) (said : Answer)
-    → IsAnswer (ask_of r id) (what.Told other (Done pos said)) → pos ≤ 65535
-told_within r id other pos said h =
-    let given = h.0 in
-    let is = judged_is given.what (what.Told other (Done pos said))
-    (answers (ask_of r id) given) h.2 in
-    let body : IsBody given.version (what.Told other (Done pos said)) =
-    subst (λ w. IsBody given.version w) is.0 h.1.body in
-    body.1.0
 
 -- the entry at the position is this one
-pub confirms : {here : Place} (r : Receiver) (id : ℕ) (text : List ℕ) (told answer : What)
+pub confirms : {here : Place} (r : Receiver) (id : ℕ) (text : List ℕ) (told answer : FrameBody)
     (pos : ℕ) (request : Frame) (entry : Entry) (a b : Standing) (x : Option (List Notice))
     → request ≡ log_of r pos → IsDecidedAt pos told
     → Goes here a b (asked_so request (Ok answer) ∷ []) → IsAnswer request answer
@@ -59,7 +43,8 @@ confirms {here} r id text told answer pos request entry a b x is at goes comes f
 
 -- it was not seen to be this one
 pub unconfirmed : {here : Place} (f : BatchFault) (r : Receiver) (id : ℕ) (text : List ℕ)
-    (told : What) (result : Result What BatchFault) (pos : ℕ) (request : Frame) (a b : Standing)
+    (told : FrameBody) (result : Result FrameBody BatchFault) (pos : ℕ) (request : Frame)
+    (a b : Standing)
     (w : Watched) → Tells w (found_by f (asked_so (log_of r pos) result ∷ []))
     → request ≡ log_of r pos → IsDecidedAt pos told
     → Goes here a b (asked_so request result ∷ []) → IsNotOwn f r pos (entry_of id text) result
@@ -78,9 +63,9 @@ nothing_found f e r pos x =
     (grows_none x)
 
 -- the first entry of an answer is told of
-pub another_found : (r : Receiver) (pos : ℕ) (answer : What) (entry : Entry)
+pub another_found : (r : Receiver) (pos : ℕ) (answer : FrameBody) (entry : Entry)
     (x y : Option (List Notice)) → HasFirst answer entry → Grows x y (Another entry ∷ [])
     → Tells (between x y) (entries_of (asked_so (log_of r pos) (Ok answer) ∷ []))
 another_found r pos answer entry x y first told =
-    subst (λ (t : What). Grows x y (entries_of (asked_so (log_of r pos) (Ok t) ∷ [])))
+    subst (λ (t : FrameBody). Grows x y (entries_of (asked_so (log_of r pos) (Ok t) ∷ [])))
     (sym first.3) told

@@ -4,8 +4,8 @@ use Rattle.std.proofs.Common.{Option, Result, Ok, Err, IfOk, IfErr, ◌⊎◌}
 use Rattle.std.proofs.Common.{refl, sym, ap, ◌∙◌, append_assoc, subst}
 use Rattle.std.specs.List.{AllByRecursion}
 use Rattle.wire.specs.declared.frame.Frame.{Frame}
-use Rattle.wire.specs.declared.frame.What.{What}
-use Rattle.wire.specs.declared.frame.What.TheVariants as what
+use Rattle.wire.specs.declared.frame.FrameBody.{FrameBody}
+use Rattle.wire.specs.declared.frame.FrameBody.TheVariants as what
 use Rattle.batch.specs.Asking.{AreKnown, AreOf, Asked, Asks, IsAnswer}
 use Rattle.batch.specs.Asking.{IsAwaited, IsDecided, IsKnown, IsOfAsking, IsOneOf}
 use Rattle.batch.specs.Asking.{IsPutOff, IsTaken, IsTurnedDown}
@@ -42,7 +42,7 @@ ask_one r submit ask a (inl h) = inr (inl h)
 ask_one r submit ask a (inr h) = inr (inr (inl h))
 
 -- tries are for their request
-tries_for : (P : Asked → Type 0) (r : Receiver) (request : Frame) (answer : What)
+tries_for : (P : Asked → Type 0) (r : Receiver) (request : Frame) (answer : FrameBody)
     (asked : List Asked)
     → ((a : Asked) → P a → IsFor r request a) → Tries P request answer asked
     → AreFor r request asked
@@ -52,7 +52,7 @@ tries_for P r request answer asked f h =
     (all_weaker P (IsFor r request) h.front f h.each)
     (inl refl, tt))
 
-taken_for : (r : Receiver) (id : ℕ) (text : List ℕ) (taken : What) (asked : List Asked)
+taken_for : (r : Receiver) (id : ℕ) (text : List ℕ) (taken : FrameBody) (asked : List Asked)
     → IsTaken r id text taken asked → AreOf r id text asked
 taken_for r id text taken asked h =
     all_weaker (IsFor r (submit_of r id text)) (IsOneOf r (submit_of r id text) (ask_of r id)) asked
@@ -60,7 +60,7 @@ taken_for r id text taken asked h =
     (tries_for (IsTurnedDown r (submit_of r id text)) r (submit_of r id text) taken asked
     (turned_down_for r (submit_of r id text)) h)
 
-taken_known : (r : Receiver) (id : ℕ) (text : List ℕ) (taken : What) (asked : List Asked)
+taken_known : (r : Receiver) (id : ℕ) (text : List ℕ) (taken : FrameBody) (asked : List Asked)
     → IsTaken r id text taken asked → AreKnown r id asked
 taken_known r id text taken asked h =
     all_weaker (IsFor r (submit_of r id text)) (IsKnown (ask_of r id)) asked
@@ -68,7 +68,7 @@ taken_known r id text taken asked h =
     (tries_for (IsTurnedDown r (submit_of r id text)) r (submit_of r id text) taken asked
     (turned_down_for r (submit_of r id text)) h)
 
-awaited_known : (r : Receiver) (id : ℕ) (last : What) (asked : List Asked)
+awaited_known : (r : Receiver) (id : ℕ) (last : FrameBody) (asked : List Asked)
     → IsAwaited r id last asked → AreKnown r id asked
 awaited_known r id last asked h =
     let ask = ask_of r id in
@@ -89,36 +89,36 @@ log_apart r id pos =
     let w : what.Log pos ≡ what.Ask id = ap (λ (f : Frame). f.what) e in
     cc)
 
-log_known : (r : Receiver) (id pos : ℕ) (answer : Result What BatchFault)
+log_known : (r : Receiver) (id pos : ℕ) (answer : Result FrameBody BatchFault)
     → AreKnown r id (asked_so (log_of r pos) answer ∷ [])
 log_known r id pos answer = (λ is told said unknown. log_apart r id pos is, tt)
 
-log_for : (r : Receiver) (id : ℕ) (text : List ℕ) (pos : ℕ) (answer : Result What BatchFault)
+log_for : (r : Receiver) (id : ℕ) (text : List ℕ) (pos : ℕ) (answer : Result FrameBody BatchFault)
     → AreOf r id text (asked_so (log_of r pos) answer ∷ [])
 log_for r id text pos answer = (inr (inr (inr (pos, refl))), tt)
 
-confirmed_known : (r : Receiver) (id : ℕ) (text : List ℕ) (told : What) (asked : List Asked)
+confirmed_known : (r : Receiver) (id : ℕ) (text : List ℕ) (told : FrameBody) (asked : List Asked)
     → IsConfirmed r id text told asked → AreKnown r id asked
 confirmed_known r id text told asked h =
     subst (AreKnown r id) (sym h.parts) (log_known r id h.pos (Ok h.answer))
 
-confirmed_for : (r : Receiver) (id : ℕ) (text : List ℕ) (told : What) (asked : List Asked)
+confirmed_for : (r : Receiver) (id : ℕ) (text : List ℕ) (told : FrameBody) (asked : List Asked)
     → IsConfirmed r id text told asked → AreOf r id text asked
 confirmed_for r id text told asked h =
     subst (AreOf r id text) (sym h.parts) (log_for r id text h.pos (Ok h.answer))
 
-unconfirmed_known : (f : BatchFault) (r : Receiver) (id : ℕ) (text : List ℕ) (told : What)
+unconfirmed_known : (f : BatchFault) (r : Receiver) (id : ℕ) (text : List ℕ) (told : FrameBody)
     (asked : List Asked) → IsUnconfirmed f r id text told asked → AreKnown r id asked
 unconfirmed_known f r id text told asked h =
     subst (AreKnown r id) (sym h.parts) (log_known r id h.pos h.result)
 
-unconfirmed_for : (f : BatchFault) (r : Receiver) (id : ℕ) (text : List ℕ) (told : What)
+unconfirmed_for : (f : BatchFault) (r : Receiver) (id : ℕ) (text : List ℕ) (told : FrameBody)
     (asked : List Asked) → IsUnconfirmed f r id text told asked → AreOf r id text asked
 unconfirmed_for f r id text told asked h =
     subst (AreOf r id text) (sym h.parts) (log_for r id text h.pos h.result)
 
 -- what is known of those that entered a line
-pub entered_known : (waits : Bool) (r : Receiver) (id : ℕ) (text : List ℕ) (last : What)
+pub entered_known : (waits : Bool) (r : Receiver) (id : ℕ) (text : List ℕ) (last : FrameBody)
     (asked : List Asked) → EnteredBy waits r id text last asked → AreKnown r id asked
 entered_known true r id text last asked h =
     subst (AllByRecursion (IsKnown (ask_of r id))) (sym h.7)
@@ -128,7 +128,7 @@ entered_known true r id text last asked h =
     (confirmed_known r id text last h.3 h.6))
 entered_known false r id text last asked h = taken_known r id text last asked h
 
-awaited_for : (r : Receiver) (id : ℕ) (text : List ℕ) (last : What) (asked : List Asked)
+awaited_for : (r : Receiver) (id : ℕ) (text : List ℕ) (last : FrameBody) (asked : List Asked)
     → IsAwaited r id last asked → AreOf r id text asked
 awaited_for r id text last asked h =
     all_weaker (IsFor r (ask_of r id)) (IsOneOf r (submit_of r id text) (ask_of r id)) asked
@@ -137,7 +137,7 @@ awaited_for r id text last asked h =
     (put_off_for r (ask_of r id)) h.tries)
 
 -- so are those that entered a line
-pub entered_for : (waits : Bool) (r : Receiver) (id : ℕ) (text : List ℕ) (last : What)
+pub entered_for : (waits : Bool) (r : Receiver) (id : ℕ) (text : List ℕ) (last : FrameBody)
     (asked : List Asked) → EnteredBy waits r id text last asked → AreOf r id text asked
 entered_for true r id text last asked h =
     subst (AreOf r id text) (sym h.7)
@@ -178,7 +178,8 @@ not_taken f r id text asked h (inr other) = (
 
 -- so it is of what is asked for the text
 pub if_asks_text : (here : Place) (r : Receiver) (id : ℕ) (text : List ℕ) (submit : Frame)
-    (a b : Standing) (w : Watched) (result : Result What BatchFault) → submit ≡ submit_of r id text
+    (a b : Standing) (w : Watched) (result : Result FrameBody BatchFault)
+    → submit ≡ submit_of r id text
     → IfErr result (λ f. Asks here a b
     (λ asked. IsTurnedOff f r submit asked × TellsTries submit w asked))
     → IfErr result (λ f. Asks here a b (Telling w notices_of (StopsTaking f r id text)))
@@ -190,7 +191,8 @@ if_asks_text here r id text submit a b w (Err f) is h =
 
 -- and so it is where the text was taken
 pub if_takes_text : (here : Place) (r : Receiver) (id : ℕ) (text : List ℕ) (submit : Frame)
-    (a b : Standing) (w : Watched) (result : Result What BatchFault) → submit ≡ submit_of r id text
+    (a b : Standing) (w : Watched) (result : Result FrameBody BatchFault)
+    → submit ≡ submit_of r id text
     → IfOk result (λ answer. Asks here a b
     (λ asked. IsTakenOf r submit answer asked × TellsTries submit w asked))
     → IfOk result (λ answer. Asks here a b (Telling w notices_of (IsTaken r id text answer)))
@@ -215,7 +217,7 @@ asks_text f r id text a b w h = (
 )
 
 -- it was taken, and then not waited for to the end
-ends_so : (f : BatchFault) (r : Receiver) (id : ℕ) (text : List ℕ) (taken : What)
+ends_so : (f : BatchFault) (r : Receiver) (id : ℕ) (text : List ℕ) (taken : FrameBody)
     (first rest : List Asked) → IsTaken r id text taken first → Ends r id f rest
     → (AreKnown r id (first ++ rest) × EndsAsking f r id text (first ++ rest))
     ⊎ ((f ≡ fault.Lost) × IsLost r id text (first ++ rest))
@@ -239,14 +241,14 @@ ends_so f r id text taken first rest h (inr (lost, forgotten)) =
     inr (lost, (taken, first, rest, h, forgotten, refl))
 
 -- those that entered the text, and those that asked for its id
-taken_told : (r : Receiver) (id : ℕ) (text : List ℕ) (taken : What) (asked : List Asked)
+taken_told : (r : Receiver) (id : ℕ) (text : List ℕ) (taken : FrameBody) (asked : List Asked)
     → IsTaken r id text taken asked → (pending_of asked ≡ 0) × (entries_of asked ≡ [])
 taken_told r id text taken asked h =
     text_told r id text asked
     (tries_for (IsTurnedDown r (submit_of r id text)) r (submit_of r id text) taken asked
     (turned_down_for r (submit_of r id text)) h)
 
-awaited_told : (r : Receiver) (id : ℕ) (last : What) (asked : List Asked)
+awaited_told : (r : Receiver) (id : ℕ) (last : FrameBody) (asked : List Asked)
     → IsAwaited r id last asked → (full_of asked ≡ 0) × (entries_of asked ≡ [])
 awaited_told r id last asked h =
     question_told r id asked
@@ -254,7 +256,7 @@ awaited_told r id last asked h =
     h.tries)
 
 pub not_awaited : {here : Place} (f : BatchFault) (r : Receiver) (id : ℕ) (text : List ℕ)
-    (taken : What) (a b c : Standing) (x y z : Option (List Notice))
+    (taken : FrameBody) (a b c : Standing) (x y z : Option (List Notice))
     → Asks here a b (Telling (between x y) notices_of (IsTaken r id text taken))
     → Asks here b c (Telling (between y z) notices_of (EndsWaiting f r id))
     → Asks here a c (Telling (between x z) (notices_by f) (StopsAsking f r id text))
@@ -277,7 +279,7 @@ not_awaited f r id text taken a b c x y z h k =
     )
 
 -- it was taken and decided, and so the observer was told
-decided_heard : (r : Receiver) (id : ℕ) (text : List ℕ) (taken last : What)
+decided_heard : (r : Receiver) (id : ℕ) (text : List ℕ) (taken last : FrameBody)
     (x y z : Option (List Notice)) (first rest : List Asked)
     → IsTaken r id text taken first → IsAwaited r id last rest → Grows x y (notices_of first)
     → Grows y z (notices_of rest) → Grows x z (notices_of (first ++ rest))
@@ -288,7 +290,7 @@ decided_heard r id text taken last x y z first rest h k told more =
 
 -- it was taken and decided, and the entry in the log is this one
 pub confirmed : {here : Place} (waits : Bool) (r : Receiver) (id : ℕ) (text : List ℕ)
-    (taken last : What) (a b c d : Standing) (x y z u : Option (List Notice)) → waits ≡ true
+    (taken last : FrameBody) (a b c d : Standing) (x y z u : Option (List Notice)) → waits ≡ true
     → Asks here a b (Telling (between x y) notices_of (IsTaken r id text taken))
     → Asks here b c (Telling (between y z) notices_of (IsAwaited r id last))
     → Asks here c d (Telling (between z u) notices_of (IsConfirmed r id text last))
@@ -308,7 +310,7 @@ confirmed {here} waits r id text taken last a b c d x y z u is h k m =
 
 -- so the text was entered
 pub is_entered : {here : Place} (waits : Bool) (r : Receiver) (id : ℕ) (text : List ℕ)
-    (taken last : What) (a b : Standing) (w : Watched) → waits ≡ true
+    (taken last : FrameBody) (a b : Standing) (w : Watched) → waits ≡ true
     → IsAnswer (submit_of r id text) taken → IsAnswer (ask_of r id) last × IsDecided last
     → Asks here a b (Telling w notices_of (IsConfirmed r id text last))
     → IsEntered waits r id text last
@@ -319,7 +321,7 @@ is_entered waits r id text taken last a b v is t answer m =
       (answer.0, answer.1, (m.2.0.pos, m.2.0.stands, m.2.0.answer, m.2.0.own)),
     )
 
-unseen : (f : BatchFault) (r : Receiver) (id : ℕ) (text : List ℕ) (taken last : What)
+unseen : (f : BatchFault) (r : Receiver) (id : ℕ) (text : List ℕ) (taken last : FrameBody)
     (first rest log : List Asked) → IsTaken r id text taken first → IsAwaited r id last rest
     → IsUnconfirmed f r id text last log → StopsAsking f r id text ((first ++ rest) ++ log)
 unseen f r id text taken last first rest log h k m = (
@@ -336,7 +338,7 @@ unseen f r id text taken last first rest log h k m = (
   ),
 )
 
-unseen_heard : (f : BatchFault) (r : Receiver) (id : ℕ) (text : List ℕ) (taken last : What)
+unseen_heard : (f : BatchFault) (r : Receiver) (id : ℕ) (text : List ℕ) (taken last : FrameBody)
     (x y z u : Option (List Notice)) (first rest log : List Asked)
     → IsTaken r id text taken first → IsAwaited r id last rest
     → IsUnconfirmed f r id text last log → Grows x y (notices_of first)
@@ -360,7 +362,7 @@ unseen_heard f r id text taken last x y z u first rest log h k m told more found
 
 -- it was taken and decided, and the entry in the log was not seen to be this one
 pub not_confirmed : {here : Place} (f : BatchFault) (r : Receiver) (id : ℕ) (text : List ℕ)
-    (taken last : What) (a b c d : Standing) (x y z u : Option (List Notice))
+    (taken last : FrameBody) (a b c d : Standing) (x y z u : Option (List Notice))
     → Asks here a b (Telling (between x y) notices_of (IsTaken r id text taken))
     → Asks here b c (Telling (between y z) notices_of (IsAwaited r id last))
     → Asks here c d (Telling (between z u) (notices_by f) (IsUnconfirmed f r id text last))
@@ -376,7 +378,7 @@ not_confirmed f r id text taken last a b c d x y z u h k m = (
 
 -- a command that was decided is not this one, where that was waited for
 pub not_own : (f : BatchFault) (waits : Bool) (r : Receiver) (id : ℕ) (text : List ℕ)
-    (taken told : What) → waits ≡ true → IsAnswer (submit_of r id text) taken
+    (taken told : FrameBody) → waits ≡ true → IsAnswer (submit_of r id text) taken
     → IsAnswer (ask_of r id) told → IsOfAsking f ⊎ IsAnother f r id text told
     → IsOfAsking f ⊎ Hinders f waits r id text
 not_own f waits r id text taken told is t answer (inl h) = inl h
@@ -393,15 +395,15 @@ not_own f waits r id text taken told is t answer (inr h) =
 -- ---- where no connection is kept before and afterwards
 
 pub if_adds_ok : (here : Place) (a : Option (List Dialed)) (b : Standing)
-    (c : Option (List Dialed)) (result : Result What BatchFault)
-    (Is : What → List Asked → Type 0)
+    (c : Option (List Dialed)) (result : Result FrameBody BatchFault)
+    (Is : FrameBody → List Asked → Type 0)
     → IfOk result (λ last. Asks here (closed a) b (Is last)) → LetsGo b c
     → IfOk result (λ last. AddsSo (record { place = here; old = a; new = c }) (Is last))
 if_adds_ok here a b c (Ok last) Is h k = (h.0, adds_by here a b c h.0 h.1 k, h.2)
 if_adds_ok here a b c (Err f) Is h k = tt
 
 pub if_adds_err : (here : Place) (a : Option (List Dialed)) (b : Standing)
-    (c : Option (List Dialed)) (result : Result What BatchFault)
+    (c : Option (List Dialed)) (result : Result FrameBody BatchFault)
     (Is : BatchFault → List Asked → Type 0)
     → IfErr result (λ f. Asks here (closed a) b (Is f)) → LetsGo b c
     → IfErr result (λ f. AddsSo (record { place = here; old = a; new = c }) (Is f))

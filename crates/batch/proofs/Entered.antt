@@ -9,7 +9,7 @@ use Rattle.std.specs.Io.KnownBytes.{Appends}
 use Rattle.client.specs.Printing.{reply_text}
 use Rattle.lines.specs.command_file.Commands.{Numbered}
 use Rattle.lines.proofs.Inputs.{part_after}
-use Rattle.wire.specs.declared.frame.What.{What}
+use Rattle.wire.specs.declared.frame.FrameBody.{FrameBody}
 use Rattle.batch.specs.Asking.{Asked, Asks, Goes, IsOfAsking}
 use Rattle.batch.specs.Dialing.{Grows, Place, Standing}
 use Rattle.batch.specs.Entering.{AsksFront, AsksLines, EnteredBy, EntersLine, FailsLine, IsSaid}
@@ -60,7 +60,7 @@ says_more b id (l ∷ lines) line said one h next = (
   ap (λ x. x ++ one) h.4 ∙ append_assoc h.0 h.1 one,
 )
 
-said_more : (b : Batch) (id : ℕ) (lines : List (List ℕ)) (line said : List ℕ) (last : What)
+said_more : (b : Batch) (id : ℕ) (lines : List (List ℕ)) (line said : List ℕ) (last : FrameBody)
     (asked one : List Asked) (notices : List Notice)
     → SaidBy b id lines said asked notices
     → EnteredBy b.waits b.receiver (id + length lines) line last one → ends_run b last ≡ false

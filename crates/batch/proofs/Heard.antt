@@ -8,8 +8,8 @@ use Rattle.std.proofs.lemmas.List.FromFn.{map-range_with_len_more}
 use Rattle.acceptor.specs.declared.entry.Entry.{Entry}
 use Rattle.client.specs.declared.fault.ClientFault.TheVariants as client
 use Rattle.wire.specs.declared.frame.Frame.{Frame}
-use Rattle.wire.specs.declared.frame.What.{What}
-use Rattle.wire.specs.declared.frame.What.TheVariants as what
+use Rattle.wire.specs.declared.frame.FrameBody.{FrameBody}
+use Rattle.wire.specs.declared.frame.FrameBody.TheVariants as what
 use Rattle.wire.specs.declared.values.ClientRefusal.TheVariants as refusal
 use Rattle.wire.specs.declared.values.CommandState.TheVariants as state
 use Rattle.batch.specs.Asking.{Asked, Counts, IsAnswer, IsDecided, IsFull, IsPending, IsTicked}
@@ -182,7 +182,7 @@ not_full entry (fault.Asking (client.Refused refusal.Foreign)) m all most = leas
 not_full entry (fault.Asking (client.Refused refusal.NotAllowed)) m all most = least_is m most
 not_full entry (fault.Asking (client.Refused refusal.HallDiffers)) m all most = least_is m most
 
-pending_told : (told : What) → IsPending told → undecided_in (Ok told) ≡ 1
+pending_told : (told : FrameBody) → IsPending told → undecided_in (Ok told) ≡ 1
 pending_told (what.Told other (state.Done pos said)) h = absurd (h.0 (other, pos, said, refl))
 pending_told (what.Told other state.Unknown) h = absurd (h.1 (other, refl))
 pending_told (what.Told other state.Pending) h = refl
@@ -208,36 +208,36 @@ pending_told (what.Log a) h = refl
 pending_told (what.Standing a) h = refl
 pending_told (what.Entries a b c) h = refl
 
-pub pending_answer : (ask : Frame) (answer : Result What BatchFault)
+pub pending_answer : (ask : Frame) (answer : Result FrameBody BatchFault)
     → IsOkAnd answer (λ told. IsAnswer ask told × IsPending told) → undecided_in answer ≡ 1
 pending_answer ask (Ok told) h = pending_told told h.1
 pending_answer ask (Err f) h = absurd h
 
-pub decided_told : (told : What) → IsDecided told → undecided_in (Ok told) ≡ 0
-decided_told told h = ap (λ (t : What). undecided_in (Ok t)) h.3
+pub decided_told : (told : FrameBody) → IsDecided told → undecided_in (Ok told) ≡ 0
+decided_told told h = ap (λ (t : FrameBody). undecided_in (Ok t)) h.3
 
-pub unknown_told : (told : What) → IsUnknown told → undecided_in (Ok told) ≡ 0
-unknown_told told h = ap (λ (t : What). undecided_in (Ok t)) h.1
+pub unknown_told : (told : FrameBody) → IsUnknown told → undecided_in (Ok told) ≡ 0
+unknown_told told h = ap (λ (t : FrameBody). undecided_in (Ok t)) h.1
 
 -- a question for an id, whichever it is
-asks_by : {T : Type 0} (awaits : Bool) (first second : Frame) (f : What → T) (t : T)
+asks_by : {T : Type 0} (awaits : Bool) (first second : Frame) (f : FrameBody → T) (t : T)
     → f first.what ≡ t → f second.what ≡ t → f (if awaits then first else second).what ≡ t
 asks_by true first second f t a b = a
 asks_by false first second f t a b = b
 
-pub pending_ask : (r : Receiver) (id : ℕ) (answer : Result What BatchFault)
+pub pending_ask : (r : Receiver) (id : ℕ) (answer : Result FrameBody BatchFault)
     → pending_in (ask_of r id).what answer ≡ undecided_in answer
 pending_ask r id answer =
     asks_by r.awaits (await_request r.hall r.desk id 1) (request_to r (what.Ask id))
     (λ w. pending_in w answer) (undecided_in answer) refl refl
 
-pub full_ask : (r : Receiver) (id : ℕ) (answer : Result What BatchFault)
+pub full_ask : (r : Receiver) (id : ℕ) (answer : Result FrameBody BatchFault)
     → full_in (ask_of r id).what answer ≡ 0
 full_ask r id answer =
     asks_by r.awaits (await_request r.hall r.desk id 1) (request_to r (what.Ask id))
     (λ w. full_in w answer) 0 refl refl
 
-entry_ask : (r : Receiver) (id : ℕ) (answer : Result What BatchFault)
+entry_ask : (r : Receiver) (id : ℕ) (answer : Result FrameBody BatchFault)
     → entry_in (ask_of r id).what answer ≡ []
 entry_ask r id answer =
     asks_by r.awaits (await_request r.hall r.desk id 1) (request_to r (what.Ask id))
@@ -341,7 +341,7 @@ question_told r id (a ∷ asked) (inr is, h) =
     )
 
 -- the one for the log
-pub log_told : (r : Receiver) (pos : ℕ) (answer : Result What BatchFault) (asked : List Asked)
+pub log_told : (r : Receiver) (pos : ℕ) (answer : Result FrameBody BatchFault) (asked : List Asked)
     → asked ≡ asked_so (log_of r pos) answer ∷ [] → (full_of asked ≡ 0) × (pending_of asked ≡ 0)
 log_told r pos answer asked is =
     subst (λ l. (full_of l ≡ 0) × (pending_of l ≡ 0)) (sym is) (refl, refl)

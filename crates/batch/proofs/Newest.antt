@@ -3,9 +3,9 @@ use Rattle.std.proofs.Common.{◌≡◌, ◌∷◌, [], true, false, ap, inr, re
 use Rattle.std.proofs.Common.{Err, IfErr, IfOk, None, Some, ◌==◌, ◌∙◌}
 use Rattle.client.specs.Answers.{answers, fits, is_standing}
 use Rattle.wire.specs.declared.frame.Frame.{Frame}
-use Rattle.wire.specs.declared.frame.What.{What}
-use Rattle.wire.specs.declared.frame.What.TheVariants as what
-use Rattle.wire.specs.declared.standing.Standing as stood
+use Rattle.wire.specs.declared.frame.FrameBody.{FrameBody}
+use Rattle.wire.specs.declared.frame.FrameBody.TheVariants as what
+use Rattle.wire.specs.declared.standing.DeskStatus as stood
 use Rattle.batch.specs.Asking.{IsAnswer}
 use Rattle.batch.specs.Dialing.{Asks, Goes, Place, Standing, asked_so}
 use Rattle.batch.specs.Newest.{FailsNewest, GivesNewest, said, sheet_at, standing_asked}
@@ -16,13 +16,13 @@ use Rattle.batch.specs.declared.newest_asked.RoundSheet.{RoundSheet}
 use Rattle.batch.proofs.Going.{goes_more}
 use Rattle.batch.proofs.Parts.{judged_is, last_of}
 
-is_so : (w : What) → is_standing w ≡ true → (s : stood.Standing) × (w ≡ what.Standing s)
+is_so : (w : FrameBody) → is_standing w ≡ true → (s : stood.DeskStatus) × (w ≡ what.Standing s)
 is_so (what.Standing s) h = (s, refl)
 is_so w h = absurd (let k : false ≡ true = h in cc)
 
 -- no other frame is the answer to a Status
-only_standing : (r : Receiver) (answer : What) → IsAnswer (standing_asked r) answer
-    → (s : stood.Standing) × (answer ≡ what.Standing s)
+only_standing : (r : Receiver) (answer : FrameBody) → IsAnswer (standing_asked r) answer
+    → (s : stood.DeskStatus) × (answer ≡ what.Standing s)
 only_standing r answer h =
     let given = h.0 in
     let is = judged_is given.what answer (answers (standing_asked r) given) h.2 in
@@ -31,20 +31,20 @@ only_standing r answer h =
     is_so answer (subst (λ w. is_standing w ≡ true) is.0 fitting)
 
 -- so it says how the desk is
-pub not_none : (r : Receiver) (answer : What) → IsAnswer (standing_asked r) answer
+pub not_none : (r : Receiver) (answer : FrameBody) → IsAnswer (standing_asked r) answer
     → None ≡ standing_said answer → ⊥
 not_none r answer h none =
     let is = only_standing r answer h in
     let bad : None ≡ Some is.0 = none ∙ ap standing_said is.1 in cc
 
-pub is_said : (answer : What) (s : stood.Standing) → Some s ≡ standing_said answer
+pub is_said : (answer : FrameBody) (s : stood.DeskStatus) → Some s ≡ standing_said answer
     → answer ≡ what.Standing s
 is_said (what.Standing t) s h = let same : t ≡ s = cc in ap (λ x. what.Standing x) same
 is_said w s h = absurd (let bad : Some s ≡ None = h in cc)
 
 -- both requests as they are said
-two : (p : Place) (a b c : Standing) (r : Receiver) (s : RoundSheet) (t : stood.Standing)
-    (first second : Frame) (answer : What) (result : Result What BatchFault)
+two : (p : Place) (a b c : Standing) (r : Receiver) (s : RoundSheet) (t : stood.DeskStatus)
+    (first second : Frame) (answer : FrameBody) (result : Result FrameBody BatchFault)
     → first ≡ standing_asked r → answer ≡ what.Standing t → second ≡ sheet_at r s t.length
     → Goes p a b (asked_so first (Ok answer) ∷ []) → Goes p b c (asked_so second result ∷ [])
     → Goes p a c (said r t ∷ asked_so (sheet_at r s t.length) result ∷ [])
@@ -54,7 +54,7 @@ two p a b c r s t first second answer result is_first is_answer is_second one ot
     (subst (λ q. Goes p a b (asked_so q (Ok answer) ∷ [])) is_first one))
     (subst (λ q. Goes p b c (asked_so q result ∷ [])) is_second other)
 
-told_so : (r : Receiver) (t : stood.Standing) (first : Frame) (answer : What)
+told_so : (r : Receiver) (t : stood.DeskStatus) (first : Frame) (answer : FrameBody)
     → first ≡ standing_asked r → answer ≡ what.Standing t → IsAnswer first answer
     → IsAnswer (standing_asked r) (what.Standing t)
 told_so r t first answer is_first is_answer comes =
@@ -63,7 +63,8 @@ told_so r t first answer is_first is_answer comes =
 
 -- the second request was answered
 pub both_answered : (p : Place) (a b c : Standing) (r : Receiver) (s : RoundSheet)
-    (t : stood.Standing) (first second : Frame) (answer : What) (result : Result What BatchFault)
+    (t : stood.DeskStatus) (first second : Frame) (answer : FrameBody)
+    (result : Result FrameBody BatchFault)
     → first ≡ standing_asked r → answer ≡ what.Standing t → second ≡ sheet_at r s t.length
     → Goes p a b (asked_so first (Ok answer) ∷ []) → Goes p b c (asked_so second result ∷ [])
     → IsAnswer first answer → IfOk result (IsAnswer second)
@@ -84,7 +85,8 @@ both_answered p a b c r s t first second answer (Err f) is_first is_answer is_se
 
 -- it failed
 pub second_fails : (p : Place) (a b c : Standing) (r : Receiver) (s : RoundSheet)
-    (t : stood.Standing) (first second : Frame) (answer : What) (result : Result What BatchFault)
+    (t : stood.DeskStatus) (first second : Frame) (answer : FrameBody)
+    (result : Result FrameBody BatchFault)
     → first ≡ standing_asked r → answer ≡ what.Standing t → second ≡ sheet_at r s t.length
     → Goes p a b (asked_so first (Ok answer) ∷ []) → Goes p b c (asked_so second result ∷ [])
     → IsAnswer first answer → IfErr result (λ f. Asks p a c (FailsNewest f r s))

@@ -8,8 +8,8 @@ use Rattle.client.specs.Answers.{answers, fits, judged_what}
 use Rattle.client.specs.declared.fault.ClientFault.{ClientFault}
 use Rattle.client.specs.declared.fault.ClientFault.TheVariants as client
 use Rattle.wire.specs.Ranges.{AreOfLog, IsBody}
-use Rattle.wire.specs.declared.frame.What.{What}
-use Rattle.wire.specs.declared.frame.What.TheVariants as what
+use Rattle.wire.specs.declared.frame.FrameBody.{FrameBody}
+use Rattle.wire.specs.declared.frame.FrameBody.TheVariants as what
 use Rattle.batch.specs.Asking.{IsAnswer}
 use Rattle.wire.specs.declared.frame.Frame.{Frame}
 use Rattle.batch.specs.Dialing.{Asked, Asks, GoesBy, Place, Standing, Way, asked_so}
@@ -27,19 +27,19 @@ pub record IsGoing (r : Receiver) (log : List Entry) (told : ℕ) (asked : List 
 
 -- ---- what an answer to a Log has
 
-pub value_or : What → Result What ClientFault → What
+pub value_or : FrameBody → Result FrameBody ClientFault → FrameBody
 value_or other (Ok w) = w
 value_or other (Err e) = other
 
-pub judged_is : (w answer : What) (own : Bool) → judged_what w own ≡ Ok answer
+pub judged_is : (w answer : FrameBody) (own : Bool) → judged_what w own ≡ Ok answer
     → (w ≡ answer) × (own ≡ true)
 unfolding value_or
 judged_is (what.Refused refusal) answer own h =
-    let refused : Result What ClientFault = Err (client.Refused refusal) in
+    let refused : Result FrameBody ClientFault = Err (client.Refused refusal) in
     absurd (let k : refused ≡ Ok answer = h in cc)
 judged_is w answer true h = let k : Ok w ≡ Ok answer = h in (ap (value_or w) k, refl)
 judged_is w answer false h =
-    let none : Result What ClientFault = Err client.NoAnswer in
+    let none : Result FrameBody ClientFault = Err client.NoAnswer in
     absurd (let k : none ≡ Ok answer = h in cc)
 
 pub last_of : (a b c : Bool) → (a && b && c) ≡ true → c ≡ true
@@ -67,24 +67,6 @@ ends_within : (position told len : ℕ) (entries : List Entry) → position ≤ 
     → (length entries ≡ 0) ⊎ (position + length entries ≤ len) → position + length entries ≤ len
 ends_within position told len entries behind grows (inl none) = omega (arith, none, behind, grows)
 ends_within position told len entries behind grows (inr h) = h
-
--- an answer is a part where the log has not become shorter and goes on with an entry
-pub part_is : (r : Receiver) (position told from len : ℕ) (entries : List Entry)
-    → position ≤ told → IsAnswer (log_of r position) (what.Entries from len entries)
-    → told ≤ len → (position < len → 0 < length entries)
-    → IsPart position told len entries (what.Entries from len entries) × (len ≤ 65536)
-part_is r position told from len entries behind answer grows goes_on =
-    let of = of_log r position from len entries answer in
-    let within : (length entries ≡ 0) ⊎ (position + length entries ≤ len) =
-    subst (λ n. (length entries ≡ 0) ⊎ (n + length entries ≤ len)) of.0 of.1.within in (
-      record {
-        has = ap (λ n. what.Entries n len entries) of.0;
-        grows = grows;
-        within = ends_within position told len entries behind grows within;
-        goes_on = goes_on;
-      },
-      of.1.log,
-    )
 
 -- ---- one part after the other
 
@@ -157,7 +139,7 @@ going_more r log told (b ∷ asked) a len entries h more part =
 
 -- ---- with what became of connections
 
-part_by : (r : Receiver) (position told len : ℕ) (entries : List Entry) (answer : What)
+part_by : (r : Receiver) (position told len : ℕ) (entries : List Entry) (answer : FrameBody)
     → IsAnswer (log_of r position) answer → IsPart position told len entries answer
     → IsPartBy r position told len entries (asked_so (log_of r position) (Ok answer))
 part_by r position told len entries answer comes part =
@@ -249,7 +231,7 @@ stops_more p a b c r log told f i more h =
 -- ---- one request
 
 pub adds_part : (w : Way) (r : Receiver) (before after entries : List Entry)
-    (told len position : ℕ) (answer : What) (request : Frame) → position ≡ length before
+    (told len position : ℕ) (answer : FrameBody) (request : Frame) → position ≡ length before
     → request ≡ log_of r position → GoesBy w (asked_so request (Ok answer) ∷ [])
     → IsAnswer request answer
     → (IsAnswer (log_of r position) answer
@@ -270,7 +252,7 @@ adds_part w r before after entries told len position answer request here is goes
     }
 
 pub fails_part : (w : Way) (r : Receiver) (before : List Entry) (told position : ℕ)
-    (result : Result What BatchFault) (f : BatchFault) (request : Frame)
+    (result : Result FrameBody BatchFault) (f : BatchFault) (request : Frame)
     → position ≡ length before → request ≡ log_of r position
     → GoesBy w (asked_so request result ∷ []) → IsNoPart f position told result
     → FailsPart w r before told f

@@ -4,8 +4,8 @@ use Rattle.std.proofs.Common.{IfOk, IfErr, refl, sym, ap, ◌∙◌, subst, arit
 use Rattle.acceptor.specs.declared.entry.Entry.{Entry}
 use Rattle.client.specs.declared.fault.ClientFault.TheVariants.{Refused}
 use Rattle.wire.specs.declared.frame.Frame.{Frame}
-use Rattle.wire.specs.declared.frame.What.{What}
-use Rattle.wire.specs.declared.frame.What.TheVariants as what
+use Rattle.wire.specs.declared.frame.FrameBody.{FrameBody}
+use Rattle.wire.specs.declared.frame.FrameBody.TheVariants as what
 use Rattle.wire.specs.declared.values.ClientRefusal.TheVariants.{Busy}
 use Rattle.batch.specs.Asking.{AreAllWaits, Asked, Asks, Counts, Goes, IsAwaited, IsDecided}
 use Rattle.batch.specs.Asking.{IsFull, IsTakenOf}
@@ -29,7 +29,7 @@ use Rattle.batch.proofs.Trying.{tries_of, turned_down_for, turned_off, waits_on}
 
 -- this many tries, and one request more that is no reason for a further one
 full_tries : (r : Receiver) (submit : Frame) (entry : Entry) (m n : ℕ) (front : List Asked)
-    (last : Result What BatchFault) → submit.what ≡ what.Submit entry
+    (last : Result FrameBody BatchFault) → submit.what ≡ what.Submit entry
     → Counts (IsFull submit) (IsTicked r) m n front
     → min 10000 (m + (full_in (what.Submit entry) last + 0)) ≡ m
     → notices_of (front ++ asked_so submit last ∷ []) ≡ waits_of m
@@ -45,7 +45,7 @@ full_tries r submit entry m n front last is h least =
     omega (arith, pending_more front (asked_so submit last ∷ []), counted.1, none) in
     full_notices (front ++ asked_so submit last ∷ []) m (ap (min 10000) full ∙ least) pending
 
-pub taken_told : {here : Place} (r : Receiver) (submit : Frame) (answer : What) (m n : ℕ)
+pub taken_told : {here : Place} (r : Receiver) (submit : Frame) (answer : FrameBody) (m n : ℕ)
     (a b c : Standing) (w : Watched) → m ≤ 10000
     → Asks here a b (Counts (IsFull submit) (IsTicked r) m n)
     → Goes here b c (asked_so submit (Ok answer) ∷ []) → Tells w (waits_of m)
@@ -64,7 +64,7 @@ taken_told r submit answer m n a b c w most h add heard =
     )
 
 pub if_taken_told : {here : Place} (r : Receiver) (submit : Frame) (m n : ℕ)
-    (a b c : Standing) (w : Watched) (result : Result What BatchFault) → m ≤ 10000
+    (a b c : Standing) (w : Watched) (result : Result FrameBody BatchFault) → m ≤ 10000
     → Asks here a b (Counts (IsFull submit) (IsTicked r) m n)
     → Goes here b c (asked_so submit result ∷ []) → Tells w (waits_of m)
     → IfOk result (λ answer. Asks here a c
@@ -94,7 +94,7 @@ turned_off_told r submit f m n a b c w most enough h add heard =
     )
 
 pub if_turned_off_told : {here : Place} (r : Receiver) (submit : Frame) (m n : ℕ)
-    (a b c : Standing) (w : Watched) (result : Result What BatchFault) → m ≤ 10000
+    (a b c : Standing) (w : Watched) (result : Result FrameBody BatchFault) → m ≤ 10000
     → m ≡ 10000 → n ≡ 312 → Asks here a b (Counts (IsFull submit) (IsTicked r) m n)
     → Goes here b c (asked_so submit result ∷ []) → Tells w (waits_of m)
     → IfErr result (λ f. Asks here a c
@@ -147,7 +147,8 @@ tick_off_told r submit m n a b c d w f g few h add busy tick heard =
 -- ---- of a question for an id
 
 -- this many times it was not decided, and one question more that is no reason for a further one
-pending_tries : (r : Receiver) (id m n : ℕ) (front : List Asked) (last : Result What BatchFault)
+pending_tries : (r : Receiver) (id m n : ℕ) (front : List Asked)
+    (last : Result FrameBody BatchFault)
     → Counts (IsWaiting (ask_of r id)) (IsTicked r) m n front
     → undecided_in last ≡ 0
     → notices_of (front ++ asked_so (ask_of r id) last ∷ []) ≡ waits_of m
@@ -163,7 +164,7 @@ pending_tries r id m n front last h none =
     pending_notices (front ++ one) m full pending
 
 pub awaits_told : {here : Place} (r : Receiver) (id m n : ℕ) (a b c : Standing) (w : Watched)
-    (told : What) → Asks here a b (Counts (IsWaiting (ask_of r id)) (IsTicked r) m n)
+    (told : FrameBody) → Asks here a b (Counts (IsWaiting (ask_of r id)) (IsTicked r) m n)
     → Goes here b c (asked_so (ask_of r id) (Ok told) ∷ []) → IsDecided told
     → Tells w (waits_of m) → Asks here a c (Telling w notices_of (IsAwaited r id told))
 unfolding awaits tried tries_of
@@ -193,7 +194,7 @@ failed_told r id f m n a b c w h add heard =
     )
 
 pub lost_told : {here : Place} (r : Receiver) (id m n : ℕ) (a b c : Standing) (w : Watched)
-    (told : What) → IsUnknown told
+    (told : FrameBody) → IsUnknown told
     → Asks here a b (Counts (IsWaiting (ask_of r id)) (IsTicked r) m n)
     → Goes here b c (asked_so (ask_of r id) (Ok told) ∷ []) → Tells w (waits_of m)
     → Asks here a c (Telling w notices_of (EndsWaiting fault.Lost r id))
@@ -209,7 +210,7 @@ lost_told r id m n a b c w told unknown h add heard =
       ),
     )
 
-ticked_questions : (r : Receiver) (id m n : ℕ) (front : List Asked) (told : What)
+ticked_questions : (r : Receiver) (id m n : ℕ) (front : List Asked) (told : FrameBody)
     (f : BatchFault) → Counts (IsWaiting (ask_of r id)) (IsTicked r) m n front
     → IsWaiting (ask_of r id) (asked_so (ask_of r id) (Ok told))
     → notices_of ((front ++ asked_so (ask_of r id) (Ok told) ∷ [])
@@ -228,7 +229,7 @@ ticked_questions r id m n front told f h waits =
     pending_notices ((front ++ one) ++ tick) (m + 1) full pending
 
 pub tick_waits_told : {here : Place} (r : Receiver) (id m n : ℕ) (a b c d : Standing)
-    (w : Watched) (told : What) (f : BatchFault)
+    (w : Watched) (told : FrameBody) (f : BatchFault)
     → Asks here a b (Counts (IsWaiting (ask_of r id)) (IsTicked r) m n)
     → Goes here b c (asked_so (ask_of r id) (Ok told) ∷ [])
     → IsWaiting (ask_of r id) (asked_so (ask_of r id) (Ok told))

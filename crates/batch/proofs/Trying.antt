@@ -6,10 +6,10 @@ use Rattle.std.proofs.Common.{refl, sym, ap, ◌∙◌, subst, arith}
 use Rattle.std.specs.Prelude.{IsOkAnd}
 use Rattle.std.specs.List.{AllByRecursion}
 use Rattle.wire.specs.declared.frame.Frame.{Frame}
-use Rattle.wire.specs.declared.frame.What.{What}
+use Rattle.wire.specs.declared.frame.FrameBody.{FrameBody}
 use Rattle.client.specs.declared.fault.ClientFault.TheVariants.{Refused}
 use Rattle.wire.specs.declared.values.ClientRefusal.TheVariants.{Busy}
-use Rattle.wire.specs.declared.frame.What.TheVariants as what
+use Rattle.wire.specs.declared.frame.FrameBody.TheVariants as what
 use Rattle.batch.specs.Asking.{AreAllTries, AreAllWaits, AreAllWaitsBy, AreKnown, Asked, Asks}
 use Rattle.batch.specs.Asking.{Counts, Goes, request_to}
 use Rattle.client.specs.Standings.{await_request}
@@ -43,7 +43,7 @@ all_weaker P Q (x ∷ xs) f h = (f x h.0, all_weaker P Q xs f h.1)
 
 -- the last of the tries was answered
 unfoldable pub tried : {here : Place} (P : Asked → Type 0) (a b c : Standing) (request : Frame)
-    (answer : What)
+    (answer : FrameBody)
     → Asks here a b (AllByRecursion P) → Goes here b c (asked_so request (Ok answer) ∷ [])
     → Asks here a c (Tries P request answer)
 tried P a b c request answer h k = (
@@ -52,13 +52,13 @@ tried P a b c request answer h k = (
   record { front = h.0; each = h.2; parts = refl },
 )
 
-pub told_of : {here : Place} (a b : Standing) (x y : Frame) (r : Result What BatchFault)
+pub told_of : {here : Place} (a b : Standing) (x y : Frame) (r : Result FrameBody BatchFault)
     → x ≡ y
     → Goes here a b (asked_so x r ∷ []) → Goes here a b (asked_so y r ∷ [])
 told_of {here} a b x y r = subst (λ z. Goes here a b (asked_so z r ∷ []))
 
 -- it was asked for an id until that was decided
-unfoldable pub awaits : {here : Place} (r : Receiver) (id : ℕ) (a b c : Standing) (told : What)
+unfoldable pub awaits : {here : Place} (r : Receiver) (id : ℕ) (a b c : Standing) (told : FrameBody)
     → Asks here a b (AllByRecursion (IsPutOff r (ask_of r id)))
     → Goes here b c (asked_so (ask_of r id) (Ok told) ∷ []) → IsDecided told
     → Asks here a c (IsAwaited r id told)
@@ -121,7 +121,8 @@ for_known r id text a (inr h) = ticked_known r id a h
 waiting_known : (ask : Frame) (a : Asked) → IsWaiting ask a → IsKnown ask a
 waiting_known ask a h = λ is told answer unknown.
     let k : IsAnswer ask told × IsPending told =
-    subst (λ (x : Result What BatchFault). IsOkAnd x (λ t. IsAnswer ask t × IsPending t)) answer
+    subst (λ (x : Result FrameBody BatchFault). IsOkAnd x (λ t. IsAnswer ask t × IsPending t))
+    answer
     h.1 in
     k.1.1 unknown
 
@@ -134,7 +135,7 @@ put_off_known r id a (inr h) = ticked_known r id a h.0
 failed_known : (ask : Frame) (a : Asked) (f : BatchFault) → a.answer ≡ Err f → IsKnown ask a
 failed_known ask a f failed = λ is told answer unknown. cc
 
-pub decided_known : (ask request : Frame) (last : What) → IsDecided last
+pub decided_known : (ask request : Frame) (last : FrameBody) → IsDecided last
     → IsKnown ask (asked_so request (Ok last))
 decided_known ask request last h = λ is told answer unknown. cc (h.3, unknown.1, answer)
 
@@ -282,7 +283,7 @@ Ends r id f asked =
 
 -- the last of the requests, all else after tries, failed
 pub last_failed : (r : Receiver) (id : ℕ) (f : BatchFault) (front : List Asked) (request : Frame)
-    (answer : Result What BatchFault)
+    (answer : Result FrameBody BatchFault)
     → AllByRecursion (IsPutOff r (ask_of r id)) front → answer ≡ Err f
     → IsFor r (ask_of r id) (asked_so request answer)
     → Ends r id f (front ++ asked_so request answer ∷ [])
@@ -299,7 +300,7 @@ last_failed r id f front request answer each failed is_for =
 -- one more question failed
 unfoldable pub asks_failed : {here : Place} (r : Receiver) (id : ℕ) (f : BatchFault) (m n : ℕ)
     (a b c : Standing)
-    (result : Result What BatchFault) → result ≡ Err f
+    (result : Result FrameBody BatchFault) → result ≡ Err f
     → Asks here a b (Counts (IsWaiting (ask_of r id)) (IsTicked r) m n)
     → Goes here b c (asked_so (ask_of r id) result ∷ [])
     → Asks here a c (EndsWaiting f r id)
@@ -311,7 +312,7 @@ asks_failed r id f m n a b c result failed h add =
 
 -- it was answered that nothing is known
 unfoldable pub asks_lost : {here : Place} (r : Receiver) (id m n : ℕ) (a b c : Standing)
-    (told : What)
+    (told : FrameBody)
     → IsUnknown told
     → Asks here a b (Counts (IsWaiting (ask_of r id)) (IsTicked r) m n)
     → Goes here b c (asked_so (ask_of r id) (Ok told) ∷ [])
@@ -373,9 +374,9 @@ waits_on r id m n a b enough h =
       ),
     )
 
-if_waiting : (ask : Frame) (result : Result What BatchFault)
+if_waiting : (ask : Frame) (result : Result FrameBody BatchFault)
     → IsOkAnd result (λ told. IsAnswer ask told × IsPending told)
-    → (told : What) × IsAnswer ask told × IsPending told
+    → (told : FrameBody) × IsAnswer ask told × IsPending told
 if_waiting ask (Ok told) h = (told, h.0, h.1)
 if_waiting ask (Err f) h = absurd h
 

@@ -7,8 +7,8 @@ use Rattle.client.specs.Standings.{await_request, log_request}
 use Rattle.client.specs.declared.fault.ClientFault.TheVariants.{Refused}
 use Rattle.wire.specs.Ranges.{IsFrame}
 use Rattle.wire.specs.declared.frame.Frame.{Frame}
-use Rattle.wire.specs.declared.frame.What.{What}
-use Rattle.wire.specs.declared.frame.What.TheVariants as what
+use Rattle.wire.specs.declared.frame.FrameBody.{FrameBody}
+use Rattle.wire.specs.declared.frame.FrameBody.TheVariants as what
 use Rattle.wire.specs.declared.values.ClientRefusal.TheVariants.{Busy}
 use Rattle.wire.specs.declared.values.CommandState.TheVariants.{Done, Unknown}
 use Rattle.wire.specs.declared.values.Version.{Version}
@@ -21,13 +21,13 @@ use Rattle.batch.specs.declared.fault.BatchFault.TheVariants.{NoKey, OtherKey, H
 
 -- what became of a command is asked in version 4, which tells each code; one is entered in version
 -- 5 where the desk knows it, which tells each refusal; the others are of version 1
-abbrev pub version_for : Receiver → What → Version
+abbrev pub version_for : Receiver → FrameBody → Version
 version_for r (what.Ask id) = Four
 version_for r (what.Submit entry) = if r.awaits then Five else One
 version_for r _ = One
 
 -- a request goes from a client, which is 0, to the desk
-abbrev pub request_to : Receiver → What → Frame
+abbrev pub request_to : Receiver → FrameBody → Frame
 request_to r asked =
     record { version = version_for r asked; hall = r.hall; from = 0; to = r.desk; what = asked }
 
@@ -50,15 +50,15 @@ abbrev pub log_of : Receiver → ℕ → Frame
 log_of r position = log_request r.hall r.desk position
 
 -- a frame came that is the answer to the request
-abbrev pub IsAnswer : Frame → What → Type 0
+abbrev pub IsAnswer : Frame → FrameBody → Type 0
 IsAnswer asked answer = (given : Frame) × IsFrame given × (judged asked given ≡ Ok answer)
 
 -- it says that the command is in the log
-abbrev pub IsDecided : What → Type 0
+abbrev pub IsDecided : FrameBody → Type 0
 IsDecided answer = (id pos : ℕ) × (said : _) × (answer ≡ what.Told id (Done pos said))
 
 -- it says that the desk knows nothing of the command
-abbrev pub IsUnknown : What → Type 0
+abbrev pub IsUnknown : FrameBody → Type 0
 IsUnknown answer = (id : ℕ) × (answer ≡ what.Told id Unknown)
 
 -- the faults of a request over a connection: nobody is reached, there is no answer, or none in
@@ -74,7 +74,7 @@ IsOfAsking NoMemory = Unit {0}
 IsOfAsking _ = ⊥
 
 -- it says neither
-abbrev pub IsPending : What → Type 0
+abbrev pub IsPending : FrameBody → Type 0
 IsPending answer = (¬ IsDecided answer) × (¬ IsUnknown answer)
 
 -- the desk was ticked, and answered that
@@ -97,7 +97,7 @@ IsWaiting ask a =
 
 -- to this request it did not answer that it knows nothing of the command
 abbrev pub IsKnown : Frame → Asked → Type 0
-IsKnown ask a = a.request ≡ ask → (told : What) → a.answer ≡ Ok told → ¬ IsUnknown told
+IsKnown ask a = a.request ≡ ask → (told : FrameBody) → a.answer ≡ Ok told → ¬ IsUnknown told
 
 -- it was asked, and answered neither, or was ticked
 abbrev pub IsPutOff : Receiver → Frame → Asked → Type 0
@@ -130,28 +130,28 @@ IsOneOf r submit ask a =
     ⊎ ((a.request ≡ tick_of r) ⊎ ((pos : ℕ) × (a.request ≡ log_of r pos))))
 
 -- the request was made until this was answered; of each one in front this is said
-pub record Tries (Is : Asked → Type 0) (request : Frame) (answer : What) (asked : List Asked)
+pub record Tries (Is : Asked → Type 0) (request : Frame) (answer : FrameBody) (asked : List Asked)
     : Type 0 where
   pub front : List Asked
   pub each : AllByRecursion Is front
   pub parts : asked ≡ front ++ (record { request = request; answer = Ok answer }) ∷ []
 
 -- the request that enters a text was made until the queue had room
-abbrev pub IsTakenOf : Receiver → Frame → What → List Asked → Type 0
+abbrev pub IsTakenOf : Receiver → Frame → FrameBody → List Asked → Type 0
 IsTakenOf r submit = Tries (IsTurnedDown r submit) submit
 
 -- the text was entered with the id as soon as the queue had room
-abbrev pub IsTaken : Receiver → ℕ → List ℕ → What → List Asked → Type 0
+abbrev pub IsTaken : Receiver → ℕ → List ℕ → FrameBody → List Asked → Type 0
 IsTaken r id text = IsTakenOf r (submit_of r id text)
 
 -- it was asked for the id until it answered that it knows nothing of that
 pub record IsForgotten (r : Receiver) (id : ℕ) (asked : List Asked) : Type 0 where
-  pub last : What
+  pub last : FrameBody
   pub tries : Tries (IsPutOff r (ask_of r id)) (ask_of r id) last asked
   pub unknown : IsUnknown last
 
 -- it was asked for the id until that was decided
-pub record IsAwaited (r : Receiver) (id : ℕ) (last : What) (asked : List Asked) : Type 0 where
+pub record IsAwaited (r : Receiver) (id : ℕ) (last : FrameBody) (asked : List Asked) : Type 0 where
   pub tries : Tries (IsPutOff r (ask_of r id)) (ask_of r id) last asked
   pub decided : IsDecided last
 

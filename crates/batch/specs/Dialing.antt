@@ -6,11 +6,12 @@ use Rattle.client.specs.Exchange.{Exchanges, Sides}
 use Rattle.client.specs.declared.fault.ClientFault.{ClientFault}
 use Rattle.client.specs.declared.fault.ClientFault.TheVariants as client
 use Rattle.wire.specs.declared.frame.Frame.{Frame}
-use Rattle.wire.specs.declared.frame.What.{What}
+use Rattle.wire.specs.declared.frame.FrameBody.{FrameBody}
 use Rattle.batch.specs.declared.dialing.Contact.{Contact}
-use Rattle.batch.specs.declared.dialing.Ending.{Ending}
-use Rattle.batch.specs.declared.dialing.Ending.TheVariants.{Late, Gone, NoKey, OtherKey, HasKey}
-use Rattle.batch.specs.declared.dialing.Ending.TheVariants.{Own}
+use Rattle.batch.specs.declared.dialing.ConnectionLoss.{ConnectionLoss}
+use Rattle.batch.specs.declared.dialing.ConnectionLoss.TheVariants.{Late, Gone, NoKey, OtherKey}
+use Rattle.batch.specs.declared.dialing.ConnectionLoss.TheVariants.{HasKey}
+use Rattle.batch.specs.declared.dialing.ConnectionLoss.TheVariants.{Own}
 use Rattle.batch.specs.declared.fault.BatchFault.{BatchFault}
 use Rattle.batch.specs.declared.fault.BatchFault.TheVariants as fault
 
@@ -30,7 +31,7 @@ pub data Dialed : Type 0 where
   Opened : Place → (had old : Option (List ℕ)) → Dialed
   Failed : Place → Dialed
   Again : Dialed
-  Ended : (left new : Option (List ℕ)) → Ending → Dialed
+  Ended : (left new : Option (List ℕ)) → ConnectionLoss → Dialed
 
 -- what is told grows by these, in order, where it is known; who tells may stop, and never begins
 abbrev pub Grows : {A : Type 0} → Option (List A) → Option (List A) → List A → Type 0
@@ -46,14 +47,14 @@ Dials old new more = Grows old new more
 -- a request, and what came of it
 pub record Asked : Type 0 where
   pub request : Frame
-  pub answer : Result What BatchFault
+  pub answer : Result FrameBody BatchFault
 
-abbrev pub asked_so : Frame → Result What BatchFault → Asked
+abbrev pub asked_so : Frame → Result FrameBody BatchFault → Asked
 asked_so request answer = record { request = request; answer = answer }
 
 -- why a request that was not answered, or not written, failed, by the end of its connection; it is
 -- late where no answer came as long as the desk was waited for
-abbrev pub fault_at : ClientFault → Ending → BatchFault
+abbrev pub fault_at : ClientFault → ConnectionLoss → BatchFault
 fault_at e Late = fault.Late
 fault_at e NoKey = fault.NoKey
 fault_at e OtherKey = fault.OtherKey
@@ -62,13 +63,13 @@ fault_at e Gone = fault.Asking e
 fault_at e Own = fault.Asking e
 
 -- why a request has no answer
-abbrev pub fault_of : ClientFault → Ending → BatchFault
+abbrev pub fault_of : ClientFault → ConnectionLoss → BatchFault
 fault_of client.NoAnswer ending = fault_at client.NoAnswer ending
 fault_of client.Write ending = fault_at client.Write ending
 fault_of (client.Refused refusal) ending = fault.Asking (client.Refused refusal)
 fault_of client.NoMemory ending = fault.NoMemory
 
-abbrev pub answer_of : Result What ClientFault → Ending → Result What BatchFault
+abbrev pub answer_of : Result FrameBody ClientFault → ConnectionLoss → Result FrameBody BatchFault
 answer_of (Ok answer) ending = Ok answer
 answer_of (Err e) ending = Err (fault_of e ending)
 
@@ -89,7 +90,7 @@ Begins p (Some l) s made dialed =
     (l ≡ record { left = s.had; new = s.old; made = made }) × (made < 64) × (dialed ≡ Again ∷ [])
 
 -- the desk answered, or refused
-abbrev pub IsAnswered : Result What ClientFault → Type 0
+abbrev pub IsAnswered : Result FrameBody ClientFault → Type 0
 IsAnswered (Ok answer) = Unit {0}
 IsAnswered (Err (client.Refused refusal)) = Unit {0}
 IsAnswered (Err client.NoAnswer) = ⊥
@@ -98,7 +99,8 @@ IsAnswered (Err client.NoMemory) = ⊥
 
 -- After a request the connection is kept where the desk answered or refused, with one request more,
 -- and else it was ended.
-abbrev pub Leaves : Sides → ℕ → Result What ClientFault → Ending → Option Line → List Dialed
+abbrev pub Leaves : Sides → ℕ → Result FrameBody ClientFault → ConnectionLoss → Option Line
+    → List Dialed
     → Type 0
 Leaves s made result ending None dialed =
     (¬ IsAnswered result) × (dialed ≡ Ended s.left s.new ending ∷ [])
@@ -108,7 +110,7 @@ Leaves s made result ending (Some l) dialed =
 
 -- the desk ended the connection and did not answer: the request could not be written to it, or no
 -- answer came and the end was met
-abbrev pub IsHungUp : Result What ClientFault → Ending → Type 0
+abbrev pub IsHungUp : Result FrameBody ClientFault → ConnectionLoss → Type 0
 IsHungUp (Err client.Write) ending = Unit {0}
 IsHungUp (Err client.NoAnswer) Gone = Unit {0}
 IsHungUp (Err client.NoAnswer) Late = ⊥
@@ -121,17 +123,17 @@ IsHungUp (Err client.NoMemory) ending = ⊥
 IsHungUp (Ok answer) ending = ⊥
 
 -- what came of it holds, unless it was made over a connection that was kept and is cut off
-abbrev pub Stands : Option Line → Result What ClientFault → Ending → Type 0
+abbrev pub Stands : Option Line → Result FrameBody ClientFault → ConnectionLoss → Type 0
 Stands None result ending = Unit {0}
 Stands (Some l) result ending = ¬ IsHungUp result ending
 
 -- the request was written to one connection and its answer read from it
 pub record IsExchanged (p : Place) (before : Option Line) (a : Asked) (after : Option Line)
     (dialed : List Dialed) : Type 0 where
-  pub result : Result What ClientFault
+  pub result : Result FrameBody ClientFault
   pub sides : Sides
   pub made : ℕ
-  pub ending : Ending
+  pub ending : ConnectionLoss
   pub front : List Dialed
   pub rest : List Dialed
   pub begins : Begins p before sides made front
@@ -158,7 +160,7 @@ IsOnce p before a after dialed =
 pub record IsRenewed (p : Place) (before : Option Line) (a : Asked) (after : Option Line)
     (dialed : List Dialed) : Type 0 where
   pub line : Line
-  pub ending : Ending
+  pub ending : ConnectionLoss
   pub rest : List Dialed
   pub kept : before ≡ Some line
   pub full : 64 ≤ line.made
@@ -167,10 +169,10 @@ pub record IsRenewed (p : Place) (before : Option Line) (a : Asked) (after : Opt
 
 -- the request was made over the connection that was kept, which was cut off and ended
 pub record IsCut (p : Place) (l : Line) (request : Frame) (dialed : List Dialed) : Type 0 where
-  pub result : Result What ClientFault
+  pub result : Result FrameBody ClientFault
   pub sides : Sides
   pub made : ℕ
-  pub ending : Ending
+  pub ending : ConnectionLoss
   pub front : List Dialed
   pub begins : Begins p (Some l) sides made front
   pub exchanges : Exchanges result request sides
@@ -227,7 +229,7 @@ closed dialed = record { dialed = dialed; line = None }
 -- the connection that was kept was ended, where there was one
 abbrev pub IsLetGo : Option Line → List Dialed → Type 0
 IsLetGo None dialed = dialed ≡ []
-IsLetGo (Some l) dialed = (ending : Ending) × (dialed ≡ Ended l.left l.new ending ∷ [])
+IsLetGo (Some l) dialed = (ending : ConnectionLoss) × (dialed ≡ Ended l.left l.new ending ∷ [])
 
 pub record LetsGo (old : Standing) (new : Option (List Dialed)) : Type 0 where
   pub dialed : List Dialed

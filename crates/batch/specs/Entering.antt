@@ -9,8 +9,8 @@ use Rattle.lines.specs.command_file.Commands.{Numbered}
 use Rattle.lines.specs.Bytes.{AppendsPart}
 use Rattle.texts.specs.declared.answer.Answer.{Answer}
 use Rattle.texts.specs.declared.answer.Answer.TheVariants as said
-use Rattle.wire.specs.declared.frame.What.{What}
-use Rattle.wire.specs.declared.frame.What.TheVariants as what
+use Rattle.wire.specs.declared.frame.FrameBody.{FrameBody}
+use Rattle.wire.specs.declared.frame.FrameBody.TheVariants as what
 use Rattle.wire.specs.declared.values.ClientRefusal.TheVariants.{Busy}
 use Rattle.wire.specs.declared.values.CommandState.TheVariants.{Done}
 use Rattle.batch.specs.Asking.{Adds, AreAllTries, AreAllWaits, AreKnown, AreOf, Asked, IsAnswer}
@@ -20,7 +20,8 @@ use Rattle.batch.specs.Asking.{IsUnknown, IsWaiting, Told, ask_of, submit_of, ti
 use Rattle.batch.specs.Confirming.{IsAnother, IsConfirmed, IsDecidedAt, IsEntryAt, IsUnconfirmed}
 use Rattle.batch.specs.Confirming.{entry_of}
 use Rattle.batch.specs.Dialing.{AsksBy, GoesBy, Way}
-use Rattle.batch.specs.Watching.{Begins, Notice, Telling, Tells, Watched, line_notices, notices_by}
+use Rattle.batch.specs.Watching.{Begins, Notice, Telling, Tells, Watched, line_notices}
+use Rattle.batch.specs.Watching.{notices_by, notices_of}
 use Rattle.batch.specs.declared.asking.Receiver.{Receiver}
 use Rattle.batch.specs.declared.fault.BatchFault.{BatchFault}
 use Rattle.batch.specs.declared.fault.BatchFault.TheVariants as fault
@@ -32,25 +33,26 @@ texts_of commands = map (λ c. c.text) commands
 
 -- the desk has reported the command to be in its log, and the entry there to be this id and this
 -- text
-abbrev pub IsOwn : Receiver → ℕ → List ℕ → What → Type 0
+abbrev pub IsOwn : Receiver → ℕ → List ℕ → FrameBody → Type 0
 IsOwn r id text last =
-    (pos : ℕ) × IsDecidedAt pos last × (answer : What) × IsEntryAt r pos (entry_of id text) answer
+    (pos : ℕ) × IsDecidedAt pos last × (answer : FrameBody)
+    × IsEntryAt r pos (entry_of id text) answer
 
 -- what is answered at last, where a command is waited for, and where it is not
-abbrev pub IsLast : Bool → Receiver → ℕ → List ℕ → What → What → Type 0
+abbrev pub IsLast : Bool → Receiver → ℕ → List ℕ → FrameBody → FrameBody → Type 0
 IsLast true r id text taken last =
     IsAnswer (ask_of r id) last × IsDecided last × IsOwn r id text last
 IsLast false r id text taken last = last ≡ taken
 
 -- the text was entered with the id, and this was answered at last
-abbrev pub IsEntered : Bool → Receiver → ℕ → List ℕ → What → Type 0
+abbrev pub IsEntered : Bool → Receiver → ℕ → List ℕ → FrameBody → Type 0
 IsEntered waits r id text last =
-    (taken : What) × IsAnswer (submit_of r id text) taken × IsLast waits r id text taken last
+    (taken : FrameBody) × IsAnswer (submit_of r id text) taken × IsLast waits r id text taken last
 
 -- this is printed of a line that has this id
 abbrev pub IsSaid : Batch → ℕ → List ℕ → List ℕ → Type 0
 IsSaid b id line said =
-    (last : What) × IsEntered b.waits b.receiver id line last × (said ≡ reply_text last)
+    (last : FrameBody) × IsEntered b.waits b.receiver id line last × (said ≡ reply_text last)
 
 -- this is printed of lines, of which the first has this id, and each further one the next
 abbrev pub Says : Batch → ℕ → List (List ℕ) → List ℕ → Type 0
@@ -79,7 +81,7 @@ pub record EntersSome (b : Batch) (lines : List (List ℕ)) (old new : Option (L
 -- ---- refusals
 
 -- how a command was answered, where that is known
-abbrev pub told_answer : What → Option Answer
+abbrev pub told_answer : FrameBody → Option Answer
 told_answer (what.Told id (Done pos answer)) = Some answer
 told_answer _ = None
 
@@ -91,7 +93,7 @@ is_refused _ = false
 abbrev pub ends_after : Batch → Option Answer → Bool
 ends_after b answer = b.stops_at_refusal && is_refused answer
 
-abbrev pub ends_run : Batch → What → Bool
+abbrev pub ends_run : Batch → FrameBody → Bool
 ends_run b last = ends_after b (told_answer last)
 
 -- ---- why entering ended
@@ -103,14 +105,14 @@ abbrev pub Hinders : BatchFault → Bool → Receiver → ℕ → List ℕ → T
 Hinders fault.TextTooLong waits r id text = ¬ IsText text
 Hinders fault.NoMoreIds waits r id text = ¬ IsId id
 Hinders fault.Lost waits r id text =
-    (waits ≡ true) × (taken : What) × IsAnswer (submit_of r id text) taken
-    × (told : What) × IsAnswer (ask_of r id) told × IsUnknown told
+    (waits ≡ true) × (taken : FrameBody) × IsAnswer (submit_of r id text) taken
+    × (told : FrameBody) × IsAnswer (ask_of r id) told × IsUnknown told
 Hinders fault.StillPending waits r id text =
-    (waits ≡ true) × (taken : What) × IsAnswer (submit_of r id text) taken
-    × (told : What) × IsAnswer (ask_of r id) told × IsPending told
+    (waits ≡ true) × (taken : FrameBody) × IsAnswer (submit_of r id text) taken
+    × (told : FrameBody) × IsAnswer (ask_of r id) told × IsPending told
 Hinders fault.AnotherCommand waits r id text =
-    (waits ≡ true) × (taken : What) × IsAnswer (submit_of r id text) taken
-    × (told : What) × IsAnswer (ask_of r id) told
+    (waits ≡ true) × (taken : FrameBody) × IsAnswer (submit_of r id text) taken
+    × (told : FrameBody) × IsAnswer (ask_of r id) told
     × IsAnother fault.AnotherCommand r id text told
 Hinders fault.NoMemory waits r id text = Unit {0}
 Hinders _ waits r id text = ⊥
@@ -123,7 +125,7 @@ IsOfPrinting f = (f ≡ fault.Write) ⊎ (f ≡ fault.NoMemory)
 abbrev pub IsAtRefusal : BatchFault → Batch → ℕ → List ℕ → List ℕ → Type 0
 IsAtRefusal f b id line said =
     (f ≡ fault.AtRefusal)
-    × (last : What) × IsEntered b.waits b.receiver id line last × (said ≡ reply_text last)
+    × (last : FrameBody) × IsEntered b.waits b.receiver id line last × (said ≡ reply_text last)
     × (ends_run b last ≡ true)
 
 -- The line was not entered with the id, since a request failed or it could not be, and nothing is
@@ -151,9 +153,9 @@ pub record StopsBy (Fails : BatchFault → Type 0) (f : BatchFault) (b : Batch)
 
 -- These requests entered the text with the id, and where it is waited for, they waited until it was
 -- decided, and the last one told that the entry at its position is this id and this text.
-abbrev pub EnteredBy : Bool → Receiver → ℕ → List ℕ → What → List Asked → Type 0
+abbrev pub EnteredBy : Bool → Receiver → ℕ → List ℕ → FrameBody → List Asked → Type 0
 EnteredBy true r id text last asked =
-    (taken : What) × (first rest log : List Asked) × IsTaken r id text taken first
+    (taken : FrameBody) × (first rest log : List Asked) × IsTaken r id text taken first
     × IsAwaited r id last rest × IsConfirmed r id text last log
     × (asked ≡ (first ++ rest) ++ log)
 EnteredBy false r id text last asked = IsTaken r id text last asked
@@ -164,7 +166,7 @@ EnteredBy false r id text last asked = IsTaken r id text last asked
 abbrev pub SaidBy : Batch → ℕ → List (List ℕ) → List ℕ → List Asked → List Notice → Type 0
 SaidBy b id [] said asked told = (said ≡ []) × (asked ≡ []) × (told ≡ [])
 SaidBy b id (line ∷ lines) said asked told =
-    (last : What) × (more : List ℕ) × (first rest : List Asked) × (later : List Notice)
+    (last : FrameBody) × (more : List ℕ) × (first rest : List Asked) × (later : List Notice)
     × EnteredBy b.waits b.receiver id line last first × (ends_run b last ≡ false)
     × SaidBy b (id + 1) lines more rest later
     × (said ≡ reply_text last ++ more) × (asked ≡ first ++ rest)
@@ -182,14 +184,14 @@ IsCutOff f r id text asked =
 -- isn't decided
 abbrev pub IsGivenUp : Receiver → ℕ → List ℕ → List Asked → Type 0
 IsGivenUp r id text asked =
-    (taken : What) × (first rest : List Asked) × IsTaken r id text taken first
+    (taken : FrameBody) × (first rest : List Asked) × IsTaken r id text taken first
     × AreAllWaits (IsWaiting (ask_of r id)) r rest × (asked ≡ first ++ rest)
 
 -- the text was entered, and after that the desk was asked for the id until it answered that it
 -- knows nothing of it
 abbrev pub IsLost : Receiver → ℕ → List ℕ → List Asked → Type 0
 IsLost r id text asked =
-    (taken : What) × (first rest : List Asked) × IsTaken r id text taken first
+    (taken : FrameBody) × (first rest : List Asked) × IsTaken r id text taken first
     × IsForgotten r id rest × (asked ≡ first ++ rest)
 
 -- the faults that are not said to come of the requests that were made
@@ -208,7 +210,7 @@ IsOther _ = Unit {0}
 -- the text was entered and awaited, and after that its entry was not seen in the log
 abbrev pub IsNotSeen : BatchFault → Receiver → ℕ → List ℕ → List Asked → Type 0
 IsNotSeen f r id text asked =
-    (taken last : What) × (first rest log : List Asked) × IsTaken r id text taken first
+    (taken last : FrameBody) × (first rest log : List Asked) × IsTaken r id text taken first
     × IsAwaited r id last rest × IsUnconfirmed f r id text last log
     × (asked ≡ (first ++ rest) ++ log)
 
@@ -229,6 +231,17 @@ StopsAsking f r id text asked =
     × ((AreKnown r id asked × EndsAsking f r id text asked)
     ⊎ ((f ≡ fault.Lost) × IsLost r id text asked))
 
+-- the text was entered with the id by these requests, answered so at last, and the observer hears
+-- so
+abbrev pub Enters : Bool → Receiver → ℕ → List ℕ → FrameBody → Way → Watched → Type 0
+Enters waits r id text last w v =
+    AsksBy w (Telling v notices_of (EnteredBy waits r id text last))
+
+-- it was not, by this fault
+abbrev pub StopsEntering : BatchFault → Receiver → ℕ → List ℕ → Way → Watched → Type 0
+StopsEntering f r id text w v =
+    AsksBy w (Telling v (notices_by f) (StopsAsking f r id text))
+
 -- What the observer hears of the line at which entering ends, with this id and these requests:
 -- nothing, where there is no such number of 64 bits; else that it begins, and what is told of its
 -- requests; and where it is the refused line at which the run ends, how it was answered.
@@ -237,7 +250,8 @@ TellsStop f b id line asked told =
     ((2 ^ 64 ≤ id) × (told ≡ []))
     ⊎ (((f ≢ fault.AtRefusal) × (told ≡ Begins id line ∷ notices_by f asked))
     ⊎ ((f ≡ fault.AtRefusal)
-    × (last : What) × EnteredBy b.waits b.receiver id line last asked × (ends_run b last ≡ true)
+    × (last : FrameBody) × EnteredBy b.waits b.receiver id line last asked
+    × (ends_run b last ≡ true)
     × (told ≡ line_notices id line asked (told_answer last))))
 
 -- so asking for the line stopped, and so the observer hears
@@ -246,17 +260,27 @@ StopsTelling v f b id line asked =
     StopsAsking f b.receiver id line asked
     × (told : List Notice) × Tells v told × TellsStop f b id line asked told
 
+-- so it stopped for line n of a batch, counted from 0
+abbrev pub StopsAt : BatchFault → Batch → ℕ → List ℕ → Way → Watched → Type 0
+StopsAt f b n line w v = AsksBy w (StopsTelling v f b (b.first_id + n) line)
+
 -- line n, counted from 0, was entered by the requests that were made, its last answer is printed,
 -- the observer heard of it, and it does not end the run
 pub record EntersLine (b : Batch) (n : ℕ) (line : List ℕ) (w : Way) (v : Watched)
     (old new : Option (List ℕ)) : Type 0 where
-  pub last : What
+  pub last : FrameBody
   pub entered : IsEntered b.waits b.receiver (b.first_id + n) line last
   pub asked : AsksBy w (Telling v
       (λ asked. line_notices (b.first_id + n) line asked (told_answer last))
       (EnteredBy b.waits b.receiver (b.first_id + n) line last))
   pub goes_on : ends_run b last ≡ false
   pub written : Appends old new (reply_text last)
+
+-- so it was of a command, by what is told of a writer
+abbrev pub EntersOne : {A : Type 0} → Batch → ℕ → Numbered → (A → Option (List ℕ))
+    → (writer writer_after : A) → Way → Watched → Type 0
+EntersOne b n command contents writer writer_after w v =
+    EntersLine b n command.text w v (contents writer) (contents writer_after)
 
 -- the line was not entered with the id, or not told, and of what is printed of it a front part may
 -- be written; or it was refused, where the run ends at that
@@ -308,3 +332,14 @@ abbrev pub AsksSome : (BatchFault → Type 0) → BatchFault → Batch → List 
     → (old new : Option (List ℕ)) → Type 0
 AsksSome Fails f b lines t v old new =
     AsksFront (Adds t.place t.old t.new) v Fails f b lines old new
+
+-- so it was of commands, by what is told of a writer
+abbrev pub EntersBy : {A : Type 0} → Result (Unit {0}) BatchFault → Batch → List Numbered
+    → (A → Option (List ℕ)) → (writer writer_after : A) → Way → Watched → Type 0
+EntersBy result b commands contents writer writer_after w v =
+    AsksTo result b (texts_of commands) w v (contents writer) (contents writer_after)
+
+-- a front part of the commands was entered, and asking for the next one failed
+abbrev pub AsksUpTo : BatchFault → Batch → List Numbered → Told → Watched
+    → (old new : Option (List ℕ)) → Type 0
+AsksUpTo f b commands t v old new = AsksSome IsOfAsking f b (texts_of commands) t v old new

@@ -3,8 +3,8 @@ use Rattle.std.specs.Prelude.{◌≡◌, ◌⊎◌, ◌+◌, ◌<◌, ◌≤◌,
 use Rattle.std.specs.Prelude.{Ok, Err}
 use Rattle.acceptor.specs.declared.entry.Entry.{Entry}
 use Rattle.client.specs.declared.fault.ClientFault.TheVariants.{NoAnswer}
-use Rattle.wire.specs.declared.frame.What.{What}
-use Rattle.wire.specs.declared.frame.What.TheVariants as what
+use Rattle.wire.specs.declared.frame.FrameBody.{FrameBody}
+use Rattle.wire.specs.declared.frame.FrameBody.TheVariants as what
 use Rattle.batch.specs.Asking.{IsAnswer}
 pub use Rattle.batch.specs.Asking.{log_of}
 use Rattle.batch.specs.Dialing.{Adds, Asked, Told, asked_so}
@@ -15,7 +15,8 @@ use Rattle.batch.specs.declared.fault.BatchFault.TheVariants as fault
 -- The answer has these entries of a log of this length, from the position on. The log has not
 -- become shorter than it was reported to be, the entries end within it, and there is one, unless
 -- the log ends at the position.
-pub record IsPart (position least len : ℕ) (entries : List Entry) (answer : What) : Type 0 where
+pub record IsPart (position least len : ℕ) (entries : List Entry)
+    (answer : FrameBody) : Type 0 where
   pub has : answer ≡ what.Entries position len entries
   pub grows : least ≤ len
   pub within : position + length entries ≤ len
@@ -24,7 +25,7 @@ pub record IsPart (position least len : ℕ) (entries : List Entry) (answer : Wh
 -- the request for the log from the position on was answered by a part
 pub record IsPartBy (r : Receiver) (position least len : ℕ) (entries : List Entry) (a : Asked)
     : Type 0 where
-  pub answer : What
+  pub answer : FrameBody
   pub request : a.request ≡ log_of r position
   pub answered : a.answer ≡ Ok answer
   pub comes : IsAnswer (log_of r position) answer
@@ -54,7 +55,7 @@ pub record TellsLog (r : Receiver) (log : List Entry) (asked : List Asked) : Typ
   pub come : HaveCome r asked log (length log)
 
 -- there is no answer, or it is no part of a log that only grows, or memory ran out
-abbrev pub IsNoPart : BatchFault → (position told : ℕ) → Result What BatchFault → Type 0
+abbrev pub IsNoPart : BatchFault → (position told : ℕ) → Result FrameBody BatchFault → Type 0
 IsNoPart f position told (Err e) = f ≡ e
 IsNoPart f position told (Ok answer) =
     ((f ≡ fault.Asking NoAnswer)
@@ -67,7 +68,7 @@ pub record StopsTelling (f : BatchFault) (r : Receiver) (asked : List Asked) : T
   pub front : List Asked
   pub log : List Entry
   pub told : ℕ
-  pub last : Result What BatchFault
+  pub last : Result FrameBody BatchFault
   pub parts : asked ≡ front ++ asked_so (log_of r (length log)) last ∷ []
   pub come : HaveCome r front log told
   pub goes_on : (front ≡ []) ⊎ (length log < told)

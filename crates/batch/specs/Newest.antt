@@ -4,9 +4,9 @@ use Rattle.std.specs.Prelude.{◌≡◌, ◌⊎◌, ◌∷◌, [], ℕ, List, Op
 use Rattle.client.specs.Standings.{status_request}
 use Rattle.client.specs.Versions.{sheet_version}
 use Rattle.wire.specs.declared.frame.Frame.{Frame}
-use Rattle.wire.specs.declared.frame.What.{What}
-use Rattle.wire.specs.declared.frame.What.TheVariants as what
-use Rattle.wire.specs.declared.standing.Standing.{Standing}
+use Rattle.wire.specs.declared.frame.FrameBody.{FrameBody}
+use Rattle.wire.specs.declared.frame.FrameBody.TheVariants as what
+use Rattle.wire.specs.declared.standing.DeskStatus.{DeskStatus}
 use Rattle.batch.specs.Asking.{IsAnswer}
 use Rattle.batch.specs.Dialing.{Asked, asked_so}
 use Rattle.batch.specs.declared.asking.Receiver.{Receiver}
@@ -29,19 +29,19 @@ sheet_at r s position =
     }
 
 -- how a desk is, where an answer says it
-abbrev pub standing_said : What → Option Standing
+abbrev pub standing_said : FrameBody → Option DeskStatus
 standing_said (what.Standing standing) = Some standing
 standing_said _ = None
 
 -- the desk said that it is so
-abbrev pub said : Receiver → Standing → Asked
+abbrev pub said : Receiver → DeskStatus → Asked
 said r standing = asked_so (standing_asked r) (Ok (what.Standing standing))
 
 -- The desk was asked how it is, and then for the sheet at the length that it said. This is its
 -- answer to that.
-pub record GivesNewest (r : Receiver) (s : RoundSheet) (answer : What) (asked : List Asked)
+pub record GivesNewest (r : Receiver) (s : RoundSheet) (answer : FrameBody) (asked : List Asked)
     : Type 0 where
-  pub standing : Standing
+  pub standing : DeskStatus
   pub stands : IsAnswer (standing_asked r) (what.Standing standing)
   pub answers : IsAnswer (sheet_at r s standing.length) answer
   pub both : asked ≡ said r standing ∷ asked_so (sheet_at r s standing.length) (Ok answer) ∷ []
@@ -53,7 +53,7 @@ FailsFirst f r asked = asked ≡ asked_so (standing_asked r) (Err f) ∷ []
 -- the first one was answered, and the second one failed
 pub record FailsSecond (f : BatchFault) (r : Receiver) (s : RoundSheet) (asked : List Asked)
     : Type 0 where
-  pub standing : Standing
+  pub standing : DeskStatus
   pub stands : IsAnswer (standing_asked r) (what.Standing standing)
   pub both : asked ≡ said r standing ∷ asked_so (sheet_at r s standing.length) (Err f) ∷ []
 

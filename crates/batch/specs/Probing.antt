@@ -3,13 +3,13 @@ use Rattle.std.specs.Prelude.{◌≡◌, ◌⊎◌, ◌≤◌, ◌∷◌, [], �
 use Rattle.client.specs.Standings.{await_request}
 use Rattle.client.specs.declared.fault.ClientFault.TheVariants.{Refused}
 use Rattle.wire.specs.Ranges.{IsDesk}
-use Rattle.wire.specs.declared.frame.What.{What}
+use Rattle.wire.specs.declared.frame.FrameBody.{FrameBody}
 use Rattle.batch.specs.Dialing.{Adds, Told, asked_so}
 use Rattle.batch.specs.declared.fault.BatchFault.{BatchFault}
 use Rattle.batch.specs.declared.fault.BatchFault.TheVariants.{Asking}
 
 -- a desk knows a request that it answers or refuses
-abbrev pub is_known : Result What BatchFault → Bool
+abbrev pub is_known : Result FrameBody BatchFault → Bool
 is_known (Ok answer) = true
 is_known (Err (Asking (Refused why))) = true
 is_known (Err _) = false
@@ -22,7 +22,7 @@ MayAwait desk patience = IsDesk desk × (4 ≤ patience)
 -- of the id 1, and for no second: whether it knew that. Else it was not asked.
 abbrev pub KnowsAwait : Told → (hall desk : ℕ) → Bool → Type 0
 KnowsAwait t hall desk knows =
-    (MayAwait desk t.place.patience × (came : Result What BatchFault)
+    (MayAwait desk t.place.patience × (came : Result FrameBody BatchFault)
     × Adds t.place t.old t.new (asked_so (await_request hall desk 1 0) came ∷ [])
     × (knows ≡ is_known came))
     ⊎ ((¬ MayAwait desk t.place.patience) × (t.old ≡ t.new) × (knows ≡ false))

@@ -5,8 +5,8 @@ use Rattle.std.specs.List.{range_with_len}
 use Rattle.acceptor.specs.declared.entry.Entry.{Entry}
 use Rattle.client.specs.declared.fault.ClientFault.TheVariants.{Refused}
 use Rattle.texts.specs.declared.answer.Answer.{Answer}
-use Rattle.wire.specs.declared.frame.What.{What}
-use Rattle.wire.specs.declared.frame.What.TheVariants as what
+use Rattle.wire.specs.declared.frame.FrameBody.{FrameBody}
+use Rattle.wire.specs.declared.frame.FrameBody.TheVariants as what
 use Rattle.wire.specs.declared.values.ClientRefusal.TheVariants.{Busy}
 use Rattle.wire.specs.declared.values.CommandState.TheVariants.{Done, Unknown}
 use Rattle.batch.specs.Dialing.{Asked, Grows}
@@ -38,17 +38,17 @@ Tells w more = Grows w.old w.new more
 -- ---- what it is told of requests
 
 -- how many tries to enter a text a request was that found the desk's queue full: one or none
-abbrev pub full_in : What → Result What BatchFault → ℕ
+abbrev pub full_in : FrameBody → Result FrameBody BatchFault → ℕ
 full_in (what.Submit entry) (Err (fault.Asking (Refused Busy))) = 1
 full_in _ _ = 0
 
 -- it is a question for an id
-abbrev pub asks_for : What → Bool
+abbrev pub asks_for : FrameBody → Bool
 asks_for (what.Ask id) = true
 asks_for (what.Await id seconds) = true
 asks_for _ = false
 
-abbrev pub undecided_in : Result What BatchFault → ℕ
+abbrev pub undecided_in : Result FrameBody BatchFault → ℕ
 undecided_in (Ok (what.Told other (Done pos said))) = 0
 undecided_in (Ok (what.Told other Unknown)) = 0
 undecided_in (Ok _) = 1
@@ -56,11 +56,11 @@ undecided_in (Err f) = 0
 
 -- how many questions for an id it was to which the desk answered neither that the command is
 -- decided nor that it knows nothing of it: one or none
-abbrev pub pending_in : What → Result What BatchFault → ℕ
+abbrev pub pending_in : FrameBody → Result FrameBody BatchFault → ℕ
 pending_in w answer = if asks_for w then undecided_in answer else 0
 
 -- the entry that is first in the answer to a request for the log
-abbrev pub entry_in : What → Result What BatchFault → List Notice
+abbrev pub entry_in : FrameBody → Result FrameBody BatchFault → List Notice
 entry_in (what.Log position) (Ok (what.Entries from len (entry ∷ more))) = Another entry ∷ []
 entry_in _ _ = []
 

@@ -5,7 +5,7 @@ ghost use Rattle.batch.specs.Asking.{ask_of, request_to, version_for};
 ghost use Rattle.wire.specs.Ranges.{IsDesk, IsFrame, IsId};
 
 use client::await_request;
-use wire::{Frame, Version, What};
+use wire::{Frame, FrameBody, Version};
 
 /// A desk that commands are entered at.
 #[derive(Clone, Copy, Debug)]
@@ -21,12 +21,12 @@ pub struct Receiver {
 /// The version of the wire in which a request is made: 4 for what became of a command, since it
 /// tells each code; 5 for entering one, where the desk knows it, since it tells each refusal; and
 /// else 1.
-fn version_for(receiver: Receiver, what: &What) -> Version
+fn version_for(receiver: Receiver, what: &FrameBody) -> Version
     ensures { result ≡ version_for receiver what.now }
 {
     match what {
-        What::Ask { .. } => Version::Four,
-        What::Submit { .. } => {
+        FrameBody::Ask { .. } => Version::Four,
+        FrameBody::Submit { .. } => {
             if receiver.awaits {
                 Version::Five
             } else {
@@ -38,7 +38,7 @@ fn version_for(receiver: Receiver, what: &What) -> Version
 }
 
 /// The request of a client, which is 0, to a desk.
-pub(crate) fn request_to(receiver: Receiver, what: What) -> Frame
+pub(crate) fn request_to(receiver: Receiver, what: FrameBody) -> Frame
     ensures { result ≡ request_to receiver what }
 {
     Frame {
@@ -62,6 +62,6 @@ pub(crate) fn question_of(receiver: Receiver, id: u64) -> Frame
     if receiver.awaits {
         await_request(receiver.hall, receiver.desk, id, SECONDS)
     } else {
-        request_to(receiver, What::Ask { id })
+        request_to(receiver, FrameBody::Ask { id })
     }
 }

@@ -15,7 +15,7 @@ use crate::fault::BatchFault;
 use crate::keeping::let_go;
 use crate::watching::Watch;
 use std::alloc::Global;
-use wire::What;
+use wire::FrameBody;
 
 /// Enters a text with an id at a desk, and gives the last answer: that it was taken, or, where it
 /// is waited for, what it was answered at which position of the log. It is reported decided only
@@ -35,7 +35,7 @@ pub fn enter_command<D: Dial, V: Watch>(
     id: u64,
     text: &[u8],
     watch: &mut V,
-) -> Result<What, BatchFault>
+) -> Result<FrameBody, BatchFault>
     requires { IsDesk receiver.desk }
     ensures ok { IfOk result (λ last. IsEntered waits receiver id text.now last) }
     ensures asked { IfOk result (λ last. AddsSo (told contact.entry D.dialed dial.old dial.new)

@@ -4,31 +4,29 @@ ghost use Rattle.std.specs.Prelude.{◌≡◌, ◌≢◌, ◌⊎◌, ◌≤◌, 
 ghost use Rattle.std.specs.Prelude.{false};
 ghost use Rattle.wire.specs.Ranges.{IsDesk};
 ghost use Rattle.batch.specs.Asking.{IsAnswer, IsDecided, IsOfAsking, ask_of};
-ghost use Rattle.batch.specs.Confirming.{HasFirst, IsAnother, IsConfirmed, IsDecidedAt};
-ghost use Rattle.batch.specs.Confirming.{IsUnconfirmed, entry_of};
-ghost use Rattle.batch.specs.Dialing.{AsksBy};
+ghost use Rattle.batch.specs.Confirming.{Confirms, Doubts, HasFirst, IsAnother, IsDecidedAt};
+ghost use Rattle.batch.specs.Confirming.{entry_of};
 ghost use Rattle.batch.specs.declared.asking.Receiver.{Receiver as Desk};
-ghost use Rattle.batch.specs.Watching.{Telling, notices_by, notices_of, watched};
-ghost use Rattle.batch.specs.model.Keeping.{way_of};
+ghost use Rattle.batch.specs.model.Keeping.{InCall};
 
 use crate::asking::Receiver;
 use crate::dialing::{Contact, Dial};
 use crate::fault::BatchFault;
-use crate::keeping::{Held, ask};
+use crate::keeping::{HeldConnection, ask};
 use crate::watching::Watch;
 use acceptor::entry::Entry;
 use client::{ClientFault, log_request};
 use std::alloc::Global;
-use wire::{CommandState, What};
+use wire::{CommandState, FrameBody};
 
 /// The position at which a command is reported to be.
-fn position_of(told: &What) -> u32
+fn position_of(told: &FrameBody) -> u32
     requires { IsDecided told.now }
     ensures at { IsDecidedAt result told.now }
     ensures short { (r : Desk) → (id : ℕ) → IsAnswer (ask_of r id) told.now → result ≤ 65535 }
 {
     match told {
-        What::Told {
+        FrameBody::Told {
             state: CommandState::Done { pos, .. },
             ..
         } => *pos,
@@ -37,12 +35,12 @@ fn position_of(told: &What) -> u32
 }
 
 /// The first of the entries of an answer.
-fn first_of(answer: &What) -> Option<&Entry>
+fn first_of(answer: &FrameBody) -> Option<&Entry>
     ensures some { IfSome result (λ entry. HasFirst answer.now entry.now) }
     ensures none { IfNone result ((entry : _) → ¬ HasFirst answer.now entry) }
 {
     match answer {
-        What::Entries { entries, .. } => entries.as_slice().first(),
+        FrameBody::Entries { entries, .. } => entries.as_slice().first(),
         _ => None,
     }
 }
@@ -65,25 +63,23 @@ fn is_this(entry: &Entry, id: u64, text: &[u8]) -> bool
 pub(crate) fn confirm<D: Dial, V: Watch>(
     alloc: Global,
     dial: &mut D,
-    held: &mut Option<Held<D::Reader, D::Writer>>,
+    held: &mut Option<HeldConnection<D::Reader, D::Writer>>,
     contact: Contact<'_>,
     receiver: Receiver,
     watch: &mut V,
     id: u64,
     text: &[u8],
-    told: &What,
+    told: &FrameBody,
 ) -> Result<(), BatchFault>
     requires desk { IsDesk receiver.desk }
     requires answer { IsAnswer (ask_of receiver id) told.now }
     requires decided { IsDecided told.now }
-    ensures ok { OnOk result (AsksBy (way_of D.dialed D.Reader.remaining D.Writer.contents
-        contact.entry dial.old dial.new held.old held.new)
-        (Telling (watched V.heard watch.old watch.new) notices_of
-        (IsConfirmed receiver id text.now told.now))) }
-    ensures err { IfErr result (λ f. AsksBy (way_of D.dialed D.Reader.remaining D.Writer.contents
-        contact.entry dial.old dial.new held.old held.new)
-        (Telling (watched V.heard watch.old watch.new) (notices_by f)
-        (IsUnconfirmed f receiver id text.now told.now))) }
+    ensures ok { OnOk result (InCall D.dialed D.Reader.remaining D.Writer.contents V.heard
+        contact.entry dial.old dial.new held.old held.new watch.old watch.new
+        (Confirms receiver id text.now told.now)) }
+    ensures err { IfErr result (λ f. InCall D.dialed D.Reader.remaining D.Writer.contents V.heard
+        contact.entry dial.old dial.new held.old held.new watch.old watch.new
+        (Doubts f receiver id text.now told.now)) }
     ensures cause { IfErr result (λ f. IsOfAsking f ⊎ IsAnother f receiver id text.now told.now) }
 {
     let position = position_of(told);

@@ -20,7 +20,7 @@ pub struct Contact<'a> {
 
 /// What is known of the end of a connection.
 #[derive(Clone, Copy, Debug, PartialEq, Eq)]
-pub enum Ending {
+pub enum ConnectionLoss {
     /// The desk was waited for as long as its contact says, and there is no answer.
     Late,
     /// The desk ended it, and no byte of the answer had come.
@@ -61,7 +61,7 @@ pub trait Dial {
         ensures same { Self.Reader.remaining reader.new ≡ Self.Reader.remaining reader.old };
 
     /// Ends a connection, and gives what is known of its end.
-    fn hang_up(&mut self, reader: Self::Reader, writer: Self::Writer) -> Ending
+    fn hang_up(&mut self, reader: Self::Reader, writer: Self::Writer) -> ConnectionLoss
         ensures { Dials (dialed self.old) (dialed self.new)
             (Ended (Self.Reader.remaining reader) (Self.Writer.contents writer) result ∷ []) };
 

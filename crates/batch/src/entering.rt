@@ -3,28 +3,27 @@
 ghost use Rattle.std.specs.Prelude.{◌≡◌, ◌≢◌, ◌⊎◌, ◌∷◌, [], Bool, Err, false, true, IfErr, IfOk};
 ghost use Rattle.std.specs.Prelude.{OnOk, IsTrue};
 ghost use Rattle.wire.specs.Ranges.{IsDesk, IsEntry, IsFrame, IsId};
-ghost use Rattle.batch.specs.Asking.{IsAnswer, IsAwaited, IsDecided, IsOfAsking};
-ghost use Rattle.batch.specs.Asking.{IsPending, IsTaken, IsTakenOf, IsUnknown, ask_of, asked_so};
-ghost use Rattle.batch.specs.Asking.{submit_of, tick_of};
+ghost use Rattle.batch.specs.Asking.{IsAnswer, IsDecided, IsOfAsking, IsPending, IsUnknown, ask_of};
+ghost use Rattle.batch.specs.Asking.{asked_so, submit_of, tick_of};
 ghost use Rattle.batch.specs.Dialing.{AsksBy, GoesBy};
-ghost use Rattle.batch.specs.model.Keeping.{way_of};
-ghost use Rattle.batch.specs.Entering.{EnteredBy, Hinders, IsEntered, IsOther, StopsAsking};
+ghost use Rattle.batch.specs.model.Keeping.{InCall, way_of};
+ghost use Rattle.batch.specs.Entering.{Enters, Hinders, IsEntered, IsOther, StopsEntering};
 ghost use Rattle.batch.specs.declared.asking.Receiver.{Receiver as Desk};
-ghost use Rattle.batch.specs.model.Trying.{AreTicked, AreTicks, EndsWaiting, IsTurnedOff};
-ghost use Rattle.batch.specs.model.Trying.{IsUndecided, StopsTaking, TellsTries};
-ghost use Rattle.batch.specs.Watching.{Telling, Tells, Waits, notices_by, notices_of, watched};
+ghost use Rattle.batch.specs.model.Trying.{AreTicked, AreTicks, Decides, IsUndecided, RefusesText};
+ghost use Rattle.batch.specs.model.Trying.{StopsWaiting, TakesFrame, TakesText, TurnsOff};
+ghost use Rattle.batch.specs.Watching.{Tells, Waits, watched};
 ghost use Rattle.batch.specs.declared.entering.Fate.TheVariants as fate;
 
 use crate::asking::{Receiver, question_of, request_to};
 use crate::confirming::confirm;
 use crate::dialing::{Contact, Dial};
 use crate::fault::BatchFault;
-use crate::keeping::{Held, ask};
+use crate::keeping::{HeldConnection, ask};
 use crate::watching::Watch;
 use acceptor::entry::{Entry, EntryFault};
 use client::ClientFault;
 use std::alloc::Global;
-use wire::{ClientRefusal, CommandState, Frame, What};
+use wire::{ClientRefusal, CommandState, Frame, FrameBody};
 
 /// How many times a desk is asked again whose queue is full, or that has not decided a command.
 const MOST_TRIES: u32 = 10_000;
@@ -43,7 +42,7 @@ const GREATEST: u64 = 9_223_372_036_854_775_807;
 fn rest_behind<D: Dial, V: Watch>(
     alloc: Global,
     dial: &mut D,
-    held: &mut Option<Held<D::Reader, D::Writer>>,
+    held: &mut Option<HeldConnection<D::Reader, D::Writer>>,
     contact: Contact<'_>,
     receiver: Receiver,
     watch: &mut V,
@@ -65,7 +64,7 @@ fn rest_behind<D: Dial, V: Watch>(
     if tries % TRIES_TO_TICK < TRIES_TO_TICK - 1 {
         return Ok(());
     }
-    let tick = request_to(receiver, What::Tick);
+    let tick = request_to(receiver, FrameBody::Tick);
     ask(alloc, dial, held, contact, &tick)?;
     Ok(())
 }
@@ -74,7 +73,7 @@ fn rest_behind<D: Dial, V: Watch>(
 fn tick_behind<D: Dial, V: Watch>(
     alloc: Global,
     dial: &mut D,
-    held: &mut Option<Held<D::Reader, D::Writer>>,
+    held: &mut Option<HeldConnection<D::Reader, D::Writer>>,
     contact: Contact<'_>,
     receiver: Receiver,
     watch: &mut V,
@@ -92,7 +91,7 @@ fn tick_behind<D: Dial, V: Watch>(
     ensures heard { Tells (watched V.heard watch.old watch.new) (Waits waits ∷ []) }
 {
     watch.waits(waits);
-    let only = request_to(receiver, What::Tick);
+    let only = request_to(receiver, FrameBody::Tick);
     ask(alloc, dial, held, contact, &only)?;
     Ok(())
 }
@@ -114,23 +113,21 @@ fn is_busy(fault: BatchFault) -> bool
 fn asked_until_taken<D: Dial, V: Watch>(
     alloc: Global,
     dial: &mut D,
-    held: &mut Option<Held<D::Reader, D::Writer>>,
+    held: &mut Option<HeldConnection<D::Reader, D::Writer>>,
     contact: Contact<'_>,
     receiver: Receiver,
     watch: &mut V,
     submit: &Frame,
-) -> Result<What, BatchFault>
+) -> Result<FrameBody, BatchFault>
     requires desk { IsDesk receiver.desk }
     requires spelled { IsFrame submit.now }
     ensures answer { IfOk result (λ answer. IsAnswer submit.now answer) }
-    ensures ok { IfOk result (λ answer. AsksBy (way_of D.dialed D.Reader.remaining D.Writer.contents
-        contact.entry dial.old dial.new held.old held.new)
-        (λ asked. IsTakenOf receiver submit.now answer asked
-        × TellsTries submit.now (watched V.heard watch.old watch.new) asked)) }
-    ensures err { IfErr result (λ f. AsksBy (way_of D.dialed D.Reader.remaining D.Writer.contents
-        contact.entry dial.old dial.new held.old held.new)
-        (λ asked. IsTurnedOff f receiver submit.now asked
-        × TellsTries submit.now (watched V.heard watch.old watch.new) asked)) }
+    ensures ok { IfOk result (λ answer. InCall D.dialed D.Reader.remaining D.Writer.contents V.heard
+        contact.entry dial.old dial.new held.old held.new watch.old watch.new
+        (TakesFrame receiver submit.now answer)) }
+    ensures err { IfErr result (λ f. InCall D.dialed D.Reader.remaining D.Writer.contents V.heard
+        contact.entry dial.old dial.new held.old held.new watch.old watch.new
+        (TurnsOff f receiver submit.now)) }
     ensures fails { IfErr result IsOfAsking }
 {
     for tries in 0..MOST_TRIES {
@@ -177,28 +174,26 @@ fn entry_of(alloc: Global, id: u64, text: &[u8]) -> Result<Entry, BatchFault>
 fn submitted<D: Dial, V: Watch>(
     alloc: Global,
     dial: &mut D,
-    held: &mut Option<Held<D::Reader, D::Writer>>,
+    held: &mut Option<HeldConnection<D::Reader, D::Writer>>,
     contact: Contact<'_>,
     receiver: Receiver,
     watch: &mut V,
     id: u64,
     text: &[u8],
-) -> Result<What, BatchFault>
+) -> Result<FrameBody, BatchFault>
     requires { IsDesk receiver.desk }
     ensures answer { IfOk result (λ answer. IsAnswer (submit_of receiver id text.now) answer) }
-    ensures ok { IfOk result (λ answer. AsksBy (way_of D.dialed D.Reader.remaining D.Writer.contents
-        contact.entry dial.old dial.new held.old held.new)
-        (Telling (watched V.heard watch.old watch.new) notices_of
-        (IsTaken receiver id text.now answer))) }
-    ensures err { IfErr result (λ f. AsksBy (way_of D.dialed D.Reader.remaining D.Writer.contents
-        contact.entry dial.old dial.new held.old held.new)
-        (Telling (watched V.heard watch.old watch.new) notices_of
-        (StopsTaking f receiver id text.now))) }
+    ensures ok { IfOk result (λ answer. InCall D.dialed D.Reader.remaining D.Writer.contents V.heard
+        contact.entry dial.old dial.new held.old held.new watch.old watch.new
+        (TakesText receiver id text.now answer)) }
+    ensures err { IfErr result (λ f. InCall D.dialed D.Reader.remaining D.Writer.contents V.heard
+        contact.entry dial.old dial.new held.old held.new watch.old watch.new
+        (RefusesText f receiver id text.now)) }
     ensures cause { IfErr result
         (λ f. IsOfAsking f ⊎ ((waits : Bool) (r : Desk) → Hinders f waits r id text.now)) }
 {
     let entry = entry_of(alloc, id, text)?;
-    let submit = request_to(receiver, What::Submit { entry });
+    let submit = request_to(receiver, FrameBody::Submit { entry });
     asked_until_taken(alloc, dial, held, contact, receiver, watch, &submit)
 }
 
@@ -212,13 +207,13 @@ enum Fate {
 
 /// What a desk's answer says of a command: that it is in the log, that the desk knows nothing of
 /// it, or neither.
-fn fate_of(told: &What) -> Fate
+fn fate_of(told: &FrameBody) -> Fate
     ensures decided { result ≡ fate.Decided → IsDecided told.now }
     ensures waits { result ≡ fate.Waits → IsPending told.now }
     ensures unknown { result ≡ fate.Unknown → IsUnknown told.now }
 {
     match told {
-        What::Told { state, .. } => match state {
+        FrameBody::Told { state, .. } => match state {
             CommandState::Pending => Fate::Waits,
             CommandState::Unknown => Fate::Unknown,
             CommandState::Done { .. } => Fate::Decided,
@@ -232,24 +227,22 @@ fn fate_of(told: &What) -> Fate
 fn asked<D: Dial, V: Watch>(
     alloc: Global,
     dial: &mut D,
-    held: &mut Option<Held<D::Reader, D::Writer>>,
+    held: &mut Option<HeldConnection<D::Reader, D::Writer>>,
     contact: Contact<'_>,
     receiver: Receiver,
     watch: &mut V,
     id: u64,
-) -> Result<What, BatchFault>
+) -> Result<FrameBody, BatchFault>
     requires desk { IsDesk receiver.desk }
     requires id { IsId id }
     requires plain { receiver.awaits ≡ false }
     ensures answer { IfOk result (λ told. IsAnswer (ask_of receiver id) told × IsDecided told) }
-    ensures ok { IfOk result (λ told. AsksBy (way_of D.dialed D.Reader.remaining D.Writer.contents
-        contact.entry dial.old dial.new held.old held.new)
-        (Telling (watched V.heard watch.old watch.new) notices_of
-        (IsAwaited receiver id told))) }
-    ensures err { IfErr result (λ f. AsksBy (way_of D.dialed D.Reader.remaining D.Writer.contents
-        contact.entry dial.old dial.new held.old held.new)
-        (Telling (watched V.heard watch.old watch.new) notices_of
-        (EndsWaiting f receiver id))) }
+    ensures ok { IfOk result (λ told. InCall D.dialed D.Reader.remaining D.Writer.contents V.heard
+        contact.entry dial.old dial.new held.old held.new watch.old watch.new
+        (Decides receiver id told)) }
+    ensures err { IfErr result (λ f. InCall D.dialed D.Reader.remaining D.Writer.contents V.heard
+        contact.entry dial.old dial.new held.old held.new watch.old watch.new
+        (StopsWaiting f receiver id)) }
     ensures cause { IfErr result (λ f. IsOfAsking f ⊎ IsUndecided f receiver id) }
 {
     let question = question_of(receiver, id);
@@ -270,24 +263,22 @@ fn asked<D: Dial, V: Watch>(
 fn awaited<D: Dial, V: Watch>(
     alloc: Global,
     dial: &mut D,
-    held: &mut Option<Held<D::Reader, D::Writer>>,
+    held: &mut Option<HeldConnection<D::Reader, D::Writer>>,
     contact: Contact<'_>,
     receiver: Receiver,
     watch: &mut V,
     id: u64,
-) -> Result<What, BatchFault>
+) -> Result<FrameBody, BatchFault>
     requires desk { IsDesk receiver.desk }
     requires id { IsId id }
     requires waits { receiver.awaits ≡ true }
     ensures answer { IfOk result (λ told. IsAnswer (ask_of receiver id) told × IsDecided told) }
-    ensures ok { IfOk result (λ told. AsksBy (way_of D.dialed D.Reader.remaining D.Writer.contents
-        contact.entry dial.old dial.new held.old held.new)
-        (Telling (watched V.heard watch.old watch.new) notices_of
-        (IsAwaited receiver id told))) }
-    ensures err { IfErr result (λ f. AsksBy (way_of D.dialed D.Reader.remaining D.Writer.contents
-        contact.entry dial.old dial.new held.old held.new)
-        (Telling (watched V.heard watch.old watch.new) notices_of
-        (EndsWaiting f receiver id))) }
+    ensures ok { IfOk result (λ told. InCall D.dialed D.Reader.remaining D.Writer.contents V.heard
+        contact.entry dial.old dial.new held.old held.new watch.old watch.new
+        (Decides receiver id told)) }
+    ensures err { IfErr result (λ f. InCall D.dialed D.Reader.remaining D.Writer.contents V.heard
+        contact.entry dial.old dial.new held.old held.new watch.old watch.new
+        (StopsWaiting f receiver id)) }
     ensures cause { IfErr result (λ f. IsOfAsking f ⊎ IsUndecided f receiver id) }
 {
     let question = question_of(receiver, id);
@@ -308,23 +299,21 @@ fn awaited<D: Dial, V: Watch>(
 fn decided<D: Dial, V: Watch>(
     alloc: Global,
     dial: &mut D,
-    held: &mut Option<Held<D::Reader, D::Writer>>,
+    held: &mut Option<HeldConnection<D::Reader, D::Writer>>,
     contact: Contact<'_>,
     receiver: Receiver,
     watch: &mut V,
     id: u64,
-) -> Result<What, BatchFault>
+) -> Result<FrameBody, BatchFault>
     requires desk { IsDesk receiver.desk }
     requires id { IsId id }
     ensures answer { IfOk result (λ told. IsAnswer (ask_of receiver id) told × IsDecided told) }
-    ensures ok { IfOk result (λ told. AsksBy (way_of D.dialed D.Reader.remaining D.Writer.contents
-        contact.entry dial.old dial.new held.old held.new)
-        (Telling (watched V.heard watch.old watch.new) notices_of
-        (IsAwaited receiver id told))) }
-    ensures err { IfErr result (λ f. AsksBy (way_of D.dialed D.Reader.remaining D.Writer.contents
-        contact.entry dial.old dial.new held.old held.new)
-        (Telling (watched V.heard watch.old watch.new) notices_of
-        (EndsWaiting f receiver id))) }
+    ensures ok { IfOk result (λ told. InCall D.dialed D.Reader.remaining D.Writer.contents V.heard
+        contact.entry dial.old dial.new held.old held.new watch.old watch.new
+        (Decides receiver id told)) }
+    ensures err { IfErr result (λ f. InCall D.dialed D.Reader.remaining D.Writer.contents V.heard
+        contact.entry dial.old dial.new held.old held.new watch.old watch.new
+        (StopsWaiting f receiver id)) }
     ensures cause { IfErr result (λ f. IsOfAsking f ⊎ IsUndecided f receiver id) }
 {
     if receiver.awaits {
@@ -339,24 +328,22 @@ fn decided<D: Dial, V: Watch>(
 pub(crate) fn entered<D: Dial, V: Watch>(
     alloc: Global,
     dial: &mut D,
-    held: &mut Option<Held<D::Reader, D::Writer>>,
+    held: &mut Option<HeldConnection<D::Reader, D::Writer>>,
     contact: Contact<'_>,
     receiver: Receiver,
     waits: bool,
     id: u64,
     text: &[u8],
     watch: &mut V,
-) -> Result<What, BatchFault>
+) -> Result<FrameBody, BatchFault>
     requires { IsDesk receiver.desk }
     ensures answer { IfOk result (λ last. IsEntered waits receiver id text.now last) }
-    ensures ok { IfOk result (λ last. AsksBy (way_of D.dialed D.Reader.remaining D.Writer.contents
-        contact.entry dial.old dial.new held.old held.new)
-        (Telling (watched V.heard watch.old watch.new) notices_of
-        (EnteredBy waits receiver id text.now last))) }
-    ensures err { IfErr result (λ f. AsksBy (way_of D.dialed D.Reader.remaining D.Writer.contents
-        contact.entry dial.old dial.new held.old held.new)
-        (Telling (watched V.heard watch.old watch.new) (notices_by f)
-        (StopsAsking f receiver id text.now))) }
+    ensures ok { IfOk result (λ last. InCall D.dialed D.Reader.remaining D.Writer.contents V.heard
+        contact.entry dial.old dial.new held.old held.new watch.old watch.new
+        (Enters waits receiver id text.now last)) }
+    ensures err { IfErr result (λ f. InCall D.dialed D.Reader.remaining D.Writer.contents V.heard
+        contact.entry dial.old dial.new held.old held.new watch.old watch.new
+        (StopsEntering f receiver id text.now)) }
     ensures cause { IfErr result (λ f. IsOfAsking f ⊎ Hinders f waits receiver id text.now) }
 {
     if id == 0 || id > GREATEST {

@@ -8,20 +8,20 @@ ghost use Rattle.batch.specs.Dialing.{Adds, GoesBy, IsAnswered, IsHungUp, LetsGo
 ghost use Rattle.batch.specs.Dialing.{asked_so, fault_of, place_of};
 ghost use Rattle.batch.specs.model.Keeping.{Cuts, MakesBy, Uses, line_of, standing, way_of};
 
-use crate::dialing::{Contact, Dial, Ending};
+use crate::dialing::{ConnectionLoss, Contact, Dial};
 use crate::fault::BatchFault;
 use client::{ClientFault, exchange};
 use std::alloc::Global;
 use std::io;
 use std::io::{ErrorKind, Read, Write};
-use wire::{Frame, What};
+use wire::{Frame, FrameBody};
 
 /// The most requests over one connection: a desk ends it after this many frames.
 const MOST_REQUESTS: u32 = 64;
 
 /// A connection that is kept for the next request, and how many were made over it.
 #[derive(Drop)]
-pub(crate) struct Held<R, W> {
+pub(crate) struct HeldConnection<R, W> {
     reader: R,
     writer: W,
     made: u32,
@@ -38,7 +38,7 @@ fn no_connection(error: &io::Error) -> BatchFault
 }
 
 /// Why there is no answer, by the fault of the exchange and by the connection's end.
-fn no_answer(fault: ClientFault, ending: Ending) -> BatchFault
+fn no_answer(fault: ClientFault, ending: ConnectionLoss) -> BatchFault
     ensures same { result ≡ fault_of fault ending }
     ensures cause { IsOfAsking result }
 {
@@ -46,17 +46,20 @@ fn no_answer(fault: ClientFault, ending: Ending) -> BatchFault
         ClientFault::NoMemory => BatchFault::NoMemory,
         ClientFault::Refused { .. } => BatchFault::Asking(fault),
         ClientFault::NoAnswer | ClientFault::Write => match ending {
-            Ending::Late => BatchFault::Late,
-            Ending::NoKey => BatchFault::NoKey,
-            Ending::OtherKey => BatchFault::OtherKey,
-            Ending::HasKey => BatchFault::HasKey,
-            Ending::Gone | Ending::Own => BatchFault::Asking(fault),
+            ConnectionLoss::Late => BatchFault::Late,
+            ConnectionLoss::NoKey => BatchFault::NoKey,
+            ConnectionLoss::OtherKey => BatchFault::OtherKey,
+            ConnectionLoss::HasKey => BatchFault::HasKey,
+            ConnectionLoss::Gone | ConnectionLoss::Own => BatchFault::Asking(fault),
         },
     }
 }
 
 /// What came of a request, by what came of its exchange.
-fn answer_of(ended: Result<What, ClientFault>, ending: Ending) -> Result<What, BatchFault>
+fn answer_of(
+    ended: Result<FrameBody, ClientFault>,
+    ending: ConnectionLoss,
+) -> Result<FrameBody, BatchFault>
     ensures same { result ≡ answer_of ended ending }
     ensures cause { IfErr result IsOfAsking }
 {
@@ -67,7 +70,7 @@ fn answer_of(ended: Result<What, ClientFault>, ending: Ending) -> Result<What, B
 }
 
 /// Whether the desk answered, or refused.
-fn is_answered(ended: &Result<What, ClientFault>) -> bool
+fn is_answered(ended: &Result<FrameBody, ClientFault>) -> bool
     ensures yes { IsTrue result → IsAnswered ended.now }
     ensures no { result ≡ false → ¬ IsAnswered ended.now }
 {
@@ -78,13 +81,13 @@ fn is_answered(ended: &Result<What, ClientFault>) -> bool
 }
 
 /// Whether the desk ended the connection and did not answer.
-fn is_hung_up(ended: &Result<What, ClientFault>, ending: Ending) -> bool
+fn is_hung_up(ended: &Result<FrameBody, ClientFault>, ending: ConnectionLoss) -> bool
     ensures yes { IsTrue result → IsHungUp ended.now ending }
     ensures no { result ≡ false → ¬ IsHungUp ended.now ending }
 {
     match ended {
         Err(ClientFault::Write) => true,
-        Err(ClientFault::NoAnswer) => ending == Ending::Gone,
+        Err(ClientFault::NoAnswer) => ending == ConnectionLoss::Gone,
         _ => false,
     }
 }
@@ -94,10 +97,10 @@ fn is_hung_up(ended: &Result<What, ClientFault>, ending: Ending) -> bool
 fn exchange_over<D: Dial>(
     alloc: Global,
     dial: &mut D,
-    held: &mut Option<Held<D::Reader, D::Writer>>,
-    used: Held<D::Reader, D::Writer>,
+    held: &mut Option<HeldConnection<D::Reader, D::Writer>>,
+    used: HeldConnection<D::Reader, D::Writer>,
     request: &Frame,
-) -> (Result<What, ClientFault>, Ending)
+) -> (Result<FrameBody, ClientFault>, ConnectionLoss)
     requires spelled { IsFrame request.now }
     requires few { used.made < 64 }
     ensures used { Uses (line_of D.Reader.remaining D.Writer.contents used) request.now result.0
@@ -105,19 +108,19 @@ fn exchange_over<D: Dial>(
         (standing D.dialed D.Reader.remaining D.Writer.contents dial.new held.new) }
     ensures answered { IfOk result.0 (IsAnswer request.now) }
 {
-    let Held {
+    let HeldConnection {
         mut reader,
         mut writer,
         made,
     } = used;
     let ended = exchange(alloc, request, &mut reader, &mut writer);
     if is_answered(&ended) {
-        *held = Some(Held {
+        *held = Some(HeldConnection {
             reader,
             writer,
             made: made + 1,
         });
-        return (ended, Ending::Own);
+        return (ended, ConnectionLoss::Own);
     }
     *held = None;
     let ending = dial.hang_up(reader, writer);
@@ -128,10 +131,10 @@ fn exchange_over<D: Dial>(
 fn ask_anew<D: Dial>(
     alloc: Global,
     dial: &mut D,
-    held: &mut Option<Held<D::Reader, D::Writer>>,
+    held: &mut Option<HeldConnection<D::Reader, D::Writer>>,
     contact: Contact<'_>,
     request: &Frame,
-) -> Result<What, BatchFault>
+) -> Result<FrameBody, BatchFault>
     requires spelled { IsFrame request.now }
     ensures told { MakesBy (way_of D.dialed D.Reader.remaining D.Writer.contents
         contact.entry dial.old dial.new None held.new) (asked_so request.now result) }
@@ -145,7 +148,7 @@ fn ask_anew<D: Dial>(
             return Err(no_connection(&error));
         }
     };
-    let used = Held {
+    let used = HeldConnection {
         reader,
         writer,
         made: 0,
@@ -158,11 +161,11 @@ fn ask_anew<D: Dial>(
 fn ask_kept<D: Dial>(
     alloc: Global,
     dial: &mut D,
-    held: &mut Option<Held<D::Reader, D::Writer>>,
-    mut used: Held<D::Reader, D::Writer>,
+    held: &mut Option<HeldConnection<D::Reader, D::Writer>>,
+    mut used: HeldConnection<D::Reader, D::Writer>,
     contact: Contact<'_>,
     request: &Frame,
-) -> Option<Result<What, BatchFault>>
+) -> Option<Result<FrameBody, BatchFault>>
     requires spelled { IsFrame request.now }
     requires few { used.made < 64 }
     ensures cut { IfNone result
@@ -183,13 +186,13 @@ fn ask_kept<D: Dial>(
 }
 
 /// Ends the connection that is kept, where there is one.
-pub(crate) fn let_go<D: Dial>(dial: &mut D, held: &mut Option<Held<D::Reader, D::Writer>>)
+pub(crate) fn let_go<D: Dial>(dial: &mut D, held: &mut Option<HeldConnection<D::Reader, D::Writer>>)
     ensures told { LetsGo
         (standing D.dialed D.Reader.remaining D.Writer.contents dial.old held.old)
         (D.dialed dial.new) }
     ensures gone { held.new ≡ None }
 {
-    if let Some(Held { reader, writer, .. }) = held.take() {
+    if let Some(HeldConnection { reader, writer, .. }) = held.take() {
         let _ending = dial.hang_up(reader, writer);
     }
 }
@@ -204,10 +207,10 @@ pub(crate) fn let_go<D: Dial>(dial: &mut D, held: &mut Option<Held<D::Reader, D:
 pub(crate) fn ask<D: Dial>(
     alloc: Global,
     dial: &mut D,
-    held: &mut Option<Held<D::Reader, D::Writer>>,
+    held: &mut Option<HeldConnection<D::Reader, D::Writer>>,
     contact: Contact<'_>,
     request: &Frame,
-) -> Result<What, BatchFault>
+) -> Result<FrameBody, BatchFault>
     requires { IsFrame request.now }
     ensures told { GoesBy (way_of D.dialed D.Reader.remaining D.Writer.contents
         contact.entry dial.old dial.new held.old held.new)
@@ -244,7 +247,7 @@ pub fn ask_over<D: Dial>(
     dial: &mut D,
     contact: Contact<'_>,
     request: &Frame,
-) -> Result<What, BatchFault>
+) -> Result<FrameBody, BatchFault>
     requires { IsFrame request.now }
     ensures told { Adds (place_of contact.entry) (D.dialed dial.old) (D.dialed dial.new)
         (asked_so request.now result ∷ []) }

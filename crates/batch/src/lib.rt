@@ -18,7 +18,7 @@ mod watching;
 
 pub use asking::Receiver;
 pub use command_entered::enter_command;
-pub use dialing::{Contact, Dial, Ending};
+pub use dialing::{ConnectionLoss, Contact, Dial};
 pub use fault::BatchFault;
 pub use keeping::ask_over;
 pub use lines_entered::{Batch, enter_lines, told_answer};

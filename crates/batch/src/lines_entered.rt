@@ -6,26 +6,26 @@ ghost use Rattle.std.specs.Io.KnownBytes.{Appends};
 ghost use Rattle.lines.specs.Bytes.{AppendsPart};
 ghost use Rattle.client.specs.Printing.{reply_text};
 ghost use Rattle.batch.specs.Asking.{IsOfAsking};
-ghost use Rattle.batch.specs.Dialing.{AsksBy, told};
-ghost use Rattle.batch.specs.Entering.{AsksAll, AsksSome, AsksTo, EntersAll, EntersLine};
-ghost use Rattle.batch.specs.Entering.{EntersSome, FailsLine, IsOfPrinting, StopsBy, StopsTelling};
+ghost use Rattle.batch.specs.Dialing.{told};
+ghost use Rattle.batch.specs.Entering.{AsksAll, AsksUpTo, EntersAll, EntersBy, EntersOne};
+ghost use Rattle.batch.specs.Entering.{EntersSome, FailsLine, IsOfPrinting, StopsAt, StopsBy};
 ghost use Rattle.batch.specs.Entering.{ends_after, is_refused, texts_of, told_answer};
 ghost use Rattle.batch.specs.Watching.{watched};
-ghost use Rattle.batch.specs.model.Keeping.{way_of};
+ghost use Rattle.batch.specs.model.Keeping.{InCall};
 
 use crate::asking::Receiver;
 use crate::dialing::{Contact, Dial};
 use crate::entering::entered;
 use crate::fault::BatchFault;
-use crate::keeping::{Held, let_go};
+use crate::keeping::{HeldConnection, let_go};
 use crate::watching::Watch;
 use client::reply_text;
-use lines::command_file::CommandText;
+use lines::command_file::InputCommand;
 use lines::write_text;
 use std::alloc::Global;
 use std::io::Write;
 use texts::Answer;
-use wire::{CommandState, What};
+use wire::{CommandState, FrameBody};
 
 /// How commands are entered.
 #[derive(Clone, Copy, Debug)]
@@ -42,11 +42,11 @@ pub struct Batch {
 }
 
 /// How a command was answered, where an answer tells that.
-pub fn told_answer(answer: &What) -> Option<Answer>
+pub fn told_answer(answer: &FrameBody) -> Option<Answer>
     ensures { result ≡ told_answer answer.now }
 {
     match answer {
-        What::Told {
+        FrameBody::Told {
             state: CommandState::Done { answer, .. },
             ..
         } => Some(*answer),
@@ -72,7 +72,11 @@ fn ends_after(batch: Batch, answer: Option<Answer>) -> bool
 }
 
 /// Prints an answer.
-fn print_answer<W: Write>(alloc: Global, writer: &mut W, answer: What) -> Result<(), BatchFault>
+fn print_answer<W: Write>(
+    alloc: Global,
+    writer: &mut W,
+    answer: FrameBody,
+) -> Result<(), BatchFault>
     ensures ok { OnOk result
         (Appends (W.contents writer.old) (W.contents writer.new) (reply_text answer)) }
     ensures err { OnErr result
@@ -88,34 +92,32 @@ fn print_answer<W: Write>(alloc: Global, writer: &mut W, answer: What) -> Result
     }
 }
 
-/// Enters command `number`, counted from 0, and prints the answer.
+/// Enters line `n`, counted from 0, and prints the answer.
 fn enter_line<D: Dial, W: Write, V: Watch>(
     alloc: Global,
     dial: &mut D,
-    held: &mut Option<Held<D::Reader, D::Writer>>,
+    held: &mut Option<HeldConnection<D::Reader, D::Writer>>,
     contact: Contact<'_>,
     batch: Batch,
-    number: usize,
-    command: &CommandText,
-    writer: &mut W,
+    n: usize,
+    line: &InputCommand,
+    out: &mut W,
     watch: &mut V,
 ) -> Result<(), BatchFault>
     requires { IsDesk batch.receiver.desk }
-    ensures ok { OnOk result (EntersLine batch number command.now.text
-        (way_of D.dialed D.Reader.remaining D.Writer.contents contact.entry dial.old dial.new
-        held.old held.new) (watched V.heard watch.old watch.new)
-        (W.contents writer.old) (W.contents writer.new)) }
-    ensures err { IfErr result (λ f. FailsLine IsOfAsking f batch (batch.first_id + number)
-        command.now.text (W.contents writer.old) (W.contents writer.new)) }
-    ensures asked { IfErr result (λ f. AsksBy (way_of D.dialed D.Reader.remaining D.Writer.contents
-        contact.entry dial.old dial.new held.old held.new)
-        (StopsTelling (watched V.heard watch.old watch.new) f batch (batch.first_id + number)
-        command.now.text)) }
+    ensures ok { OnOk result (InCall D.dialed D.Reader.remaining D.Writer.contents V.heard
+        contact.entry dial.old dial.new held.old held.new watch.old watch.new
+        (EntersOne batch n line.now W.contents out.old out.new)) }
+    ensures err { IfErr result (λ f. FailsLine IsOfAsking f batch (batch.first_id + n)
+        line.now.text (W.contents out.old) (W.contents out.new)) }
+    ensures asked { IfErr result (λ f. InCall D.dialed D.Reader.remaining D.Writer.contents V.heard
+        contact.entry dial.old dial.new held.old held.new watch.old watch.new
+        (StopsAt f batch n line.now.text)) }
 {
-    let Some(id) = batch.first_id.checked_add(number as u64) else {
+    let Some(id) = batch.first_id.checked_add(n as u64) else {
         return Err(BatchFault::NoMoreIds);
     };
-    watch.begins(command, id);
+    watch.begins(line, id);
     let answer = entered(
         alloc,
         dial,
@@ -124,12 +126,12 @@ fn enter_line<D: Dial, W: Write, V: Watch>(
         batch.receiver,
         batch.waits,
         id,
-        command.text(),
+        line.text(),
         watch,
     )?;
     let said = told_answer(&answer);
     let ends = ends_after(batch, said);
-    print_answer(alloc, writer, answer)?;
+    print_answer(alloc, out, answer)?;
     watch.entered(said);
     if ends {
         return Err(BatchFault::AtRefusal);
@@ -141,18 +143,17 @@ fn enter_line<D: Dial, W: Write, V: Watch>(
 fn enter_lines_over<D: Dial, W: Write, V: Watch>(
     alloc: Global,
     dial: &mut D,
-    held: &mut Option<Held<D::Reader, D::Writer>>,
+    held: &mut Option<HeldConnection<D::Reader, D::Writer>>,
     contact: Contact<'_>,
     batch: Batch,
-    commands: &[CommandText],
+    commands: &[InputCommand],
     writer: &mut W,
     watch: &mut V,
 ) -> Result<(), BatchFault>
     requires { IsDesk batch.receiver.desk }
-    ensures { AsksTo result batch (texts_of commands.now)
-        (way_of D.dialed D.Reader.remaining D.Writer.contents
-        contact.entry dial.old dial.new held.old held.new)
-        (watched V.heard watch.old watch.new) (W.contents writer.old) (W.contents writer.new) }
+    ensures { InCall D.dialed D.Reader.remaining D.Writer.contents V.heard
+        contact.entry dial.old dial.new held.old held.new watch.old watch.new
+        (EntersBy result batch commands.now W.contents writer.old writer.new) }
 {
     for (number, command) in commands.iter().enumerate() {
         enter_line(
@@ -191,7 +192,7 @@ pub fn enter_lines<D: Dial, W: Write, V: Watch>(
     dial: &mut D,
     contact: Contact<'_>,
     batch: Batch,
-    commands: &[CommandText],
+    commands: &[InputCommand],
     writer: &mut W,
     watch: &mut V,
 ) -> Result<(), BatchFault>
@@ -205,7 +206,7 @@ pub fn enter_lines<D: Dial, W: Write, V: Watch>(
     ensures asked { OnOk result (AsksAll batch (texts_of commands.now)
         (told contact.entry D.dialed dial.old dial.new) (watched V.heard watch.old watch.new)
         (W.contents writer.old) (W.contents writer.new)) }
-    ensures asked_so_far { IfErr result (λ f. AsksSome IsOfAsking f batch (texts_of commands.now)
+    ensures asked_so_far { IfErr result (λ f. AsksUpTo f batch commands.now
         (told contact.entry D.dialed dial.old dial.new) (watched V.heard watch.old watch.new)
         (W.contents writer.old) (W.contents writer.new)) }
 {

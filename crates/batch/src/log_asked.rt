@@ -14,13 +14,13 @@ ghost use Rattle.batch.specs.declared.asking.Receiver.{Receiver as Desk};
 use crate::asking::Receiver;
 use crate::dialing::{Contact, Dial};
 use crate::fault::BatchFault;
-use crate::keeping::{Held, ask, let_go};
+use crate::keeping::{HeldConnection, ask, let_go};
 use acceptor::NoMemory;
 use client::{ClientFault, log_request};
 use learner::log::Log;
 use std::alloc::Global;
 use std::collections::VecDeque;
-use wire::{Entries, What};
+use wire::{Entries, FrameBody};
 
 /// Puts entries at the end of a log.
 fn append_all(log: &mut Log, entries: Entries) -> Result<(), NoMemory>
@@ -38,7 +38,7 @@ fn append_all(log: &mut Log, entries: Entries) -> Result<(), NoMemory>
 
 /// The length of a log and its entries from a position on, as an answer says, where it is a part of
 /// a log that was reported to have this many entries.
-fn part_of(answer: What, position: u32, told: u32) -> Option<(u32, Entries)>
+fn part_of(answer: FrameBody, position: u32, told: u32) -> Option<(u32, Entries)>
     requires behind { position ≤ told }
     ensures some { (r : Desk) → IsAnswer (log_of r position) answer
         → IfSome result (λ part. IsPart position told part.0 part.1 answer × (part.0 ≤ 65536)) }
@@ -46,7 +46,7 @@ fn part_of(answer: What, position: u32, told: u32) -> Option<(u32, Entries)>
         ((len : ℕ) → (entries : List Entry) → ¬ IsPart position told len entries answer) }
 {
     match answer {
-        What::Entries {
+        FrameBody::Entries {
             length,
             entries,
             ..
@@ -66,7 +66,7 @@ fn part_of(answer: What, position: u32, told: u32) -> Option<(u32, Entries)>
 fn ask_part<D: Dial>(
     alloc: Global,
     dial: &mut D,
-    held: &mut Option<Held<D::Reader, D::Writer>>,
+    held: &mut Option<HeldConnection<D::Reader, D::Writer>>,
     contact: Contact<'_>,
     receiver: Receiver,
     log: &mut Log,
@@ -100,7 +100,7 @@ fn ask_part<D: Dial>(
 fn ask_log_over<D: Dial>(
     alloc: Global,
     dial: &mut D,
-    held: &mut Option<Held<D::Reader, D::Writer>>,
+    held: &mut Option<HeldConnection<D::Reader, D::Writer>>,
     contact: Contact<'_>,
     receiver: Receiver,
 ) -> Result<Log, BatchFault>

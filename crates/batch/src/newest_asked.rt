@@ -11,11 +11,11 @@ ghost use Rattle.batch.specs.model.Keeping.{way_of};
 use crate::asking::Receiver;
 use crate::dialing::{Contact, Dial};
 use crate::fault::BatchFault;
-use crate::keeping::{Held, ask, let_go};
+use crate::keeping::{HeldConnection, ask, let_go};
 use client::{ClientFault, sheet_version, status_request};
 use formats::Event;
 use std::alloc::Global;
-use wire::{Frame, SheetStyle, Standing, What};
+use wire::{DeskStatus, Frame, FrameBody, SheetStyle};
 
 /// A round's sheet, at whichever position.
 #[derive(Clone, Copy, Debug)]
@@ -39,7 +39,7 @@ fn sheet_request(receiver: Receiver, sheet: RoundSheet, position: u32) -> Frame
         hall: receiver.hall,
         from: 0,
         to: receiver.desk,
-        what: What::Sheet {
+        what: FrameBody::Sheet {
             event: sheet.event,
             round: sheet.round,
             position,
@@ -49,11 +49,11 @@ fn sheet_request(receiver: Receiver, sheet: RoundSheet, position: u32) -> Frame
 }
 
 /// How a desk is, as an answer says.
-fn standing_said(answer: What) -> Option<Standing>
+fn standing_said(answer: FrameBody) -> Option<DeskStatus>
     ensures { result ≡ standing_said answer }
 {
     match answer {
-        What::Standing { standing } => Some(standing),
+        FrameBody::Standing { standing } => Some(standing),
         _ => None,
     }
 }
@@ -62,11 +62,11 @@ fn standing_said(answer: What) -> Option<Standing>
 fn ask_newest_over<D: Dial>(
     alloc: Global,
     dial: &mut D,
-    held: &mut Option<Held<D::Reader, D::Writer>>,
+    held: &mut Option<HeldConnection<D::Reader, D::Writer>>,
     contact: Contact<'_>,
     receiver: Receiver,
     sheet: RoundSheet,
-) -> Result<What, BatchFault>
+) -> Result<FrameBody, BatchFault>
     requires { IsDesk receiver.desk }
     ensures ok { IfOk result (λ answer. AsksBy
         (way_of D.dialed D.Reader.remaining D.Writer.contents
@@ -104,7 +104,7 @@ pub fn ask_newest<D: Dial>(
     contact: Contact<'_>,
     receiver: Receiver,
     sheet: RoundSheet,
-) -> Result<What, BatchFault>
+) -> Result<FrameBody, BatchFault>
     requires { IsDesk receiver.desk }
     ensures ok { IfOk result (λ answer. AddsSo (told contact.entry D.dialed dial.old dial.new)
         (GivesNewest receiver sheet answer)) }

@@ -9,13 +9,13 @@ use crate::fault::BatchFault;
 use crate::keeping::ask_over;
 use client::{ClientFault, await_request};
 use std::alloc::Global;
-use wire::What;
+use wire::FrameBody;
 
 /// How many seconds a desk is waited for at least, so that its answer to an Await comes in time.
 const PATIENCE: u32 = 4;
 
 /// Whether the desk knows a request of which this came: it answers it, or refuses it.
-fn is_known(came: &Result<What, BatchFault>) -> bool
+fn is_known(came: &Result<FrameBody, BatchFault>) -> bool
     ensures { result ≡ is_known came.now }
 {
     match came {

@@ -4,7 +4,7 @@ ghost use Rattle.std.specs.Prelude.{◌∷◌, [], List, Option};
 ghost use Rattle.batch.specs.Watching.{Another, Begins, Entered, Notice, Tells, Waits, watched};
 
 use acceptor::entry::Entry;
-use lines::command_file::CommandText;
+use lines::command_file::InputCommand;
 use texts::Answer;
 
 /// Hears how commands are entered, one after the other. Nothing depends on what it does.
@@ -13,7 +13,7 @@ pub trait Watch {
     ghost heard: { Self → Option (List Notice) };
 
     /// A command is about to be entered with an id.
-    fn begins(&mut self, command: &CommandText, id: u64)
+    fn begins(&mut self, command: &InputCommand, id: u64)
         ensures { Tells (watched heard self.old self.new) (Begins id command.now.text ∷ []) };
 
     /// The desk's queue was full, or the command is not decided yet, after this many tries, counted

@@ -1,18 +1,18 @@
 //! The arguments of the program, and how it ends.
 
-use board_service::{End, PROGRAM, serve};
+use board_service::{BoardEnd, PROGRAM, serve};
 use clap::builder::ValueParser;
 use clap::{Arg, ArgAction, ArgMatches, Command, Error};
 use command_line::borrowed;
-use explaining::{explain_listening, is_wanted};
+use fault_hints::{explain_listening, is_wanted};
 use hall_file::hall_options::{
     FoundHall, Mistake, address_at, hall_of, number_at, option, tell, tell_mistake,
     tell_parse_error, tell_system, with_desks,
 };
-use hall_standings::Hall;
+use hall_survey::Hall;
 use http_server::Config;
 use page_sockets::browsers_at;
-use pages::Terms;
+use pages::BrowserLimits;
 use std::alloc::{AllocError, Global};
 use std::io;
 use std::io::Write;
@@ -35,13 +35,13 @@ const BROKEN: &str = "two desks of the hall have different commands: stop and lo
 const EXPLAIN: &str = "Where it cannot listen a second line says why, and what to do";
 
 const AFTER: &str = "\
-Asks the desks of a hall for their log, one at a time, and goes on to the next one where a desk does
+Asks the desks of a hall for their log, one at a time, and asks the next one where a desk does
 not answer or is behind. It shows all rounds that were opened at http://ADDR/, and for a projector
 one after the other at http://ADDR/hall, or one alone at http://ADDR/hall/333-1. A round for a phone
 is at http://ADDR/333-1 and its table at http://ADDR/333-1.csv; both as they were after 17 commands
 are at http://ADDR/at/17/333-1. All competitors are at http://ADDR/people, the rounds of competitor
 17 at http://ADDR/person/17, the first three of each final at http://ADDR/podiums, the log at
-http://ADDR/log.txt, and how the desks stand at http://ADDR/status.json. ADDR is that of --listen.
+http://ADDR/log.txt, and how the desks are at http://ADDR/status.json. ADDR is that of --listen.
 It prints `board at ADDR` once it listens, and runs until it is stopped.
 
 The desks are those of --hall and --to, or without these all desks of the hall that FILE describes.
@@ -61,7 +61,7 @@ const LONGEST_REQUEST: usize = 8_192;
 
 /// What the board is to do.
 #[derive(Drop)]
-struct Order {
+struct BoardOptions {
     /// The hall, with one to five desks.
     hall: FoundHall,
     title: String,
@@ -92,7 +92,7 @@ fn command<'a>(alloc: Global) -> Result<Command<'a>, AllocError> {
 }
 
 /// What the arguments ask for.
-fn order_of<'a>(rt: &HostRuntime, found: &ArgMatches<'a>) -> Result<Order, Mistake<'a>> {
+fn order_of<'a>(rt: &HostRuntime, found: &ArgMatches<'a>) -> Result<BoardOptions, Mistake<'a>> {
     let mut patience = PATIENCE;
     if found.get_str("patience").is_some() {
         patience = number_at(found, "patience")?;
@@ -100,7 +100,7 @@ fn order_of<'a>(rt: &HostRuntime, found: &ArgMatches<'a>) -> Result<Order, Mista
     let hall = hall_of(rt, found)?;
     let listen = address_at(rt, found, "listen")?;
     match String::from_str(rt.alloc(), found.get_str("title").unwrap_or(TITLE)) {
-        Ok(title) => Ok(Order {
+        Ok(title) => Ok(BoardOptions {
             hall,
             title,
             listen,
@@ -129,11 +129,11 @@ fn tell_listening<F: Write>(
 fn run_order<W: Write, F: Write>(
     rt: &HostRuntime,
     found: &ArgMatches<'_>,
-    order: Order,
+    order: BoardOptions,
     writer: &mut W,
     faults: &mut F,
 ) -> u8 {
-    let Order {
+    let BoardOptions {
         hall,
         title,
         listen,
@@ -142,7 +142,7 @@ fn run_order<W: Write, F: Write>(
     let mut config = Config::default();
     config.limits.max_head_len = LONGEST_REQUEST;
     config.max_body_len = LONGEST_REQUEST;
-    let terms = Terms {
+    let terms = BrowserLimits {
         most: MOST_BROWSERS,
         patience: patience.saturating_mul(1000),
         config,
@@ -157,8 +157,8 @@ fn run_order<W: Write, F: Write>(
         key: hall.key,
     };
     match serve(rt, rt.alloc(), asked, title, browsers, writer, faults) {
-        Ok(End::Failed) => tell(faults, PROGRAM, "cannot continue", 4),
-        Ok(End::Broken) => tell(faults, PROGRAM, BROKEN, 4),
+        Ok(BoardEnd::Failed) => tell(faults, PROGRAM, "cannot continue", 4),
+        Ok(BoardEnd::Broken) => tell(faults, PROGRAM, BROKEN, 4),
         Err(error) => tell_system(faults, PROGRAM, &error, "cannot continue"),
     }
 }

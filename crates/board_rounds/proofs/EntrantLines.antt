@@ -3,7 +3,7 @@ use Rattle.std.proofs.Common.{◌≡◌, ℕ, Bool, List, [], ◌++◌, refl, sy
 use Rattle.std.specs.Prelude.{option_map, unwrap_or}
 use Rattle.attempts.specs.declared.Unit.{Unit as Measure}
 use Rattle.formats.specs.Events.{attempts_of, unit_of}
-use Rattle.rounds.specs.declared.table.Row.{Row}
+use Rattle.rounds.specs.declared.table.EntrantRow.{EntrantRow}
 use Rattle.rounds.specs.Tables.{Entrant, Table}
 use Rattle.rounds.specs.Rows.{IsRow}
 use Rattle.sheets.specs.Sheet.{name_text}
@@ -16,7 +16,7 @@ use Rattle.board_rounds.specs.Rows.{mark_end, person_cells, place_words, result_
 use Rattle.round_words.specs.Words.{round_name, round_words}
 
 pub line_of_row : (unit : Measure) (cs : List Command) (settings : Settings) (t : Table)
-    (goes : ℕ → Bool) (n : ℕ) (e : Entrant) (row : Row) (shown : Measure) (count : ℕ)
+    (goes : ℕ → Bool) (n : ℕ) (e : Entrant) (row : EntrantRow) (shown : Measure) (count : ℕ)
     (through closed : Bool) (name : List ℕ)
     → IsRow t n e row → shown ≡ unit → count ≡ attempts_of settings.format
     → through ≡ goes n → closed ≡ t.is_closed → name ≡ name_text cs n
@@ -39,7 +39,7 @@ line_of_row unit cs settings t goes n e row shown count through closed name is i
     (option_map (entrant_line unit settings t goes n (name_text cs n)) o) []) is.entrant)
 
 pub entry_of_row : (id : RoundId) (settings : Settings) (t : Table) (n : ℕ) (e : Entrant)
-    (row : Row) (shown : Measure) (count : ℕ) (closed : Bool) → IsRow t n e row
+    (row : EntrantRow) (shown : Measure) (count : ℕ) (closed : Bool) → IsRow t n e row
     → shown ≡ unit_of id.event → count ≡ attempts_of settings.format → closed ≡ t.is_closed
     → round_cell (round_name id) (round_words id settings.advance)
     ++ cell (place_words row.place row.values.now)

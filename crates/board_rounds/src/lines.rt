@@ -6,17 +6,17 @@ ghost use Rattle.rounds.specs.Tables.{standings};
 ghost use Rattle.board_rounds.specs.model.Shown.{IsOpened, TellsShown, line_shown, listed_shown};
 
 use crate::cells::{push_attempts, push_line_start, push_mark, push_person_cells, push_results};
-use crate::shown::{Shown, name_text};
+use crate::shown::{BoardRound, name_text};
 use attempts::{NoMemory, Value};
 use formats::{attempts_of, unit_of};
 use rounds::RoundTable;
-use sheets::GoingOn;
+use sheets::AdvancingEntrants;
 
 /// Adds the line of the entrant with a number.
 fn push_line(
     out: &mut Vec<u8>,
-    shown: Shown<'_>,
-    going_on: &GoingOn,
+    shown: BoardRound<'_>,
+    going_on: &AdvancingEntrants,
     number: u16,
 ) -> Result<(), NoMemory>
     requires { TellsShown shown going_on.now }
@@ -66,9 +66,9 @@ fn is_on_podium(table: &RoundTable, number: u16) -> bool
 /// Adds the line of the entrant with a number, where it is one to be shown.
 fn push_listed(
     out: &mut Vec<u8>,
-    shown: Shown<'_>,
+    shown: BoardRound<'_>,
     podium: bool,
-    going_on: &GoingOn,
+    going_on: &AdvancingEntrants,
     number: u16,
 ) -> Result<(), NoMemory>
     requires { TellsShown shown going_on.now }
@@ -84,9 +84,9 @@ fn push_listed(
 /// Adds a line for each of these numbers that is one to be shown.
 fn push_lines(
     out: &mut Vec<u8>,
-    shown: Shown<'_>,
+    shown: BoardRound<'_>,
     podium: bool,
-    going_on: &GoingOn,
+    going_on: &AdvancingEntrants,
     numbers: &[u16],
 ) -> Result<(), NoMemory>
     requires { TellsShown shown going_on.now }
@@ -102,7 +102,7 @@ fn push_lines(
 /// Adds a line for each entrant, or for those on the podium alone, in order of standings.
 pub(crate) fn push_entrants(
     out: &mut Vec<u8>,
-    shown: Shown<'_>,
+    shown: BoardRound<'_>,
     podium: bool,
 ) -> Result<(), NoMemory>
     requires { IsOpened shown }
@@ -111,6 +111,11 @@ pub(crate) fn push_entrants(
 {
     let numbers = shown.table.standings()?;
     let alloc = *out.allocator();
-    let going_on = GoingOn::from_round(alloc, shown.meet, shown.id.event, shown.id.round)?;
+    let going_on = AdvancingEntrants::from_round(
+        alloc,
+        shown.meet,
+        shown.id.event,
+        shown.id.round,
+    )?;
     push_lines(out, shown, podium, &going_on, &numbers)
 }

@@ -9,7 +9,7 @@ ghost use Rattle.board_rounds.specs.model.Shown.{entry_shown};
 
 use crate::cells::{attempt_text, place_text, push_cell, push_name, push_number, push_results};
 use crate::rounds_shown::{push_below, push_heading};
-use crate::shown::{Shown, shown_round};
+use crate::shown::{BoardRound, shown_round};
 use attempts::{NoMemory, Unit, Value};
 use commands::Meet;
 use formats::{Advance, Format, attempts_of, unit_of};
@@ -67,7 +67,7 @@ fn push_state(out: &mut Vec<u8>, closed: bool, advance: Advance) -> Result<(), N
 }
 
 /// Adds a round that a competitor is in.
-fn push_shown_entry(out: &mut Vec<u8>, shown: Shown<'_>, number: u16) -> Result<(), NoMemory>
+fn push_shown_entry(out: &mut Vec<u8>, shown: BoardRound<'_>, number: u16) -> Result<(), NoMemory>
     ensures { OnOk result (out.new.items ≡ out.old.items ++ entry_shown shown.entry number) }
 {
     let Some(row) = shown.table.row(number) else {

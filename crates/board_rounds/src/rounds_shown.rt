@@ -9,7 +9,7 @@ ghost use Rattle.round_words.specs.Words.{round_name, round_words, settings_word
 ghost use Rattle.board_rounds.specs.model.Shown.{IsOpened, link_shown, section_shown};
 
 use crate::lines::push_entrants;
-use crate::shown::{Shown, shown_round};
+use crate::shown::{BoardRound, shown_round};
 use attempts::{NoMemory, push_decimal};
 use commands::Meet;
 use formats::{Advance, Event, attempts_of};
@@ -142,7 +142,7 @@ fn push_conditions(
 }
 
 /// Adds what is above the lines of a round.
-fn push_above(out: &mut Vec<u8>, shown: Shown<'_>) -> Result<(), NoMemory>
+fn push_above(out: &mut Vec<u8>, shown: BoardRound<'_>) -> Result<(), NoMemory>
     ensures { OnOk result (out.new.items ≡ out.old.items
         ++ above shown.entry.id (shown.entry.settings, shown.entry.table.now)) }
 {
@@ -167,7 +167,7 @@ pub(crate) fn push_below(out: &mut Vec<u8>, position: u32) -> Result<(), NoMemor
 #[tactic(auto, unfolding(crate::specs::Rounds::section_of))]
 fn push_shown(
     out: &mut Vec<u8>,
-    shown: Shown<'_>,
+    shown: BoardRound<'_>,
     podium: bool,
     position: u32,
 ) -> Result<(), NoMemory>
@@ -233,7 +233,7 @@ pub fn push_podium(
 }
 
 #[tactic(auto, unfolding(crate::specs::Rounds::link_of))]
-fn push_shown_link(out: &mut Vec<u8>, shown: Shown<'_>) -> Result<(), NoMemory>
+fn push_shown_link(out: &mut Vec<u8>, shown: BoardRound<'_>) -> Result<(), NoMemory>
     ensures { OnOk result (out.new.items ≡ out.old.items ++ link_shown shown.entry) }
 {
     out.extend_from_slice(b"<a href=\"/")?;

@@ -11,7 +11,7 @@ use texts::{RoundId, Settings};
 
 /// A round that was opened, and the meet that it belongs to.
 #[derive(Clone, Copy)]
-pub(crate) struct Shown<'a> {
+pub(crate) struct BoardRound<'a> {
     pub(crate) meet: &'a Meet,
     pub(crate) id: RoundId,
     pub(crate) settings: Settings,
@@ -19,7 +19,7 @@ pub(crate) struct Shown<'a> {
 }
 
 /// The round to show, if it was opened.
-pub(crate) fn shown_round(meet: &Meet, id: RoundId) -> Option<Shown<'_>>
+pub(crate) fn shown_round(meet: &Meet, id: RoundId) -> Option<BoardRound<'_>>
     ensures meet { IfSome result (λ shown. shown.meet.now ≡ meet.now) }
     ensures id { IfSome result (λ shown. shown.id ≡ id) }
     ensures round { option_map (λ shown. (shown.settings, shown.table.now)) result
@@ -32,7 +32,7 @@ pub(crate) fn shown_round(meet: &Meet, id: RoundId) -> Option<Shown<'_>>
     ) else {
         return None;
     };
-    Some(Shown {
+    Some(BoardRound {
         meet,
         id,
         settings,

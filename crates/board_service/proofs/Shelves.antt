@@ -7,13 +7,11 @@ use Rattle.std.proofs.lemmas.Slice.Eq.{bytes_eq-Decides}
 use Rattle.std.specs.Map.{lookup}
 use Rattle.acceptor.specs.declared.entry.Entry.{Entry}
 use Rattle.indexmap.specs.IndexMap.{IndexMap, Updates, get_by_text}
-use Rattle.desk_sockets.specs.declared.desk_stream.Kept.{Kept}
-use Rattle.desk_sockets.specs.declared.desk_stream.Kept.TheVariants as kept
+use Rattle.desk_sockets.specs.declared.desk_stream.DialogueChange.TheVariants as kept
 use Rattle.markup.specs.declared.replies.page.Page.{Page}
 use Rattle.board_views.specs.Views.{IsPageAt}
 use Rattle.board_service.specs.declared.shelf.Shelf.{Shelf}
-use Rattle.board_service.specs.Shelves.{AreAllAt, HasNone, IsRefreshed, Puts}
-use Rattle.board_service.specs.Shelves.{page_on}
+use Rattle.board_service.specs.Shelves.{AreAllAt, Puts}
 
 module _ {Y S : Type 0} (m n : IndexMap (String Y) Page S) where
   -- a map without an entry
@@ -66,23 +64,6 @@ module _ {Y S : Type 0} (before room after : IndexMap (String Y) Page S)
   not_put_after same q p there = inl (fewer q p (same_by_text room after same q p there))
 
 -- ---- shelves
-
--- a shelf that has none, as any log's
-pub none_is_at : (title : List ℕ) (log : List Entry) (shelf : Shelf) → HasNone shelf
-    → AreAllAt title log shelf
-none_is_at title log shelf none path p at = let wrong : None ≡ Some p = sym (none path) ∙ at in cc
-
--- the mirror was kept up
-pub refreshed_is_at : (title : List ℕ) (k : Kept) (before after : List Entry) (old new : Shelf)
-    → AreAllAt title before old → (k ≡ kept.Same → after ≡ before) → IsRefreshed k old new
-    → AreAllAt title after new
-refreshed_is_at title kept.Same before after old new all same is path p at =
-    subst (λ (log : List Entry). IsPageAt title log path (Some p)) (sym (same refl))
-    (all path p (subst (λ (s : Shelf). page_on s path ≡ Some p) is at))
-refreshed_is_at title kept.Changed before after old new all same none path p at =
-    none_is_at title after new none path p at
-refreshed_is_at title kept.Broken before after old new all same none path p at =
-    none_is_at title after new none path p at
 
 -- the page at a path is put there
 pub put_is_at : (title : List ℕ) (log : List Entry) (old new : Shelf) (at : List ℕ) (page : Page)

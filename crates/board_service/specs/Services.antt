@@ -1,7 +1,7 @@
 -- What the board answers (the project's own).
 use Rattle.std.specs.Prelude.{◌≡◌, ℕ, ◌&&◌, Bool, true, false, List, [], ◌∷◌, Option, codes, min}
 use Rattle.std.specs.Str.{bytes_eq}
-use Rattle.following.specs.Following.{wait_of}
+use Rattle.log_follower.specs.Following.{wait_of}
 use Rattle.http.specs.declared.request.Request.{Request}
 use Rattle.http.specs.Request.{head_of}
 use Rattle.http_uri.specs.Uri.{uri_path}
@@ -11,8 +11,8 @@ use Rattle.http_server.specs.Response.{IsResponse}
 use Rattle.markup.specs.declared.replies.page.Page.{Page}
 use Rattle.markup.specs.replies.Replies.{Replies, is_read, no_store}
 use Rattle.board_views.specs.Views.{IsPageAt}
-use Rattle.mirroring.specs.Mirrorings.{MirroringOf}
-use Rattle.hall_standings.specs.Halls.{HallDesksOf, IsStatus, ages_text, desks_wait}
+use Rattle.kept_mirror.specs.Mirrorings.{MirroringOf}
+use Rattle.hall_survey.specs.Halls.{HallDesksOf, IsStatus, ages_text, desks_wait}
 
 -- the title of the competition, the mirror with what keeps it up, the desks that are asked, and
 -- what the clock said when the mirror was kept up last
@@ -35,7 +35,7 @@ service_wait s now = min (desks_wait s.desks now) (wait_of s.mirroring.follower 
 abbrev pub path_of : Request (List ℕ) → List ℕ
 path_of request = uri_path (head_of request).uri
 
--- ---- how the desks stand
+-- ---- how the desks are
 
 -- GET and HEAD of a path
 abbrev pub asks_for : List ℕ → Request (List ℕ) → Bool
@@ -70,7 +70,7 @@ pub record ShowsPage (s : ServiceOf) (request : Request (List ℕ)) (response : 
   pub stands : IsPageAt s.title s.mirroring.entries (path_of request) page
   pub replies : Replies request page response
 
--- how the desks are, or when they were heard, where that is asked, else such a reply
+-- how the desks are, or when they were heard, where that is asked; else the reply for a page
 abbrev pub ShowsBy : (status ages : Bool) → ServiceOf → Request (List ℕ) → Response → Type 0
 ShowsBy true ages s request response = ShowsStatus s response
 ShowsBy false true s request response = ShowsAges s response

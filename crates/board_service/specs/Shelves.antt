@@ -2,8 +2,8 @@
 use Rattle.std.specs.Prelude.{◌≡◌, ◌⊎◌, ℕ, List, Option, None, Some}
 use Rattle.acceptor.specs.declared.entry.Entry.{Entry}
 use Rattle.indexmap.specs.IndexMap.{get_by_text}
-use Rattle.desk_sockets.specs.declared.desk_stream.Kept.{Kept}
-use Rattle.desk_sockets.specs.declared.desk_stream.Kept.TheVariants as kept
+use Rattle.desk_sockets.specs.declared.desk_stream.DialogueChange.{DialogueChange}
+use Rattle.desk_sockets.specs.declared.desk_stream.DialogueChange.TheVariants as kept
 use Rattle.markup.specs.declared.replies.page.Page.{Page}
 use Rattle.board_views.specs.Views.{IsPageAt}
 use Rattle.board_service.specs.declared.shelf.Shelf.{Shelf}
@@ -16,7 +16,7 @@ abbrev pub HasNone : Shelf → Type 0
 HasNone shelf = (path : List ℕ) → page_on shelf path ≡ None
 
 -- all pages are kept where the mirror holds what it held, else none
-abbrev pub IsRefreshed : Kept → Shelf → Shelf → Type 0
+abbrev pub IsRefreshed : DialogueChange → Shelf → Shelf → Type 0
 IsRefreshed kept.Same old new = new ≡ old
 IsRefreshed kept.Changed old new = HasNone new
 IsRefreshed kept.Broken old new = HasNone new

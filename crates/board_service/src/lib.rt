@@ -8,4 +8,4 @@ mod shelf;
 mod status;
 
 pub use service::BoardService;
-pub use serving::{End, PROGRAM, serve};
+pub use serving::{BoardEnd, PROGRAM, serve};

@@ -5,18 +5,18 @@ ghost use Rattle.board_views.specs.Views.{IsPageAt};
 ghost use Rattle.http_server.specs.Response.{IsBlank};
 ghost use Rattle.board_service.specs.Services.{ShowsAges, ShowsPage, ShowsStatus, asks_ages};
 ghost use Rattle.board_service.specs.Services.{asks_status, service, service_wait};
-ghost use Rattle.hall_standings.specs.Halls.{Differs, IsKept};
+ghost use Rattle.hall_survey.specs.Halls.{Differs, IsKept};
 
 use crate::shelf::Shelf;
 use crate::status::send_status;
 use board_views::page_at;
 use bytes::Bytes;
-use desk_sockets::{DeskStream, Kept};
-use hall_standings::HallDesks;
+use desk_sockets::{DeskStream, DialogueChange};
+use hall_survey::HallDesks;
 use http::{HeaderValue, Request};
 use http_server::{Response, Service};
+use kept_mirror::Mirroring;
 use markup::replies::{Page, is_read, reply};
-use mirroring::Mirroring;
 use std::alloc::{AllocError, Global};
 use std::marker::Model;
 use std::net::Net;
@@ -71,7 +71,7 @@ impl Model for BoardService {
 
 impl BoardService {
     /// A service over a mirror, for the competition of this title, and over the desks of a hall, at
-    /// the beginning of the time.
+    /// time 0.
     pub fn new(
         alloc: Global,
         title: String,
@@ -99,13 +99,17 @@ impl BoardService {
     }
 
     /// Does all for the mirror that can be done now over a connection to a desk, as
-    /// `DeskStream::keep` does it: it is so late now. Unless the mirror holds what it held, the
-    /// pages that were made are given up.
-    pub fn keep<R: Net + RandomSource>(&mut self, stream: &mut DeskStream<'_, R>, now: u64) -> Kept
+    /// `DeskStream::keep` does it, at this time. Unless the mirror holds what it held, the pages
+    /// that were made are given up.
+    pub fn keep<R: Net + RandomSource>(
+        &mut self,
+        stream: &mut DeskStream<'_, R>,
+        now: u64,
+    ) -> DialogueChange
         ensures title { self.new.title ≡ self.old.title }
         ensures desks { self.new.desks ≡ self.old.desks }
         ensures time { self.new.time ≡ now }
-        ensures same { result ≡ Kept.Same
+        ensures same { result ≡ DialogueChange.Same
             → self.new.mirroring.entries ≡ self.old.mirroring.entries }
     {
         let kept = stream.keep(&mut self.mirroring, now);

@@ -1,9 +1,9 @@
 //! The board: browsers are answered, and the mirror is kept up, as sockets become ready.
 
 use crate::service::BoardService;
-use desk_sockets::{DeskStream, Kept};
-use hall_standings::{AskedDesks, AskedStream, Hall, count_desks, lent_stream, tell_difference};
-use mirroring::Mirroring;
+use desk_sockets::{DeskStream, DialogueChange};
+use hall_survey::{AskedDesks, AskedStream, Hall, count_desks, lent_stream, tell_difference};
+use kept_mirror::Mirroring;
 use page_sockets::{BrowserSockets, address_of, round, say_where};
 use pages::Browsers;
 use std::alloc::Global;
@@ -21,8 +21,8 @@ const LONGEST_WAIT: u64 = 250;
 
 /// Why the board ended.
 #[derive(Clone, Copy, PartialEq, Eq, Debug)]
-pub enum End {
-    /// The system doesn't tell what is ready any more.
+pub enum BoardEnd {
+    /// The system doesn't say what is ready any more.
     Failed,
     /// Two desks of the hall reported different entries for one position.
     Broken,
@@ -39,7 +39,7 @@ fn tell_if_differs<F: Write>(service: &BoardService, faults: &mut F) -> bool {
     }
 }
 
-/// Serves until it can't go on, over the connection to the desk that is asked for its log, and
+/// Serves until it can't continue, over the connection to the desk that is asked for its log, and
 /// those to the desks that are asked how they are. Says what is wrong with their keys.
 fn serve_on<R: Net + RandomSource + Clock + Drop, F: Write>(
     browsers: &mut Browsers<BrowserSockets<'_, R>>,
@@ -47,13 +47,13 @@ fn serve_on<R: Net + RandomSource + Clock + Drop, F: Write>(
     followed: &mut DeskStream<'_, R>,
     asked: &mut Vec<AskedStream<'_, R>>,
     faults: &mut F,
-) -> End {
+) -> BoardEnd {
     let mut now = 0;
     let mut said = false;
     for _round in 0..u64::MAX {
         let wait = service.wait(now).min(LONGEST_WAIT);
         let Some(after) = round(browsers, service, wait) else {
-            return End::Failed;
+            return BoardEnd::Failed;
         };
         now = after;
         for place in 0..asked.len() {
@@ -63,15 +63,15 @@ fn serve_on<R: Net + RandomSource + Clock + Drop, F: Write>(
             }
         }
         said = said || tell_if_differs(service, faults);
-        if service.keep(followed, now) == Kept::Broken {
-            return End::Broken;
+        if service.keep(followed, now) == DialogueChange::Broken {
+            return BoardEnd::Broken;
         }
     }
-    End::Failed
+    BoardEnd::Failed
 }
 
 /// Says where it listens, and serves the pages of a hall under this title to these browsers until
-/// it can't go on. What is wrong with the key of a desk is said on a line of `faults`.
+/// it can't continue. What is wrong with the key of a desk is said on a line of `faults`.
 pub fn serve<'a, R: Net + RandomSource + Clock + Drop, W: Write, F: Write>(
     runtime: &'a R,
     alloc: Global,
@@ -80,7 +80,7 @@ pub fn serve<'a, R: Net + RandomSource + Clock + Drop, W: Write, F: Write>(
     browsers: &mut Browsers<BrowserSockets<'a, R>>,
     writer: &mut W,
     faults: &mut F,
-) -> io::Result<End> {
+) -> io::Result<BoardEnd> {
     let address = address_of(browsers)?;
     let AskedDesks { desks, streams } = AskedDesks::new(runtime, alloc, browsers, hall)?;
     let followed = lent_stream(runtime, alloc, browsers, 0, hall)?;

@@ -3,7 +3,7 @@
 ghost use Rattle.std.specs.Prelude.{◌≡◌, ◌<◌, ◌≤◌, IfOk};
 ghost use Rattle.indexmap.specs.IndexMap.{index_map_len};
 
-use desk_sockets::Kept;
+use desk_sockets::DialogueChange;
 use indexmap::IndexMap;
 use markup::replies::Page;
 use std::alloc::{AllocError, Global};
@@ -40,12 +40,12 @@ impl Shelf {
     }
 
     /// Gives all pages up, unless the mirror that they were made from holds what it held.
-    pub(crate) fn refresh(&mut self, kept: Kept)
+    pub(crate) fn refresh(&mut self, kept: DialogueChange)
         ensures { IsRefreshed kept self.old self.new }
     {
         match kept {
-            Kept::Same => {}
-            Kept::Changed | Kept::Broken => self.pages.clear(),
+            DialogueChange::Same => {}
+            DialogueChange::Changed | DialogueChange::Broken => self.pages.clear(),
         }
     }
 

@@ -73,8 +73,8 @@ pub(crate) fn sections_of(
     Ok(text)
 }
 
-/// The podiums of those of these rounds that are finals, as they are after this many commands, and
-/// a line that says so.
+/// The podiums of the finals among these rounds, as they are after this many commands, and a line
+/// that says this number.
 #[tactic(auto, unfolding(crate::specs::Views::podiums))]
 pub(crate) fn podiums_of(
     alloc: Global,

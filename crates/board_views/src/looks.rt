@@ -298,7 +298,7 @@ async function update() {
     const text = await answer.text();
     const page = new DOMParser().parseFromString(text, \"text/html\").querySelector(\"main\");
     if (!page) return;
-    if (positionOf(page) < positionOf(main())) return tell(\"The board has been behind\");
+    if (positionOf(page) < positionOf(main())) return tell(\"The board was behind\");
     since = null;
     good = new Date();
     tellHall(ages);

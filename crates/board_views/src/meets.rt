@@ -6,7 +6,7 @@ ghost use Rattle.commands.specs.History.{history};
 ghost use Rattle.board_views.specs.Rounds.{table_at};
 
 use acceptor::NoMemory;
-use answers::SheetFault;
+use answers::LogSheetFault;
 use commands::Meet;
 use mirror::Mirror;
 use sheets::Style;
@@ -40,8 +40,8 @@ pub(crate) fn table_at(
 {
     match mirror.sheet_at(alloc, position, id.event, id.round, Style::Table) {
         Ok(text) => Ok(Some(text)),
-        Err(SheetFault::NotThere) => Ok(None),
-        Err(SheetFault::NoSuchRound) => Ok(None),
-        Err(SheetFault::NoMemory) => Err(AllocError),
+        Err(LogSheetFault::NotThere) => Ok(None),
+        Err(LogSheetFault::NoSuchRound) => Ok(None),
+        Err(LogSheetFault::NoMemory) => Err(AllocError),
     }
 }

@@ -151,7 +151,7 @@ fn past(path: &[u8]) -> Option<(u32, &[u8])>
     Some((position as u32, name?))
 }
 
-/// The round that is at a path as it stood at a position.
+/// The round that is at a path, as it was at a position.
 fn past_round(path: &[u8]) -> Option<View>
     ensures some { IfSome result (λ view. StandsAt view path.now) }
     ensures round { result ≡ None → (position : ℕ) (id : RoundId)

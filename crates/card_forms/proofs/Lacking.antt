@@ -7,11 +7,11 @@ use Rattle.std.specs.Option.{ok_or}
 use Rattle.std.proofs.lemmas.Bool.{eqb-true, le-leb, leb-true}
 use Rattle.attempts.specs.declared.Unit.TheVariants as measure
 use Rattle.cube.specs.declared.moves.Move.{Move}
-use Rattle.cube.specs.declared.notation.reading.ReadFault.{ReadFault}
-use Rattle.cube.specs.declared.notation.reading.ReadFault.TheVariants as read
+use Rattle.cube.specs.declared.notation.reading.NotationFault.{NotationFault}
+use Rattle.cube.specs.declared.notation.reading.NotationFault.TheVariants as read
 use Rattle.cube.specs.notation.Notation.{IsUnlessNoMemory, Spells as SpellsMoves}
 use Rattle.formats.specs.declared.events.Event.{Event}
-use Rattle.scorecard.specs.declared.fault.CardFault.{CardFault}
+use Rattle.scorecard.specs.declared.fault.ScorecardFault.{ScorecardFault}
 use Rattle.scorecard.specs.Reading.{IsReadAs}
 use Rattle.scorecard.specs.Spelling.{Spells}
 use Rattle.texts.specs.declared.command.Entered.{Entered}
@@ -20,7 +20,7 @@ use Rattle.texts.specs.declared.table.FieldKind.{FieldKind}
 use Rattle.card_forms.specs.declared.command_faults.Field.TheVariants as field
 use Rattle.card_forms.specs.declared.command_faults.FieldFault.{FieldFault}
 use Rattle.card_forms.specs.declared.command_faults.FieldFault.TheVariants as at
-use Rattle.card_forms.specs.declared.command_faults.Wrong.TheVariants as wrong
+use Rattle.card_forms.specs.declared.command_faults.FieldError.TheVariants as wrong
 use Rattle.card_forms.specs.declared.pairs.Pair.{Pair}
 use Rattle.card_forms.specs.Asking.{HasLimit, HasMoves}
 use Rattle.card_forms.specs.Asking.{IsClock}
@@ -31,7 +31,7 @@ use Rattle.card_forms.specs.Faults.{said_of_event}
 
 -- ---- times
 
-pub clock_value : (text : List ℕ) (r : Result Entered CardFault)
+pub clock_value : (text : List ℕ) (r : Result Entered ScorecardFault)
     → ((x : Entered) → r ≡ Ok x → Spells measure.Time text x)
     → IfSome (clock_of r) (IsClock text)
 clock_value text (Ok (entered.Time time penalties)) found =
@@ -48,7 +48,7 @@ clock_value text (Ok (entered.Time time penalties)) found =
     by false none low so = tt
 clock_value text _ found = tt
 
-pub clock_lacks : (text : List ℕ) (r : Result Entered CardFault)
+pub clock_lacks : (text : List ℕ) (r : Result Entered ScorecardFault)
     → ((x : Entered) → Spells measure.Time text x → IsReadAs measure.Time x r)
     → clock_of r ≡ None → Lacks (IsClock text)
 clock_lacks text r only none time is = by (only (entered.Time time 0) is.0)
@@ -85,10 +85,10 @@ event_lacks pairs b is r lacks =
     (sym is) lacks
 
 module _ (pairs : List Pair) (text : List ℕ) (same : text ≡ value_in (codes "moves") pairs)
-    (r : Result (List Move) ReadFault)
+    (r : Result (List Move) NotationFault)
     (only : (moves : List Move) → SpellsMoves text moves → length moves ≤ 400
     → IsUnlessNoMemory r (Ok moves)) where
-  no_moves : (f : ReadFault) → r ≡ Err f → (f ≡ read.NoMemory → ⊥) → Lacks (HasMoves pairs)
+  no_moves : (f : NotationFault) → r ≡ Err f → (f ≡ read.NoMemory → ⊥) → Lacks (HasMoves pairs)
   no_moves f is other moves has =
       by (only moves (subst (λ (t : List ℕ). SpellsMoves t moves) (sym same) has.0) has.1)
     where
@@ -97,7 +97,7 @@ module _ (pairs : List Pair) (text : List ℕ) (same : text ≡ value_in (codes 
           absurd (let e : Err f ≡ Ok moves = sym is ∙ found in cc)
       by (inr none) = other (let e : Err f ≡ Err read.NoMemory = sym is ∙ none in cc)
 
-  pub moves_lacking : (f : ReadFault) → r ≡ Err f
+  pub moves_lacking : (f : NotationFault) → r ≡ Err f
       → LacksAs (HasMoves pairs) (field.Moves, wrong.NotMoves) (moves_fault f)
   moves_lacking read.NoMemory is = tt
   moves_lacking read.Empty is = (no_moves read.Empty is (λ e. absurd (cc)), refl)

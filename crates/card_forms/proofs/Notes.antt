@@ -8,7 +8,7 @@ use Rattle.std.proofs.lemmas.List.{append-nil}
 use Rattle.std.proofs.lemmas.List.Folds.{list_all-append}
 use Rattle.texts.proofs.Numerals.{bytes_eq-same}
 use Rattle.texts.specs.declared.command.Command.{Command}
-use Rattle.texts.specs.declared.command.Remarked.{Remarked}
+use Rattle.texts.specs.declared.command.RemarkedCommand.{RemarkedCommand}
 use Rattle.texts.specs.Fields.{cut}
 use Rattle.texts.specs.Names.{is_remark}
 use Rattle.texts.specs.Parts.{parts}
@@ -131,7 +131,7 @@ notes remark text told reads = step (may_note remark text) refl
         ap (lacks 35) (sym plain) ∙ last.1 in
         let takes : takes_remark_in (row_of (parts told.command).0) ≡ true =
         sym (takes_of told.command None) ∙ ap takes_remark (sym plain) ∙ last.0 in
-        let now : Remarked = record { command = told.command; remark = Some remark } in
+        let now : RemarkedCommand = record { command = told.command; remark = Some remark } in
         let whole : noted remark text ≡ told_spelling (record {
           command = told.command;
           remark = Some remark;

@@ -7,13 +7,13 @@ use Rattle.texts.specs.declared.table.FieldKind.{FieldKind}
 use Rattle.texts.specs.declared.value.FieldValue.{FieldValue}
 use Rattle.texts.specs.Parts.{made_of}
 use Rattle.texts.specs.Table.{TheRow, row_named}
-use Rattle.card_forms.specs.declared.asking.Asked.{Asked}
+use Rattle.card_forms.specs.declared.asking.UncheckedCommand.{UncheckedCommand}
 use Rattle.card_forms.specs.declared.asking.CommandForm.{CommandForm}
 use Rattle.card_forms.specs.declared.command_faults.CommandFormFault.{CommandFormFault}
 use Rattle.card_forms.specs.declared.command_faults.Field.TheVariants as field
 use Rattle.card_forms.specs.declared.command_faults.FieldFault.{FieldFault}
 use Rattle.card_forms.specs.declared.command_faults.FieldFault.TheVariants as at
-use Rattle.card_forms.specs.declared.command_faults.Wrong.TheVariants as wrong
+use Rattle.card_forms.specs.declared.command_faults.FieldError.TheVariants as wrong
 use Rattle.card_forms.specs.declared.pairs.Pair.{Pair}
 use Rattle.card_forms.specs.Asking.{AsksBy, FieldsAsk, HasAll, WordAsks}
 use Rattle.card_forms.specs.Asking.{field as value_in, has_form, has_round}
@@ -58,7 +58,8 @@ module _ (pairs : List Pair) where
         subst (IsSaid (IsWrongBy true pairs)) (sym is)
         (subst (λ (o : Option TheRow). IsWrongRow o pairs NoForm) (none ∙ ap row_named same) refl)
 
-    module _ (row : TheRow) (is : Some row ≡ row_named w) (r : Result Asked FieldFault) where
+    module _ (row : TheRow) (is : Some row ≡ row_named w)
+        (r : Result UncheckedCommand FieldFault) where
       pub row_asks : IfOk r (λ asked. WordAsks pairs w asked.text.items)
           → IfOk r (λ asked. FieldsAsk pairs asked.text.items)
       row_asks asks =
@@ -70,7 +71,8 @@ module _ (pairs : List Pair) where
         subst (λ (o : Option TheRow). IsTrue (may_be_asked o) × (it ≡ blamed_in o)) is
         (form, same-as)
 
-    pub row_blames : (row : TheRow) → Some row ≡ row_named w → (r : Result Asked FieldFault)
+    pub row_blames : (row : TheRow) → Some row ≡ row_named w
+        → (r : Result UncheckedCommand FieldFault)
         → IfOk r (λ asked. asked.blamed ≡ blamed row.fields)
         → IfOk r (λ asked. has_form row.tag ≡ true)
         → IfOk r (λ asked. Blames true pairs asked.blamed)
@@ -78,7 +80,8 @@ module _ (pairs : List Pair) where
         blames_by row (is ∙ ap row_named same) asked.blamed said form
     row_blames row is (Err f) said form = tt
 
-    pub row_wrong : (row : TheRow) → Some row ≡ row_named w → (r : Result Asked FieldFault)
+    pub row_wrong : (row : TheRow) → Some row ≡ row_named w
+        → (r : Result UncheckedCommand FieldFault)
         → IfErr r (IsSaid (IsWrongIf (has_form row.tag) pairs row.fields))
         → IfErr r (IsSaid (IsWrongBy true pairs))
     row_wrong row is (Ok asked) said = tt

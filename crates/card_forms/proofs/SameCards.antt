@@ -6,7 +6,7 @@ use Rattle.std.proofs.lemmas.Slice.Eq.{bytes_eq-Decides}
 use Rattle.texts.specs.declared.command.CardEntry.{CardEntry}
 use Rattle.texts.specs.declared.command.Command.{Command}
 use Rattle.texts.specs.declared.command.Command.TheVariants.{Card}
-use Rattle.texts.specs.declared.command.Remarked.{Remarked}
+use Rattle.texts.specs.declared.command.RemarkedCommand.{RemarkedCommand}
 use Rattle.texts.specs.declared.reading.CommandFault.{CommandFault}
 use Rattle.texts.specs.Parts.{card_values, parts}
 use Rattle.texts.specs.Reading.{command_of}
@@ -48,7 +48,7 @@ record IsCardText (text : List ℕ) (card : CardEntry) : Type 0 where
 text_of_card : (text : List ℕ) (card : CardEntry) → card_in text ≡ Some card → IsCardText text card
 text_of_card text card is = step (command_of text) refl is
   where
-    step : (r : Result Remarked CommandFault) → command_of text ≡ r → card_told r ≡ Some card
+    step : (r : Result RemarkedCommand CommandFault) → command_of text ≡ r → card_told r ≡ Some card
         → IsCardText text card
     step (Err why) reads is = absurd (cc)
     step (Ok told) reads is =
@@ -64,7 +64,7 @@ text_of_card text card is = step (command_of text) refl is
         }
 
 -- a card without a remark
-abbrev alone : CardEntry → Remarked
+abbrev alone : CardEntry → RemarkedCommand
 alone card = record { command = Card card; remark = None }
 
 fit_alone : (card : CardEntry) → IsFit (Card card) → IsFitTold (alone card)
@@ -73,7 +73,7 @@ fit_alone card fit = (fit, tt, spelling_short (Card card) fit)
 same_card : (c d : CardEntry) → IsFit (Card c) → IsFit (Card d)
     → spelling (Card c) ≡ spelling (Card d) → c ≡ d
 same_card c d fit fit' same =
-    ap (λ (told : Remarked). unwrap_or (card_of told.command) c)
+    ap (λ (told : RemarkedCommand). unwrap_or (card_of told.command) c)
     (spelled_once (alone c) (alone d) (fit_alone c fit) (fit_alone d fit') same)
 
 pub same_where : SameWhereTheCardIs

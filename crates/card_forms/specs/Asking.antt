@@ -15,7 +15,7 @@ use Rattle.cube.specs.declared.moves.Move.{Move}
 use Rattle.cube.specs.notation.Notation.{Spells as SpellsMoves}
 use Rattle.texts.specs.declared.command.Command.{Command}
 use Rattle.texts.specs.declared.command.Entered.TheVariants as entered
-use Rattle.texts.specs.declared.command.Remarked.{Remarked}
+use Rattle.texts.specs.declared.command.RemarkedCommand.{RemarkedCommand}
 use Rattle.texts.specs.declared.command.RoundId.{RoundId}
 use Rattle.texts.specs.declared.table.FieldKind.{FieldKind}
 use Rattle.texts.specs.declared.table.FieldKind.TheVariants as kind
@@ -36,7 +36,7 @@ use Rattle.card_forms.specs.Pairs.{value_of}
 -- a text is the spelling of a command whose fields are in their ranges, with its remark if it has
 -- one
 abbrev pub IsCommandText : List ℕ → Type 0
-IsCommandText text = (told : Remarked) × IsFitTold told × (text ≡ told_spelling told)
+IsCommandText text = (told : RemarkedCommand) × IsFitTold told × (text ≡ told_spelling told)
 
 -- ---- fields
 

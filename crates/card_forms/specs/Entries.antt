@@ -5,7 +5,7 @@ use Rattle.acceptor.specs.declared.entry.Entry.{Entry}
 use Rattle.texts.specs.declared.command.CardEntry.{CardEntry}
 use Rattle.texts.specs.declared.command.Command.{Command}
 use Rattle.texts.specs.declared.command.Command.TheVariants.{Card}
-use Rattle.texts.specs.declared.command.Remarked.{Remarked}
+use Rattle.texts.specs.declared.command.RemarkedCommand.{RemarkedCommand}
 use Rattle.texts.specs.declared.reading.CommandFault.{CommandFault}
 use Rattle.texts.specs.Names.{is_remark}
 use Rattle.texts.specs.Reading.{command_of}
@@ -23,7 +23,7 @@ abbrev pub remark_of : List ℕ → Option (List ℕ)
 remark_of bytes = if is_remark bytes then Some bytes else None
 
 -- a card with these bytes as its remark, where they are one
-abbrev pub remarked : CardEntry → List ℕ → Remarked
+abbrev pub remarked : CardEntry → List ℕ → RemarkedCommand
 remarked card bytes = record { command = Card card; remark = remark_of bytes }
 
 -- its text, without the remark where it would have more than 600 bytes
@@ -45,7 +45,7 @@ abbrev pub card_of : Command → Option CardEntry
 card_of (Card card) = Some card
 card_of _ = None
 
-abbrev pub card_told : Result Remarked CommandFault → Option CardEntry
+abbrev pub card_told : Result RemarkedCommand CommandFault → Option CardEntry
 card_told (Err why) = None
 card_told (Ok told) = card_of told.command
 

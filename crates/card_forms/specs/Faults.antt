@@ -6,11 +6,11 @@ use Rattle.std.specs.List.{list_any}
 use Rattle.std.specs.Option.{option_map}
 use Rattle.attempts.specs.declared.Unit.{Unit as Measure}
 use Rattle.attempts.specs.declared.Unit.TheVariants as measure
-use Rattle.cube.specs.declared.notation.reading.ReadFault.{ReadFault}
-use Rattle.cube.specs.declared.notation.reading.ReadFault.TheVariants as read
+use Rattle.cube.specs.declared.notation.reading.NotationFault.{NotationFault}
+use Rattle.cube.specs.declared.notation.reading.NotationFault.TheVariants as read
 use Rattle.formats.specs.declared.events.Event.{Event}
 use Rattle.formats.specs.Events.{event_of_name, unit_of}
-use Rattle.scorecard.specs.declared.fault.CardFault.{CardFault}
+use Rattle.scorecard.specs.declared.fault.ScorecardFault.{ScorecardFault}
 use Rattle.texts.specs.declared.command.Entered.{Entered}
 use Rattle.texts.specs.declared.command.Entered.TheVariants as entered
 use Rattle.texts.specs.declared.table.FieldKind.{FieldKind}
@@ -24,8 +24,8 @@ use Rattle.card_forms.specs.declared.command_faults.Field.{Field}
 use Rattle.card_forms.specs.declared.command_faults.Field.TheVariants as field
 use Rattle.card_forms.specs.declared.command_faults.FieldFault.{FieldFault}
 use Rattle.card_forms.specs.declared.command_faults.FieldFault.TheVariants as at
-use Rattle.card_forms.specs.declared.command_faults.Wrong.{Wrong}
-use Rattle.card_forms.specs.declared.command_faults.Wrong.TheVariants as wrong
+use Rattle.card_forms.specs.declared.command_faults.FieldError.{FieldError}
+use Rattle.card_forms.specs.declared.command_faults.FieldError.TheVariants as wrong
 use Rattle.card_forms.specs.declared.pairs.Pair.{Pair}
 use Rattle.card_forms.specs.Asking.{FieldsAsk, HasValue, IsCommandText, field as value_in, has_form}
 use Rattle.card_forms.specs.Asking.{has_round, the_round}
@@ -51,7 +51,7 @@ field_name field.Attempt = codes "attempt"
 field_name field.Moves = codes "moves"
 field_name field.Text = codes "text"
 
-abbrev pub wrong_words : Wrong → List ℕ
+abbrev pub wrong_words : FieldError → List ℕ
 wrong_words wrong.NoSuchCommand = codes "there is no such command"
 wrong_words (wrong.NotBetween low high) =
     codes "a number of " ++ decimal low ++ codes " to " ++ decimal high
@@ -68,7 +68,7 @@ wrong_words wrong.TooLong = codes "too long"
 
 -- a field of the form, and what is said of it
 abbrev pub Said : Type 0
-Said = Field × Wrong
+Said = Field × FieldError
 
 abbrev pub said_words : Said → List ℕ
 said_words it = field_name it.0 ++ codes ": " ++ wrong_words it.1
@@ -92,12 +92,12 @@ abbrev pub LacksAs : {T : Type 0} → (T → Type 0) → Said → FieldFault →
 LacksAs P said why = IsSaid (λ it. Lacks P × (it ≡ said)) why
 
 -- the fault of moves that are not read
-abbrev pub moves_fault : ReadFault → FieldFault
+abbrev pub moves_fault : NotationFault → FieldFault
 moves_fault read.NoMemory = at.NoMemory
 moves_fault _ = at.Wrong field.Moves wrong.NotMoves
 
 -- a time of at most an hour, without penalties
-abbrev pub clock_of : Result Entered CardFault → Option ℕ
+abbrev pub clock_of : Result Entered ScorecardFault → Option ℕ
 clock_of (Ok (entered.Time time penalties)) =
     if penalties == 0 && nat_le time 360000 then Some time else None
 clock_of _ = None

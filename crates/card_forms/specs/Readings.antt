@@ -14,8 +14,8 @@ use Rattle.texts.specs.declared.command.Entered.{Entered}
 use Rattle.texts.specs.Fields.{number_between}
 use Rattle.scorecard.specs.Spelling.{trimmed, Spells}
 use Rattle.scorecard.specs.Reading.{Reads}
-use Rattle.scorecard.specs.declared.fault.CardFault.{CardFault as FieldFault}
-use Rattle.scorecard.specs.declared.fault.CardFault.TheVariants as field
+use Rattle.scorecard.specs.declared.fault.ScorecardFault.{ScorecardFault as FieldFault}
+use Rattle.scorecard.specs.declared.fault.ScorecardFault.TheVariants as field
 use Rattle.card_forms.specs.declared.cards.CardForm.{CardForm}
 use Rattle.card_forms.specs.declared.faults.CardFault.{CardFault}
 use Rattle.card_forms.specs.declared.faults.CardFault.TheVariants as card
@@ -23,8 +23,8 @@ use Rattle.card_forms.specs.declared.faults.CardReading.{CardReading}
 use Rattle.card_forms.specs.declared.faults.CardReading.TheVariants as reading
 use Rattle.card_forms.specs.declared.faults.NumberFault.{NumberFault}
 use Rattle.card_forms.specs.declared.faults.NumberFault.TheVariants as number
-use Rattle.card_forms.specs.declared.reading.Said.{Said}
-use Rattle.card_forms.specs.declared.reading.Said.TheVariants as said
+use Rattle.card_forms.specs.declared.reading.FieldContent.{FieldContent}
+use Rattle.card_forms.specs.declared.reading.FieldContent.TheVariants as said
 
 -- ---- the number
 
@@ -64,27 +64,28 @@ is_untouched unit was filled place text =
     bytes_eq (trimmed text) (filled_at unit was filled place)
 
 -- a field that was not touched leaves what counts
-abbrev pub left_at : List Value → ℕ → Said
+abbrev pub left_at : List Value → ℕ → FieldContent
 left_at was place = if nat_lt place (length was) then said.Stays else said.Nothing
 
 -- what was typed says nothing, where it is empty, else what it spells
-abbrev pub SaysTyped : Measure → List ℕ → Said → Type 0
+abbrev pub SaysTyped : Measure → List ℕ → FieldContent → Type 0
 SaysTyped unit text said.Nothing = length (trimmed text) ≡ 0
 SaysTyped unit text said.Stays = ⊥
 SaysTyped unit text (said.Enters x) = Spells unit text x
 
-abbrev pub SaysBy : Bool → Measure → List Value → ℕ → List ℕ → Said → Type 0
+abbrev pub SaysBy : Bool → Measure → List Value → ℕ → List ℕ → FieldContent → Type 0
 SaysBy true unit was place text it = it ≡ left_at was place
 SaysBy false unit was place text it = SaysTyped unit text it
 
 -- what the field at a place says, where the page showed that these count, and filled its fields in
 -- with these texts
-abbrev pub Says : Measure → List Value → List (List ℕ) → ℕ → List ℕ → Said → Type 0
+abbrev pub Says : Measure → List Value → List (List ℕ) → ℕ → List ℕ → FieldContent → Type 0
 Says unit was filled place text it =
     SaysBy (is_untouched unit was filled place text) unit was place text it
 
 -- each field, from this place on, says what is at its place
-abbrev pub AllSay : Measure → List Value → List (List ℕ) → ℕ → List (List ℕ) → List Said → Type 0
+abbrev pub AllSay : Measure → List Value → List (List ℕ) → ℕ → List (List ℕ) → List FieldContent
+    → Type 0
 AllSay unit was filled place [] [] = Unit {0}
 AllSay unit was filled place (text ∷ texts) (it ∷ them) =
     Says unit was filled place text it × AllSay unit was filled (suc place) texts them
@@ -92,7 +93,7 @@ AllSay unit was filled place _ _ = ⊥
 
 -- ---- a card
 
-abbrev pub says_something : Said → Bool
+abbrev pub says_something : FieldContent → Bool
 says_something said.Nothing = false
 says_something said.Stays = true
 says_something (said.Enters x) = true
@@ -106,7 +107,7 @@ abbrev pub gap_in : List Bool → Option ℕ
 gap_in filled = option_and_then (gap_at filled) (position not filled)
 
 -- what is to count by a field: nothing, what counts, or what is entered
-abbrev pub stands_by : Said → List (Option Entered)
+abbrev pub stands_by : FieldContent → List (Option Entered)
 stands_by said.Nothing = []
 stands_by said.Stays = None ∷ []
 stands_by (said.Enters x) = Some x ∷ []
@@ -125,7 +126,7 @@ unfit_by None true = Some card.Nothing
 unfit_by None false = None
 
 -- the first cause why fields that say this are no card
-abbrev pub unfit : List Value → List Said → Option CardFault
+abbrev pub unfit : List Value → List FieldContent → Option CardFault
 unfit was says =
     unfit_by (gap_in (map says_something says)) (changes_nothing was (flat_map stands_by says))
 
@@ -134,7 +135,7 @@ pub record IsReadAs (form : CardForm) (entry : CardEntry) : Type 0 where
   pub id : entry.id ≡ form.round
   pub number : number_of form.number ≡ Ok entry.number
   pub was : entry.was ≡ form.was
-  pub says : List Said
+  pub says : List FieldContent
   pub all : AllSay (unit_of form.round.event) form.was form.filled 0 form.attempts says
   pub fit : unfit form.was says ≡ None
   pub now : entry.now ≡ flat_map stands_by says
@@ -148,10 +149,10 @@ FaultsAs unit text why = Reads unit text (Err why)
 
 -- what is wrong with a field: nothing, where it says something or is empty
 abbrev pub Faults : Measure → List Value → List (List ℕ) → ℕ → List ℕ → Option FieldFault → Type 0
-Faults unit was filled place text None = (it : Said) × Says unit was filled place text it
+Faults unit was filled place text None = (it : FieldContent) × Says unit was filled place text it
 Faults unit was filled place text (Some why) = FaultsAs unit text why
 
-abbrev pub fault_in : Result Said FieldFault → Option FieldFault
+abbrev pub fault_in : Result FieldContent FieldFault → Option FieldFault
 fault_in (Ok it) = None
 fault_in (Err why) = Some why
 
@@ -160,14 +161,14 @@ number_fault (Ok n) = None
 number_fault (Err why) = Some why
 
 -- fields that say this are no card, for this reason; or memory ran out
-abbrev pub IsUnfitAs : List Value → List Said → CardReading → Type 0
+abbrev pub IsUnfitAs : List Value → List FieldContent → CardReading → Type 0
 IsUnfitAs was says (reading.Unread u) = ⊥
 IsUnfitAs was says (reading.Unfit why) = unfit was says ≡ Some why
 IsUnfitAs was says reading.NoMemory = Unit {0}
 
 -- the fields say this, and are no card
 pub record IsUnfit (form : CardForm) (why : CardFault) : Type 0 where
-  pub says : List Said
+  pub says : List FieldContent
   pub all : AllSay (unit_of form.round.event) form.was form.filled 0 form.attempts says
   pub is : unfit form.was says ≡ Some why
 

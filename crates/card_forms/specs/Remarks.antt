@@ -2,7 +2,7 @@
 use Rattle.std.specs.Prelude.{◌≡◌, ℕ, ◌+◌, ◌==◌, ◌&&◌, Bool, true, not, if◌then◌else◌, bytes_eq}
 use Rattle.std.specs.Prelude.{codes, length, nat_le, List, ◌++◌, Ok}
 use Rattle.std.specs.List.{list_all}
-use Rattle.texts.specs.declared.command.Remarked.{Remarked}
+use Rattle.texts.specs.declared.command.RemarkedCommand.{RemarkedCommand}
 use Rattle.texts.specs.Fields.{cut, cut_remark}
 use Rattle.texts.specs.Names.{is_remark}
 use Rattle.texts.specs.Reading.{command_of}
@@ -36,12 +36,13 @@ abbrev pub noted : List ℕ → List ℕ → List ℕ
 noted remark text = if may_note remark text then text ++ codes " # " ++ remark else text
 
 -- what a text says that was noted is what it said, but for the remark
-pub record IsNoted (remark text : List ℕ) (told : Remarked) : Type 0 where
-  pub now : Remarked
+pub record IsNoted (remark text : List ℕ) (told : RemarkedCommand) : Type 0 where
+  pub now : RemarkedCommand
   pub reads : command_of (noted remark text) ≡ Ok now
   pub same : now.command ≡ told.command
   pub texts : is_same_but_remark (noted remark text) text ≡ true
 
 abbrev pub NotesTheCommand : Type 0
 NotesTheCommand =
-    (remark text : List ℕ) (told : Remarked) → command_of text ≡ Ok told → IsNoted remark text told
+    (remark text : List ℕ) (told : RemarkedCommand) → command_of text ≡ Ok told
+    → IsNoted remark text told

@@ -11,7 +11,7 @@ ghost use Rattle.card_forms.specs.Faults.{IsWrongIf, blamed, has_no_text, is_mov
 ghost use Rattle.card_forms.specs.Pairs.{value_of};
 
 use crate::cards::form_id_of;
-use crate::command_faults::{CommandFormFault, Field, FieldFault, Wrong};
+use crate::command_faults::{CommandFormFault, Field, FieldError, FieldFault};
 use crate::command_text::CommandText;
 use crate::form_id::FormId;
 use crate::pairs::Pairs;
@@ -30,9 +30,9 @@ pub struct CommandForm {
 }
 
 /// The text of a command, and the field that is to blame where it is no command.
-struct Asked {
+struct UncheckedCommand {
     text: Vec<u8>,
-    blamed: (Field, Wrong),
+    blamed: (Field, FieldError),
 }
 
 /// The commands that have a form; all others have none.
@@ -107,15 +107,15 @@ fn has_moves(kinds: &[FieldKind]) -> bool
 
 /// What is to blame where the text of a command of these fields is none, each of which has a value:
 /// its name, or else its moves.
-fn blamed(kinds: &[FieldKind]) -> (Field, Wrong)
+fn blamed(kinds: &[FieldKind]) -> (Field, FieldError)
     ensures { result ≡ blamed kinds.now }
 {
     if has_name(kinds) {
-        (Field::Name, Wrong::NotAName)
+        (Field::Name, FieldError::NotAName)
     } else if has_moves(kinds) {
-        (Field::Moves, Wrong::NotMoves)
+        (Field::Moves, FieldError::NotMoves)
     } else {
-        (Field::Command, Wrong::NotACommand)
+        (Field::Command, FieldError::NotACommand)
     }
 }
 
@@ -125,7 +125,7 @@ fn asked_by_row(
     pairs: &Pairs,
     word: &[u8],
     row: &CommandRow,
-) -> Result<Asked, FieldFault>
+) -> Result<UncheckedCommand, FieldFault>
     requires { row_named word.now ≡ Some (plain row.now) }
     ensures asks { IfOk result (λ asked. WordAsks pairs.now word.now asked.text.items) }
     ensures form { IfOk result (λ asked. has_form row.now.tag ≡ true) }
@@ -135,14 +135,14 @@ fn asked_by_row(
 {
     let command = command_of(alloc, word, row, pairs)?;
     let text = print(alloc, &command)?;
-    Ok(Asked {
+    Ok(UncheckedCommand {
         text,
         blamed: blamed(row.fields),
     })
 }
 
 /// The text of the command that the fields ask for.
-fn asked_by_fields(alloc: Global, pairs: &Pairs) -> Result<Asked, FieldFault>
+fn asked_by_fields(alloc: Global, pairs: &Pairs) -> Result<UncheckedCommand, FieldFault>
     ensures asks { IfOk result (λ asked. FieldsAsk pairs.now asked.text.items) }
     ensures blamed { IfOk result (λ asked. Blames true pairs.now asked.blamed) }
     ensures wrong { IfErr result (IsSaid (IsWrongBy true pairs.now)) }
@@ -155,7 +155,7 @@ fn asked_by_fields(alloc: Global, pairs: &Pairs) -> Result<Asked, FieldFault>
 }
 
 /// The text of the command that a form asks for.
-fn asked_by(alloc: Global, pairs: &Pairs) -> Result<Asked, FieldFault>
+fn asked_by(alloc: Global, pairs: &Pairs) -> Result<UncheckedCommand, FieldFault>
     ensures asks { IfOk result (λ asked. Asks pairs.now asked.text.items) }
     ensures blamed { IfOk result (λ asked. Blames (has_no_text pairs.now) pairs.now asked.blamed) }
     ensures wrong { IfErr result (IsSaid (IsWrong pairs.now)) }
@@ -165,29 +165,29 @@ fn asked_by(alloc: Global, pairs: &Pairs) -> Result<Asked, FieldFault>
         return asked_by_fields(alloc, pairs);
     }
     let text = Vec::from_slice(alloc, text)?;
-    Ok(Asked {
+    Ok(UncheckedCommand {
         text,
-        blamed: (Field::Text, Wrong::NotACommand),
+        blamed: (Field::Text, FieldError::NotACommand),
     })
 }
 
 /// The text, if it is a command.
-fn checked(alloc: Global, asked: Asked) -> Result<CommandText, FieldFault>
+fn checked(alloc: Global, asked: UncheckedCommand) -> Result<CommandText, FieldFault>
     ensures command { IfOk result IsCommandText }
     ensures same { IfOk result (λ text. text ≡ asked.text.items) }
     ensures wrong { IfErr result (IsSaid (IsNoCommand asked.blamed asked.text.items)) }
 {
-    let Asked { text, blamed } = asked;
+    let UncheckedCommand { text, blamed } = asked;
     let (field, why) = blamed;
     match read(alloc, &text) {
         Ok(_) => CommandText::new(text).ok_or(FieldFault::Wrong {
             field,
-            why: Wrong::TooLong,
+            why: FieldError::TooLong,
         }),
         Err(CommandFault::NoMemory) => Err(FieldFault::NoMemory),
         Err(CommandFault::TooLong) => Err(FieldFault::Wrong {
             field,
-            why: Wrong::TooLong,
+            why: FieldError::TooLong,
         }),
         Err(CommandFault::NotACommand | CommandFault::BadField { .. }) => {
             Err(FieldFault::Wrong { field, why })

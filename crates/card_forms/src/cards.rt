@@ -7,10 +7,10 @@ ghost use Rattle.card_forms.specs.Pairs.{value_of};
 use crate::faults::CardFormFault;
 use crate::form_id::FormId;
 use crate::pairs::Pairs;
-use crate::typed::{Fields, Typed};
+use crate::typed::{Fields, TypedText};
 use formats::{Event, LAST_ROUND};
 use std::alloc::{AllocError, Global};
-use texts::{RoundId, Was, cut, number_between, was_of};
+use texts::{RoundId, SeenValues, cut, number_between, was_of};
 
 /// What a scoretaker sends for a card, as it was typed.
 #[derive(Drop)]
@@ -18,9 +18,9 @@ pub struct CardForm {
     pub id: FormId,
     pub round: RoundId,
     /// The competitor's number.
-    pub number: Typed,
+    pub number: TypedText,
     /// What the page showed that the attempts count.
-    pub was: Was,
+    pub was: SeenValues,
     /// What the page filled the fields in with; empty where that is what the attempt counts.
     pub filled: Fields,
     pub attempts: Fields,
@@ -44,10 +44,10 @@ pub fn round_of(bytes: &[u8]) -> Option<RoundId>
 }
 
 /// The value of a name, as it was typed.
-fn typed(alloc: Global, pairs: &Pairs, name: &str) -> Result<Typed, AllocError>
+fn typed(alloc: Global, pairs: &Pairs, name: &str) -> Result<TypedText, AllocError>
     ensures { IfOk result (λ text. text ≡ value_of name.now pairs.now) }
 {
-    Typed::copy_of(alloc, pairs.value(name))
+    TypedText::copy_of(alloc, pairs.value(name))
 }
 
 /// The fields of the attempts.

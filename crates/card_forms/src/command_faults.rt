@@ -75,7 +75,7 @@ fn name_of(field: Field) -> &'static str
 
 /// What is wrong with a field of a command's form. Its text is a few words for the scoretaker.
 #[derive(Clone, Copy, Debug, PartialEq, Eq)]
-pub enum Wrong {
+pub enum FieldError {
     /// The word is no command's, or the command has no form.
     NoSuchCommand,
     /// It is no number of this range.
@@ -100,7 +100,7 @@ pub enum Wrong {
     TooLong,
 }
 
-impl fmt::Display for Wrong {
+impl fmt::Display for FieldError {
     ghost use Rattle.std.specs.Prelude.{Some};
     ghost use Rattle.card_forms.specs.Faults.{wrong_words};
 
@@ -108,22 +108,22 @@ impl fmt::Display for Wrong {
 
     fn fmt<W: fmt::Write>(&self, f: &mut fmt::Formatter<W>) -> fmt::Result {
         match self {
-            Wrong::NoSuchCommand => f.write_str("there is no such command"),
-            Wrong::NotBetween { low, high } => {
+            FieldError::NoSuchCommand => f.write_str("there is no such command"),
+            FieldError::NotBetween { low, high } => {
                 f.write_str("a number of ")?;
                 low.fmt(f)?;
                 f.write_str(" to ")?;
                 high.fmt(f)
             }
-            Wrong::NotAName => f.write_str(NAME_WORDS),
-            Wrong::NotAnEvent => f.write_str("there is no such event"),
-            Wrong::NotARound => f.write_str("there is no such round"),
-            Wrong::NotAFormat => f.write_str("there is no such format"),
-            Wrong::NotATime => f.write_str("a time is like 10.43 or 1:02.33"),
-            Wrong::NotAnAdvance => f.write_str("top, pct or final"),
-            Wrong::NotMoves => f.write_str("moves are like R U' F2 Rw x"),
-            Wrong::NotACommand => f.write_str("this is no command"),
-            Wrong::TooLong => f.write_str("too long"),
+            FieldError::NotAName => f.write_str(NAME_WORDS),
+            FieldError::NotAnEvent => f.write_str("there is no such event"),
+            FieldError::NotARound => f.write_str("there is no such round"),
+            FieldError::NotAFormat => f.write_str("there is no such format"),
+            FieldError::NotATime => f.write_str("a time is like 10.43 or 1:02.33"),
+            FieldError::NotAnAdvance => f.write_str("top, pct or final"),
+            FieldError::NotMoves => f.write_str("moves are like R U' F2 Rw x"),
+            FieldError::NotACommand => f.write_str("this is no command"),
+            FieldError::TooLong => f.write_str("too long"),
         }
     }
 }
@@ -140,7 +140,7 @@ pub enum CommandFormFault {
     BadId,
     /// A field is wrong: the first one, in the order of the command's fields.
     #[error("{field}: {why}")]
-    Wrong { field: Field, why: Wrong },
+    Wrong { field: Field, why: FieldError },
     /// Memory ran out.
     #[error("no memory")]
     NoMemory,
@@ -164,7 +164,7 @@ impl From<FieldFault> for CommandFormFault {
 #[derive(Clone, Copy)]
 pub(crate) enum FieldFault {
     /// A field is wrong: the first one, in the order of the command's fields.
-    Wrong { field: Field, why: Wrong },
+    Wrong { field: Field, why: FieldError },
     /// Memory ran out.
     NoMemory,
 }
@@ -173,7 +173,7 @@ impl FieldFault {
     /// The word is none of a command that has a form.
     pub(crate) const NO_FORM: FieldFault = FieldFault::Wrong {
         field: Field::Command,
-        why: Wrong::NoSuchCommand,
+        why: FieldError::NoSuchCommand,
     };
 }
 

@@ -12,11 +12,11 @@ ghost use Rattle.card_forms.specs.Faults.{said_of_event};
 ghost use Rattle.texts.specs.Fields.{number_between};
 
 use crate::cards::round_of;
-use crate::command_faults::{Field, FieldFault, Wrong};
+use crate::command_faults::{Field, FieldError, FieldFault};
 use crate::pairs::Pairs;
 use crate::reading::trimmed;
 use attempts::Unit;
-use cube::notation::{Moves, ReadFault};
+use cube::notation::{Moves, NotationFault};
 use formats::{Advance, Event, Format, MOST_ENTRANTS, unit_of};
 use scorecard::read;
 use std::alloc::{AllocError, Global};
@@ -26,7 +26,7 @@ use texts::{Entered, Name, RoundId, number_between};
 const MOST_TIME: u32 = 360_000;
 
 /// The fault of a field.
-fn wrong(field: Field, why: Wrong) -> FieldFault
+fn wrong(field: Field, why: FieldError) -> FieldFault
     ensures { result ≡ FieldFault.Wrong field why }
 {
     FieldFault::Wrong { field, why }
@@ -36,13 +36,14 @@ fn wrong(field: Field, why: Wrong) -> FieldFault
 fn number(pairs: &Pairs, name: &str, field: Field, low: u32, high: u32) -> Result<u32, FieldFault>
     ensures value { IfOk result (HasNumber name.now low high pairs.now) }
     ensures within { IfOk result (λ number. (low ≤ number) × (number ≤ high)) }
-    ensures wrong { IfErr result (λ why. (why ≡ FieldFault.Wrong field (Wrong.NotBetween low high))
+    ensures wrong { IfErr result
+        (λ why. (why ≡ FieldFault.Wrong field (FieldError.NotBetween low high))
         × (number_between low high (value_in name.now pairs.now) ≡ None)) }
 {
     let text = trimmed(pairs.value(name));
     match number_between(u64::from(low), u64::from(high), text) {
         Some(number) => Ok(number as u32),
-        None => Err(wrong(field, Wrong::NotBetween { low, high })),
+        None => Err(wrong(field, FieldError::NotBetween { low, high })),
     }
 }
 
@@ -50,7 +51,7 @@ fn number(pairs: &Pairs, name: &str, field: Field, low: u32, high: u32) -> Resul
 pub(crate) fn competitor(pairs: &Pairs) -> Result<u16, FieldFault>
     ensures value { IfOk result (HasCompetitor pairs.now) }
     ensures lacks { IfErr result
-        (λ why. (why ≡ FieldFault.Wrong Field.Number (Wrong.NotBetween 1 9999))
+        (λ why. (why ≡ FieldFault.Wrong Field.Number (FieldError.NotBetween 1 9999))
         × (number_between 1 9999 (value_in (codes "number") pairs.now) ≡ None)) }
 {
     Ok(number(pairs, "number", Field::Number, 1, 9_999)? as u16)
@@ -60,7 +61,7 @@ pub(crate) fn competitor(pairs: &Pairs) -> Result<u16, FieldFault>
 pub(crate) fn attempt(pairs: &Pairs) -> Result<u8, FieldFault>
     ensures value { IfOk result (HasAttempt pairs.now) }
     ensures lacks { IfErr result
-        (λ why. (why ≡ FieldFault.Wrong Field.Attempt (Wrong.NotBetween 1 5))
+        (λ why. (why ≡ FieldFault.Wrong Field.Attempt (FieldError.NotBetween 1 5))
         × (number_between 1 5 (value_in (codes "attempt") pairs.now) ≡ None)) }
 {
     Ok(number(pairs, "attempt", Field::Attempt, 1, 5)? as u8)
@@ -75,13 +76,13 @@ pub(crate) fn name(alloc: Global, pairs: &Pairs) -> Result<Name, AllocError>
 }
 
 /// The fault of moves that are not read.
-fn moves_fault(fault: ReadFault) -> FieldFault
+fn moves_fault(fault: NotationFault) -> FieldFault
     ensures { result ≡ moves_fault fault }
 {
     match fault {
-        ReadFault::NoMemory => FieldFault::NoMemory,
-        ReadFault::Empty | ReadFault::BadToken { .. } | ReadFault::TooMany => {
-            wrong(Field::Moves, Wrong::NotMoves)
+        NotationFault::NoMemory => FieldFault::NoMemory,
+        NotationFault::Empty | NotationFault::BadToken { .. } | NotationFault::TooMany => {
+            wrong(Field::Moves, FieldError::NotMoves)
         }
     }
 }
@@ -89,7 +90,7 @@ fn moves_fault(fault: ReadFault) -> FieldFault
 /// The moves of a scramble.
 pub(crate) fn moves(alloc: Global, pairs: &Pairs) -> Result<Moves, FieldFault>
     ensures value { IfOk result (HasMoves pairs.now) }
-    ensures lacks { IfErr result (LacksAs (HasMoves pairs.now) (Field.Moves, Wrong.NotMoves)) }
+    ensures lacks { IfErr result (LacksAs (HasMoves pairs.now) (Field.Moves, FieldError.NotMoves)) }
 {
     match cube::notation::read(alloc, trimmed(pairs.value("moves"))) {
         Ok(moves) => Ok(moves),
@@ -100,11 +101,11 @@ pub(crate) fn moves(alloc: Global, pairs: &Pairs) -> Result<Moves, FieldFault>
 /// The round.
 pub(crate) fn round(pairs: &Pairs) -> Result<RoundId, FieldFault>
     ensures value { IfOk result (HasRound pairs.now) }
-    ensures lacks { IfErr result (λ why. (why ≡ FieldFault.Wrong Field.Round Wrong.NotARound)
+    ensures lacks { IfErr result (λ why. (why ≡ FieldFault.Wrong Field.Round FieldError.NotARound)
         × (the_round pairs.now ≡ None)) }
 {
     let text = trimmed(pairs.value("round"));
-    round_of(text).ok_or(wrong(Field::Round, Wrong::NotARound))
+    round_of(text).ok_or(wrong(Field::Round, FieldError::NotARound))
 }
 
 /// The event: of the round, where the command has one.
@@ -117,21 +118,21 @@ pub(crate) fn event(pairs: &Pairs, by_round: bool) -> Result<Event, FieldFault>
         return Ok(round(pairs)?.event);
     }
     let text = trimmed(pairs.value("event"));
-    Event::from_name(text).ok_or(wrong(Field::Event, Wrong::NotAnEvent))
+    Event::from_name(text).ok_or(wrong(Field::Event, FieldError::NotAnEvent))
 }
 
 /// The format.
 pub(crate) fn format(pairs: &Pairs) -> Result<Format, FieldFault>
     ensures value { IfOk result (HasFormat pairs.now) }
-    ensures lacks { IfErr result (λ why. (why ≡ FieldFault.Wrong Field.Format Wrong.NotAFormat)
+    ensures lacks { IfErr result (λ why. (why ≡ FieldFault.Wrong Field.Format FieldError.NotAFormat)
         × (format_named (value_in (codes "format") pairs.now) ≡ None)) }
 {
     let text = trimmed(pairs.value("format"));
-    Format::from_name(text).ok_or(wrong(Field::Format, Wrong::NotAFormat))
+    Format::from_name(text).ok_or(wrong(Field::Format, FieldError::NotAFormat))
 }
 
 /// The hundredths of a second of a time of at most an hour without penalties, where that was read.
-fn clock_of(read: Result<Entered, scorecard::CardFault>) -> Option<u32>
+fn clock_of(read: Result<Entered, scorecard::ScorecardFault>) -> Option<u32>
     ensures { result ≡ clock_of read }
 {
     match read {
@@ -169,11 +170,11 @@ fn is_none(text: &[u8]) -> bool
 /// A time that an attempt has to be below.
 fn time_below(alloc: Global, text: &[u8]) -> Result<u32, FieldFault>
     ensures value { IfOk result (IsClock text.now) }
-    ensures lacks { IfErr result (LacksAs (IsClock text.now) (Field.Cutoff, Wrong.NotATime)) }
+    ensures lacks { IfErr result (LacksAs (IsClock text.now) (Field.Cutoff, FieldError.NotATime)) }
 {
     match clock(alloc, text) {
         Some(time) => Ok(time),
-        None => Err(wrong(Field::Cutoff, Wrong::NotATime)),
+        None => Err(wrong(Field::Cutoff, FieldError::NotATime)),
     }
 }
 
@@ -181,12 +182,12 @@ fn time_below(alloc: Global, text: &[u8]) -> Result<u32, FieldFault>
 fn number_below(text: &[u8]) -> Result<u32, FieldFault>
     ensures value { IfOk result (IsNumberBelow text.now) }
     ensures lacks { IfErr result
-        (LacksAs (IsNumberBelow text.now) (Field.Cutoff, Wrong.NotBetween 1 360000)) }
+        (LacksAs (IsNumberBelow text.now) (Field.Cutoff, FieldError.NotBetween 1 360000)) }
 {
     let high = MOST_TIME;
     match number_between(1, u64::from(high), text) {
         Some(number) => Ok(number as u32),
-        None => Err(wrong(Field::Cutoff, Wrong::NotBetween { low: 1, high })),
+        None => Err(wrong(Field::Cutoff, FieldError::NotBetween { low: 1, high })),
     }
 }
 
@@ -224,7 +225,7 @@ pub(crate) fn cutoff(
 /// The time limit: none where nothing or `-` is written.
 pub(crate) fn limit(alloc: Global, pairs: &Pairs) -> Result<Option<u32>, FieldFault>
     ensures value { IfOk result (HasLimit pairs.now) }
-    ensures lacks { IfErr result (LacksAs (HasLimit pairs.now) (Field.Limit, Wrong.NotATime)) }
+    ensures lacks { IfErr result (LacksAs (HasLimit pairs.now) (Field.Limit, FieldError.NotATime)) }
 {
     let text = trimmed(pairs.value("limit"));
     if is_none(text) {
@@ -232,7 +233,7 @@ pub(crate) fn limit(alloc: Global, pairs: &Pairs) -> Result<Option<u32>, FieldFa
     }
     match clock(alloc, text) {
         Some(limit) => Ok(Some(limit)),
-        None => Err(wrong(Field::Limit, Wrong::NotATime)),
+        None => Err(wrong(Field::Limit, FieldError::NotATime)),
     }
 }
 
@@ -251,6 +252,6 @@ pub(crate) fn advance(pairs: &Pairs) -> Result<Advance, FieldFault>
     } else if text == b"pct".as_slice() {
         Ok(Advance::Percent(number(pairs, "amount", Field::Amount, 1, 75)? as u8))
     } else {
-        Err(wrong(Field::Advance, Wrong::NotAnAdvance))
+        Err(wrong(Field::Advance, FieldError::NotAnAdvance))
     }
 }

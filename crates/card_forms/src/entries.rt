@@ -12,7 +12,8 @@ use crate::form_id::FormId;
 use acceptor::entry::{Entry, EntryFault};
 use std::alloc::{AllocError, Global};
 use texts::{
-    CardEntry, Command, CommandFault, Name, Remarked, is_clear_name, print, print_remarked, read,
+    CardEntry, Command, CommandFault, Name, RemarkedCommand, is_clear_name, print, print_remarked,
+    read,
 };
 
 /// The most bytes of a command's text.
@@ -49,7 +50,7 @@ fn remark_of(alloc: Global, bytes: &[u8]) -> Result<Option<Name>, AllocError>
 fn card_text(alloc: Global, card: CardEntry, remark: &[u8]) -> Result<Vec<u8>, AllocError>
     ensures { IfOk result (λ text. text.items ≡ card_text card remark.now) }
 {
-    let told = Remarked {
+    let told = RemarkedCommand {
         command: Command::Card(card),
         remark: remark_of(alloc, remark)?,
     };

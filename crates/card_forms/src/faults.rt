@@ -45,11 +45,11 @@ pub enum NumberFault {
 
 /// What is wrong with the fields of a card, each apart from the others: at least one is not read.
 #[derive(Clone, Copy, Debug, PartialEq, Eq)]
-pub struct Unread {
+pub struct FieldFaults {
     /// What is wrong with the competitor's number.
     pub number: Option<NumberFault>,
     /// What is wrong with the fields of the five attempts, in order.
-    pub attempts: [Option<scorecard::CardFault>; 5],
+    pub attempts: [Option<scorecard::ScorecardFault>; 5],
 }
 
 /// Why fields that are read, each by itself, are no card.
@@ -70,7 +70,7 @@ pub enum CardFault {
 #[derive(Clone, Copy, Debug, PartialEq, Eq)]
 pub enum CardReading {
     /// These are wrong.
-    Unread(Unread),
+    Unread(FieldFaults),
     /// Each is read, and together they are no card.
     Unfit(CardFault),
     /// Memory ran out.

@@ -23,13 +23,13 @@ mod values;
 
 pub use asking::{CommandForm, command_form};
 pub use cards::{CardForm, card_form, form_id_of, round_of};
-pub use command_faults::{CommandFormFault, Field, Wrong};
+pub use command_faults::{CommandFormFault, Field, FieldError};
 pub use command_text::CommandText;
 pub use command_texts::CommandTexts;
 pub use entries::{card_entry, card_in, command_entries, same_where_the_card_is};
-pub use faults::{CardFault, CardFormFault, CardReading, NumberFault, Unread};
+pub use faults::{CardFault, CardFormFault, CardReading, FieldFaults, NumberFault};
 pub use form_id::FormId;
 pub use pairs::{Pair, Pairs};
 pub use reading::{card_of, is_untouched, number_of, text_at};
 pub use remarks::{is_same_but_remark, noted, remark_alone_is_added};
-pub use typed::{Fields, Typed};
+pub use typed::{Fields, TypedText};

@@ -2,7 +2,7 @@
 
 ghost use Rattle.std.specs.Prelude.{◌≡◌};
 
-use crate::typed::Typed;
+use crate::typed::TypedText;
 use form_urlencoded::parse;
 use std::alloc::{AllocError, Global};
 use std::marker::Model;
@@ -10,8 +10,8 @@ use std::marker::Model;
 /// A name of a form and its value.
 #[derive(Drop)]
 pub struct Pair {
-    pub name: Typed,
-    pub value: Typed,
+    pub name: TypedText,
+    pub value: TypedText,
 }
 
 /// The names and values of a form, in order. A contract sees a list of pairs.
@@ -41,8 +41,8 @@ impl Pairs {
         let mut pairs = Vec::new(alloc);
         for pair in parse(alloc, body) {
             let (name, value) = pair?;
-            let name = Typed::copy_of(alloc, name.as_bytes())?;
-            let value = Typed::copy_of(alloc, value.as_bytes())?;
+            let name = TypedText::copy_of(alloc, name.as_bytes())?;
+            let value = TypedText::copy_of(alloc, value.as_bytes())?;
             pairs.push(Pair { name, value })?;
         }
         Ok(Pairs { pairs })

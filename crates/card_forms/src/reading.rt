@@ -13,17 +13,17 @@ ghost use Rattle.card_forms.specs.Readings.{Faults, Says, SaysTyped, IsReadAs, I
 ghost use Rattle.card_forms.specs.Readings.{IsUnfitAs};
 
 use crate::cards::CardForm;
-use crate::faults::{CardFault, CardReading, NumberFault, Unread};
-use crate::typed::Typed;
+use crate::faults::{CardFault, CardReading, FieldFaults, NumberFault};
+use crate::typed::TypedText;
 use attempts::{Unit, Value, print_value};
 use formats::{Event, unit_of};
 use scorecard::read;
 use std::alloc::{AllocError, Global};
-use texts::{CardEntry, Entered, Now, Was, number_between};
+use texts::{CardEntry, Entered, NewAttempts, SeenValues, number_between};
 
 /// What a field of a card says.
 #[derive(Drop)]
-pub(crate) enum Said {
+pub(crate) enum FieldContent {
     /// Nothing: it is empty.
     Nothing,
     /// What counts: it is as the page showed it.
@@ -61,7 +61,7 @@ pub fn number_of(text: &[u8]) -> Result<u16, NumberFault>
 }
 
 /// The text that a page filled a field in with, where it carries one.
-pub fn text_at(filled: &[Typed], place: usize) -> &[u8]
+pub fn text_at(filled: &[TypedText], place: usize) -> &[u8]
     ensures { result.now ≡ text_at filled.now place }
 {
     match filled.get(place) {
@@ -88,7 +88,7 @@ fn filled_at(
     alloc: Global,
     unit: Unit,
     was: &[Value],
-    filled: &[Typed],
+    filled: &[TypedText],
     place: usize,
 ) -> Result<Vec<u8>, AllocError>
     ensures { IfOk result (λ text. text.items ≡ filled_at unit was.now filled.now place) }
@@ -105,7 +105,7 @@ pub fn is_untouched(
     alloc: Global,
     unit: Unit,
     was: &[Value],
-    filled: &[Typed],
+    filled: &[TypedText],
     place: usize,
     text: &[u8],
 ) -> Result<bool, AllocError>
@@ -116,26 +116,30 @@ pub fn is_untouched(
 }
 
 /// What a field leaves that was not touched.
-fn left_at(was: &[Value], place: usize) -> Said
+fn left_at(was: &[Value], place: usize) -> FieldContent
     ensures { result ≡ left_at was.now place }
 {
     if place < was.len() {
-        Said::Stays
+        FieldContent::Stays
     } else {
-        Said::Nothing
+        FieldContent::Nothing
     }
 }
 
 /// What was typed into a field.
-fn typed_of(alloc: Global, event: Event, text: &[u8]) -> Result<Said, scorecard::CardFault>
+fn typed_of(
+    alloc: Global,
+    event: Event,
+    text: &[u8],
+) -> Result<FieldContent, scorecard::ScorecardFault>
     ensures says { IfOk result (SaysTyped (unit_of event) text.now) }
     ensures faults { IfErr result (λ why. Faults (unit_of event) [] [] 0 text.now (Some why)) }
 {
     if trimmed(text).is_empty() {
-        return Ok(Said::Nothing);
+        return Ok(FieldContent::Nothing);
     }
     match read(alloc, event, text) {
-        Ok(entered) => Ok(Said::Enters(entered)),
+        Ok(entered) => Ok(FieldContent::Enters(entered)),
         Err(fault) => Err(fault),
     }
 }
@@ -146,10 +150,10 @@ fn said_at(
     alloc: Global,
     event: Event,
     was: &[Value],
-    filled: &[Typed],
+    filled: &[TypedText],
     place: usize,
     text: &[u8],
-) -> Result<Said, scorecard::CardFault>
+) -> Result<FieldContent, scorecard::ScorecardFault>
     ensures says { IfOk result (Says (unit_of event) was.now filled.now place text.now) }
     ensures faults { IfErr result
         (λ why. Faults (unit_of event) was.now filled.now place text.now (Some why)) }
@@ -157,12 +161,14 @@ fn said_at(
     match is_untouched(alloc, unit_of(event), was, filled, place, text) {
         Ok(true) => Ok(left_at(was, place)),
         Ok(false) => typed_of(alloc, event, text),
-        Err(_) => Err(scorecard::CardFault::NoMemory),
+        Err(_) => Err(scorecard::ScorecardFault::NoMemory),
     }
 }
 
 /// What is wrong with a field.
-fn fault_of(field: &Result<Said, scorecard::CardFault>) -> Option<scorecard::CardFault>
+fn fault_of(
+    field: &Result<FieldContent, scorecard::ScorecardFault>,
+) -> Option<scorecard::ScorecardFault>
     ensures { result ≡ fault_in field.now }
 {
     match field {
@@ -182,12 +188,12 @@ fn number_fault(number: Result<u16, NumberFault>) -> Option<NumberFault>
 }
 
 /// Whether a field says something.
-fn says_something(said: &Said) -> bool
+fn says_something(said: &FieldContent) -> bool
     ensures { result ≡ says_something said.now }
 {
     match said {
-        Said::Nothing => false,
-        Said::Stays | Said::Enters(_) => true,
+        FieldContent::Nothing => false,
+        FieldContent::Stays | FieldContent::Enters(_) => true,
     }
 }
 
@@ -220,16 +226,16 @@ fn gap_in(filled: &[bool]) -> Option<u8>
 }
 
 /// Adds what is to count by a field.
-fn push_said(now: &mut Vec<Option<Entered>>, said: Said) -> Result<(), AllocError>
+fn push_said(now: &mut Vec<Option<Entered>>, said: FieldContent) -> Result<(), AllocError>
     ensures { OnOk result (now.new.items ≡ now.old.items ++ stands_by said) }
 {
     match said {
-        Said::Nothing => Ok(()),
-        Said::Stays => {
+        FieldContent::Nothing => Ok(()),
+        FieldContent::Stays => {
             now.push(None)?;
             Ok(())
         }
-        Said::Enters(entered) => {
+        FieldContent::Enters(entered) => {
             now.push(Some(entered))?;
             Ok(())
         }
@@ -270,12 +276,12 @@ fn unfit_by(gap: Option<u8>, idle: bool) -> Option<CardFault>
 }
 
 /// Whether memory ran out for one of the fields.
-fn lacks_memory(faults: &[Option<scorecard::CardFault>; 5]) -> bool {
-    faults.contains(&Some(scorecard::CardFault::NoMemory))
+fn lacks_memory(faults: &[Option<scorecard::ScorecardFault>; 5]) -> bool {
+    faults.contains(&Some(scorecard::ScorecardFault::NoMemory))
 }
 
 /// The fault of a card some of whose fields are not read.
-fn refused(faults: Unread) -> CardReading
+fn refused(faults: FieldFaults) -> CardReading
     ensures { (result ≡ CardReading.Unread faults) ⊎ (result ≡ CardReading.NoMemory) }
 {
     if lacks_memory(&faults.attempts) {
@@ -289,12 +295,12 @@ fn refused(faults: Unread) -> CardReading
 fn now_of(
     alloc: Global,
     was: &[Value],
-    first: Said,
-    second: Said,
-    third: Said,
-    fourth: Said,
-    fifth: Said,
-) -> Result<Now, CardReading>
+    first: FieldContent,
+    second: FieldContent,
+    third: FieldContent,
+    fourth: FieldContent,
+    fifth: FieldContent,
+) -> Result<NewAttempts, CardReading>
     ensures now { IfOk result (λ now. now
         ≡ flat_map stands_by (first ∷ second ∷ third ∷ fourth ∷ fifth ∷ [])) }
     ensures fit { IfOk result (λ now.
@@ -317,16 +323,16 @@ fn now_of(
     push_said(&mut now, fifth)?;
     match unfit_by(gap_in(&filled), changes_nothing(was, &now)) {
         Some(fault) => Err(CardReading::Unfit(fault)),
-        None => Ok(Now::new(now)),
+        None => Ok(NewAttempts::new(now)),
     }
 }
 
 /// A copy of what the page showed.
-fn was_again(alloc: Global, was: &Was) -> Result<Was, AllocError>
+fn was_again(alloc: Global, was: &SeenValues) -> Result<SeenValues, AllocError>
     ensures { IfOk result (λ again. again ≡ was.now) }
 {
     let values = Vec::from_slice(alloc, was.as_slice())?;
-    Ok(Was::new(values))
+    Ok(SeenValues::new(values))
 }
 
 /// The card that a form says, over what its page showed; or what is wrong with each of its fields,
@@ -347,7 +353,7 @@ pub fn card_of(alloc: Global, form: &CardForm) -> Result<CardEntry, CardReading>
     let third = said_at(alloc, event, was, filled, 2, texts[2].as_bytes());
     let fourth = said_at(alloc, event, was, filled, 3, texts[3].as_bytes());
     let fifth = said_at(alloc, event, was, filled, 4, texts[4].as_bytes());
-    let faults = Unread {
+    let faults = FieldFaults {
         number: number_fault(number),
         attempts: [
             fault_of(&first),

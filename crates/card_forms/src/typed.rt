@@ -7,11 +7,11 @@ use std::marker::Model;
 
 /// A text as it was typed into a field. A contract sees its bytes.
 #[derive(Drop)]
-pub struct Typed {
+pub struct TypedText {
     bytes: Vec<u8>,
 }
 
-impl Model for Typed {
+impl Model for TypedText {
     ghost use Rattle.std.specs.Prelude.{List, ℕ};
 
     ghost Value = { List ℕ };
@@ -19,22 +19,22 @@ impl Model for Typed {
     ghost view = { λ text. text.bytes.items };
 }
 
-impl Typed {
+impl TypedText {
     ghost use Rattle.std.specs.Prelude.{IfOk};
 
     /// A text of these bytes, without taking memory.
-    pub fn new(bytes: Vec<u8>) -> Typed
+    pub fn new(bytes: Vec<u8>) -> TypedText
         ensures { result ≡ bytes.items }
     {
-        Typed { bytes }
+        TypedText { bytes }
     }
 
     /// A text that is a copy of these bytes.
-    pub fn copy_of(alloc: Global, bytes: &[u8]) -> Result<Typed, AllocError>
+    pub fn copy_of(alloc: Global, bytes: &[u8]) -> Result<TypedText, AllocError>
         ensures { IfOk result (λ text. text ≡ bytes.now) }
     {
         let bytes = Vec::from_slice(alloc, bytes)?;
-        Ok(Typed { bytes })
+        Ok(TypedText { bytes })
     }
 
     /// The bytes.
@@ -49,7 +49,7 @@ impl Typed {
 /// sees them as a list.
 #[derive(Drop)]
 pub struct Fields {
-    texts: Vec<Typed>,
+    texts: Vec<TypedText>,
 }
 
 impl Model for Fields {
@@ -68,11 +68,11 @@ impl Fields {
     /// These five fields.
     pub fn new(
         alloc: Global,
-        first: Typed,
-        second: Typed,
-        third: Typed,
-        fourth: Typed,
-        fifth: Typed,
+        first: TypedText,
+        second: TypedText,
+        third: TypedText,
+        fourth: TypedText,
+        fifth: TypedText,
     ) -> Result<Fields, AllocError>
         ensures { IfOk result
             (λ fields. fields ≡ first ∷ second ∷ third ∷ fourth ∷ fifth ∷ []) }
@@ -82,7 +82,7 @@ impl Fields {
     }
 
     /// The five fields.
-    pub fn as_slice(&self) -> &[Typed]
+    pub fn as_slice(&self) -> &[TypedText]
         ensures fields { result.now ≡ self.now }
         ensures five { length result.now ≡ 5 }
     {

@@ -7,7 +7,7 @@ use Rattle.std.specs.Option.{option_or}
 use Rattle.texts.specs.declared.answer.Code.{Code}
 use Rattle.texts.specs.declared.answer.Code.TheVariants as code
 use Rattle.texts.specs.declared.command.Command.{Command}
-use Rattle.texts.specs.declared.command.Remarked.{Remarked}
+use Rattle.texts.specs.declared.command.RemarkedCommand.{RemarkedCommand}
 use Rattle.texts.specs.declared.reading.CommandFault.{CommandFault}
 use Rattle.texts.specs.Editions.{edition_of, has_name_in, remark_edition}
 use Rattle.texts.specs.Reading.{command_of}
@@ -59,7 +59,8 @@ accepted_one cs ds es d h =
 -- Logs
 
 -- what is accepted of what was read
-pub own_checks : (k : ℕ) (cs : List Command) (c : Remarked) → read_refusal_in k cs (Ok c) ≡ None
+pub own_checks : (k : ℕ) (cs : List Command) (c : RemarkedCommand)
+    → read_refusal_in k cs (Ok c) ≡ None
     → refusal cs c.command ≡ None
 own_checks k cs c h = known (knows k c.command) h
   where
@@ -78,7 +79,7 @@ own_checks k cs c h = known (knows k c.command) h
     known false h = absurd (some≢none code.Unread h)
 
 -- an entry's command is accepted after those that were accepted before, or there is none
-accepted_read : (k : ℕ) (cs : List Command) (r : Result Remarked CommandFault)
+accepted_read : (k : ℕ) (cs : List Command) (r : Result RemarkedCommand CommandFault)
     → AreAccepted [] cs → AreAccepted [] (cs ++ added_read (read_refusal_in k cs r) r)
 accepted_read k cs (Err fault) h = subst (AreAccepted []) (sym (append-nil cs)) h
 accepted_read k cs (Ok c) h = step (read_refusal_in k cs (Ok c)) refl

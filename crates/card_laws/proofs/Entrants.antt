@@ -135,7 +135,7 @@ found_made n change (d ∷ ds) e h =
     found_step n change d e (has_number n d) (find (has_number n) ds)
     (find (has_number n) (map (changed_of n change) ds)) refl h (found_made n change ds e)
 
--- whoever is found has the number
+-- the one that is found has the number
 pub found_number : (n : ℕ) (es : List Entrant) (e : Entrant) → find (has_number n) es ≡ Some e
     → n ≡ e.number
 found_number n [] e h = absurd (some≢none e (sym h))
@@ -150,7 +150,7 @@ found_number n (d ∷ ds) e h = step (has_number n d) refl h (found_number n ds 
 
 -- What is found
 
--- whoever is found is one of them
+-- the one that is found is one of them
 pub any_found : (n : ℕ) (p : Entrant → Bool) (es : List Entrant) (one : Entrant)
     → find (has_number n) es ≡ Some one → p one ≡ true → list_any p es ≡ true
 any_found n p [] one h is = absurd (some≢none one (sym h))

@@ -114,7 +114,7 @@ first_is cs id n k (x ∷ xs) =
     later : List Command
     later = cs ++ c ∷ []
 
--- Where the event takes all
+-- Where the event allows all
 
 or_first : (a b : Bool) → (a || b) ≡ false → a ≡ false
 or_first true b h = h
@@ -255,7 +255,7 @@ module _ (e : Event) (scrambles : ℕ → Option (List Move)) (n : ℕ) (x : Ent
   abbrev left : List Value
   left = values_now (counts_in round.0 scrambles) 1 (map Some (x ∷ xs)) []
 
-  -- what is left of the checks of a card once the event takes it, and of its attempts
+  -- what is left of the checks of a card once the event allows it, and of its attempts
   abbrev table_left : Bool → Option Entrant → Option Code
   table_left closed o =
       option_map set_code
@@ -335,7 +335,7 @@ module _ (e : Event) (scrambles : ℕ → Option (List Move)) (n : ℕ) (x : Ent
       (ap (fits round.1.format round.1.cutoff) bare
       ∙ fits_from round.1.format round.1.cutoff [] (omega arith)) right scrambled)
 
--- Cards whose outcomes the event takes
+-- Cards whose outcomes the event allows
 
 -- what makes two checks pass
 both_none : (a b : Bool) (c d : Code) → cond a (Some c) (cond b (Some d) None) ≡ None
@@ -408,7 +408,7 @@ code_rest : (b : Bool) (c : Code) (rest : Option Code) → cond b (Some c) rest 
 code_rest true c more h = absurd (some≢none c h)
 code_rest false c more h = h
 
--- a card that is accepted has outcomes that the event takes
+-- a card that is accepted has outcomes that the event allows
 card_fit : (b : Bool) (scrambles : ℕ → Option (List Move)) (id : RoundId) (n : ℕ)
     (xs : List Entered) (o : Option (Settings × Table))
     → cond (not b) (Some code.UnknownCompetitor)
@@ -424,7 +424,7 @@ or_false : (a b : Bool) → a ≡ false → b ≡ false → (a || b) ≡ false
 or_false true b g h = g
 or_false false b g h = h
 
--- attempts that are accepted have outcomes that the event takes
+-- attempts that are accepted have outcomes that the event allows
 first_fit : (b : Bool) (e : Event) (scrambles : ℕ → Option (List Move)) (n k : ℕ)
     (xs : List Entered) (o : Option (Settings × Table))
     → first_on b e scrambles n k xs o ≡ None

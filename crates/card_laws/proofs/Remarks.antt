@@ -10,7 +10,7 @@ use Rattle.texts.specs.declared.answer.Code.{Code}
 use Rattle.texts.specs.declared.answer.Code.TheVariants as code
 use Rattle.texts.specs.declared.command.Command.{Command}
 use Rattle.texts.specs.declared.command.Command.TheVariants.{SetEdition}
-use Rattle.texts.specs.declared.command.Remarked.{Remarked}
+use Rattle.texts.specs.declared.command.RemarkedCommand.{RemarkedCommand}
 use Rattle.texts.specs.declared.reading.CommandFault.{CommandFault}
 use Rattle.texts.specs.Editions.{edition_of, has_name_in, remark_edition}
 use Rattle.texts.specs.Reading.{command_of}
@@ -55,19 +55,19 @@ answer_same : (k : ℕ) (h : History) (id : ℕ) (one other : List ℕ) → IsOn
 unfolding entry_refusal_in
 answer_same k h id one other same low =
     ap
-    (λ (r : Result Remarked CommandFault).
+    (λ (r : Result RemarkedCommand CommandFault).
     answer_of (cond (is_seen h id) (Some code.Repeat) (read_refusal_in k h.accepted r)))
     same.3
     ∙ ap (λ (o : Option Code). answer_of (cond (is_seen h id) (Some code.Repeat) o))
     (read_same k h.accepted same.0 same.1 same.2 low)
     ∙ sym
     (ap
-    (λ (r : Result Remarked CommandFault).
+    (λ (r : Result RemarkedCommand CommandFault).
     answer_of (cond (is_seen h id) (Some code.Repeat) (read_refusal_in k h.accepted r)))
     same.4)
 
 -- a history after an entry that reads so
-abbrev after_read : ℕ → History → ℕ → Option Code → Result Remarked CommandFault → History
+abbrev after_read : ℕ → History → ℕ → Option Code → Result RemarkedCommand CommandFault → History
 after_read k h id refused r =
     cond (is_seen h id) h
     (let new : History = record {
@@ -80,13 +80,15 @@ after_same : (k : ℕ) (h : History) (id : ℕ) (one other : List ℕ) → IsOne
 unfolding after_in
 after_same k h id one other same low =
     ap
-    (λ (r : Result Remarked CommandFault). after_read k h id (read_refusal_in k h.accepted r) r)
+    (λ (r : Result RemarkedCommand CommandFault). after_read k h id (read_refusal_in k h.accepted r)
+    r)
     same.3
     ∙ ap (λ (o : Option Code). after_read k h id o (Ok (with_told same.0 same.2)))
     (read_same k h.accepted same.0 same.1 same.2 low)
     ∙ sym
     (ap
-    (λ (r : Result Remarked CommandFault). after_read k h id (read_refusal_in k h.accepted r) r)
+    (λ (r : Result RemarkedCommand CommandFault). after_read k h id (read_refusal_in k h.accepted r)
+    r)
     same.4)
 
 one_command : (c : Command) (remark instead : Option (List ℕ))
@@ -122,7 +124,7 @@ raises cs (SetEdition edition) accepted low = step (nat_le edition (edition_in c
         omega (arith, more, low)
 raises cs _ accepted low = low
 
-keeps_edition : (k : ℕ) (cs : List Command) (r : Result Remarked CommandFault)
+keeps_edition : (k : ℕ) (cs : List Command) (r : Result RemarkedCommand CommandFault)
     → 4 ≤ edition_in cs → 4 ≤ edition_in (cs ++ added_read (read_refusal_in k cs r) r)
 keeps_edition k cs (Err fault) low =
     subst (λ (ds : List Command). 4 ≤ edition_in ds) (sym (append-nil cs)) low
@@ -204,7 +206,7 @@ pub sets_edition : SetsEdition
 unfolding after_in rows
 sets_edition number =
     subst
-    (λ (r : Result Remarked CommandFault).
+    (λ (r : Result RemarkedCommand CommandFault).
     4 ≤ edition_in (added_read (read_refusal_in 4 [] r) r))
     (sym
     (spelled_found (with_told (SetEdition 4) None) (fit, tt, spelling_short (SetEdition 4) fit)))

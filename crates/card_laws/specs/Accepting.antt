@@ -15,8 +15,8 @@ first_refusal cs (c ∷ ds) = option_or (refusal cs c) (first_refusal (cs ++ c �
 abbrev pub AreAccepted : List Command → List Command → Type 0
 AreAccepted cs ds = first_refusal cs ds ≡ None
 
--- of what entries come to, each command is accepted after those in front of it, wherever the list
--- is parted; so what is said of accepted commands is said of those of every log
+-- each command that a list of entries comes to is accepted after those before it, wherever the list
+-- is divided; so what is said of accepted commands holds for the commands of every log
 abbrev pub LogsAreAccepted : Type 0
 LogsAreAccepted =
     (k : ℕ) (entries : List (ℕ × List ℕ)) (cs ds : List Command)

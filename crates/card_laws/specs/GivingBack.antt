@@ -24,9 +24,10 @@ shows cs e r n was = has_values was (held n (round_of cs e r))
 abbrev pub is_shown : List Command → CardEntry → Bool
 is_shown cs card = shows cs card.id.event card.id.round card.number card.was
 
--- One of the commands after `cs` gives values back to a number in a round: before it others count,
--- or the number is not in the round, and after it these. Where the number was in the round, the
--- command names it there; else the command lets it in, as an entry or a withdrawal of another does.
+-- One of the commands after `cs` gives values back to a number in a round: before it other values
+-- count, or the number is not in the round; after it these count. Where the number was in the
+-- round, the command names it there; else the command lets it in, as an entry or a withdrawal of
+-- another does.
 pub record GivesBack (cs after : List Command) (e : Event) (r n : ℕ)
     (was : List Value) : Type 0 where
   pub front : List Command
@@ -38,8 +39,8 @@ pub record GivesBack (cs after : List Command) (e : Event) (r n : ℕ)
   pub names : (stood : Entrant) → held n (round_of (cs ++ front) e r) ≡ Some stood
       → names e r n one ≡ true
 
--- where something else counts than a command with a card says, it is accepted later only where one
--- of the commands between gave back what it says
+-- if other values count than a command with a card says, it is accepted later only if one of the
+-- commands between gave back the values that it says
 abbrev pub OnlyWhereGivenBack : (CardEntry → Command) → Type 0
 OnlyWhereGivenBack command =
     (cs between : List Command) (card : CardEntry)
@@ -66,9 +67,9 @@ IsGivenBack cs after card =
     (given : GivesBack cs after card.id.event card.id.round card.number card.was)
     × (refusal (cs ++ given.front) given.one ≡ None)
 
--- Two cards are over the same, and both are accepted, with all commands between them. Where the
--- first changes what counts, one of the commands between gave it back. So where two tables take the
--- same card, and nothing between gave that back, the second is refused.
+-- Two cards are over the same, and both are accepted, with all commands between them. If the first
+-- changes what counts, one of the commands between gave it back. So if two tables enter the same
+-- card, and nothing between gave that back, the second is refused.
 abbrev pub SecondOnlyWhereGivenBack : Type 0
 SecondOnlyWhereGivenBack =
     (cs between : List Command) (first second : CardEntry)

@@ -48,7 +48,7 @@ entrant_with n vs = record { number = n; values = vs }
 
 -- A command with a card is accepted, and more commands are, one after the other, none of which
 -- names the entrant in this round. Then the entrant's values are those that the card leaves, where
--- it leaves any; so `CANCEL` is none of these commands.
+-- it leaves any; so `CANCEL` is not one of these commands.
 abbrev pub StandsUntilNamed : (CardEntry → Command) → Type 0
 StandsUntilNamed command =
     (cs later : List Command) (card : CardEntry) (round : Settings × Table)

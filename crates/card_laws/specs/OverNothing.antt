@@ -63,10 +63,10 @@ CardIsAcceptedAsAttempts =
     → refusal cs (Card (first_card id n (x ∷ xs))) ≡ None
     ↔ AreAccepted cs (attempts_from id n 1 (x ∷ xs))
 
--- Over nothing a card with an outcome is refused with the code of the first of its attempts that is
--- refused, where the event takes all its outcomes and each solution has its scramble. Elsewhere
--- both are refused, and the codes may differ: each check is made of the whole card before the next
--- one, and whether outcomes fit comes before whether the round is open.
+-- Where nothing counts of the number, the event allows all outcomes of a card that has one, and
+-- each solution has its scramble, the card is refused with the code of the first of its attempts
+-- that is refused. Elsewhere both are refused, and the codes may differ: each check is made of the
+-- whole card before the next one, and whether outcomes fit comes before whether the round is open.
 abbrev pub CardIsRefusedAsAttempts : Type 0
 CardIsRefusedAsAttempts =
     (cs : List Command) (id : RoundId) (n : ℕ) (x : Entered) (xs : List Entered)

@@ -4,7 +4,7 @@ use Rattle.std.specs.Prelude.{◌≡◌, ◌≤◌, ◌⊎◌, ℕ, List, [], �
 use Rattle.attempts.specs.declared.Value.{Value}
 use Rattle.formats.specs.declared.events.Event.{Event}
 use Rattle.texts.specs.declared.command.Command.{Command}
-use Rattle.texts.specs.declared.command.Remarked.{Remarked}
+use Rattle.texts.specs.declared.command.RemarkedCommand.{RemarkedCommand}
 use Rattle.texts.specs.Fields.{was_of}
 use Rattle.texts.specs.Reading.{command_of}
 use Rattle.texts.specs.Spelling.{AreCounted, IsFitTold, told_spelling, was_text}
@@ -18,7 +18,7 @@ abbrev pub ReadsBack : Type 0
 ReadsBack = (vs : List Value) → AreCounted vs → was_of (was_text vs) ≡ Some vs
 
 -- a command with a remark, or with none
-abbrev pub with_told : Command → Option (List ℕ) → Remarked
+abbrev pub with_told : Command → Option (List ℕ) → RemarkedCommand
 with_told c remark = record { command = c; remark = remark }
 
 -- two texts spell one command, with whatever remarks, or one without
@@ -28,9 +28,9 @@ IsOneCommand one other =
     × (command_of one ≡ Ok (with_told c remark))
     × (command_of other ≡ Ok (with_told c instead))
 
--- Whatever is told beside a command, if anything is, its text spells that command. And once edition
--- 4 holds, two texts that differ in their remarks alone are answered alike and come to the same,
--- for a program that knows any number of editions.
+-- Whatever is shown beside a command, if anything is, its text spells that command. And once
+-- edition 4 holds, two texts that differ in their remarks alone are answered alike and come to the
+-- same, for a program that knows any number of editions.
 pub record RemarksAreTold : Type 0 where
   pub spelled : (c : Command) (remark instead : Option (List ℕ))
       → IsFitTold (with_told c remark) → IsFitTold (with_told c instead)

@@ -124,7 +124,7 @@ pub record WorksOverNothing : Type 0 where
       ≡ Some code.NoMoreAttempts
   pub refused_attempts : first_refusal begun (attempts_from id 2 1 (time 1200 0 ∷ slow))
       ≡ Some code.NoMoreAttempts
-  -- what the event doesn't take: the card is asked for its outcomes first
+  -- an outcome that the event doesn't allow: this is the first check of a card
   pub other_card : refusal closed (Card (first_card id 3 mixed)) ≡ Some code.WrongOutcome
   pub other_attempts : first_refusal closed (attempts_from id 3 1 mixed) ≡ Some code.Closed
 

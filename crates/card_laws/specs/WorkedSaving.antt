@@ -1,5 +1,5 @@
 -- Worked by hand: two cards of one entrant in a hall's log. The first is reported saved; the
--- second, over what stood in front of the first, is reported changed.
+-- second, over what counted before the first, is reported changed.
 use Rattle.std.specs.Prelude.{◌≡◌, List, [], ◌∷◌, codes, Some, None}
 use Rattle.acceptor.specs.declared.entry.Entry.{Entry}
 use Rattle.attempts.specs.declared.Value.TheVariants as value
@@ -11,7 +11,7 @@ use Rattle.texts.specs.declared.command.Entered.TheVariants as entered
 use Rattle.outbox.specs.Cards.{Says}
 use Rattle.outbox.specs.States.{state_of}
 use Rattle.outbox.specs.Worked.{entry}
-use Rattle.outbox.specs.declared.state.State.TheVariants as state
+use Rattle.outbox.specs.declared.state.ItemState.TheVariants as state
 
 abbrev pub first : Entry
 first = entry 6 (codes "CARD 333 1 1 1043 =/T:998:1")

@@ -3,8 +3,9 @@
 ghost use Rattle.card_laws.specs.GivingBack.{AcceptedOnlyWhereGivenBack, FixedOnlyWhereGivenBack};
 ghost use Rattle.card_laws.specs.GivingBack.{SecondOnlyWhereGivenBack};
 
-/// A law: where something else counts than a card says, it is accepted later only where a command
-/// between gave back what it says. That command names the entrant, where he was in the round then.
+/// A law: if other values count than a card says, the card is accepted later only if a command
+/// between gave back the values that it says. That command names the entrant, if the entrant was in
+/// the round then.
 pub fn accepted_only_where_given_back()
     ensures { AcceptedOnlyWhereGivenBack }
 {}

@@ -1,6 +1,6 @@
-//! Laws of scorecards: what a card comes to beside attempts one by one, how long its attempts
-//! count, over what a second one is accepted, and that remarks count for nothing. Each law is the
-//! contract of a function that does nothing.
+//! Laws of scorecards: a card means what its attempts mean one by one; how long its attempts count;
+//! when a second card over the same values is accepted; and that no answer depends on a remark.
+//! Each law is the contract of a function that does nothing.
 #![tactic(auto)]
 
 mod accepting;

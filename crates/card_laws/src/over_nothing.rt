@@ -22,9 +22,9 @@ pub fn card_is_accepted_as_attempts()
     ensures { CardIsAcceptedAsAttempts }
 {}
 
-/// A law: where nothing counts of a number in a round, and the event takes each outcome of a card,
+/// A law: where nothing counts of a number in a round, and the event allows each outcome of a card,
 /// under a scramble where it is a solution, the card is answered as the first of its attempts that
-/// is refused, if one is. Where the event does not take each, the codes may differ.
+/// is refused, if one is. Where the event does not allow each, the codes may differ.
 pub fn card_is_refused_as_attempts()
     ensures { CardIsRefusedAsAttempts }
 {}

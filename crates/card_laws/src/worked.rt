@@ -6,7 +6,7 @@ ghost use Rattle.card_laws.specs.WorkedSaving.{WorksSaved};
 
 /// Of two in a round nothing counts: a card of five outcomes is accepted, as its attempts are, and
 /// one of three that miss the cutoff is refused, as the third of them is. In a closed round the
-/// codes differ, where the event does not take an outcome.
+/// codes differ, where the event does not allow an outcome.
 pub fn works_over_nothing()
     ensures { WorksOverNothing }
 {}

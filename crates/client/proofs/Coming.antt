@@ -3,31 +3,32 @@ use Rattle.std.proofs.Common.{◌≡◌, ◌∙◌, ℕ, List, Bool, true, false
 use Rattle.std.proofs.Common.{inl, inr, subst, sym}
 use Rattle.std.specs.Io.KnownBytes.{Appends}
 use Rattle.wire.specs.declared.frame.Frame.{Frame}
-use Rattle.wire.specs.declared.frame.What.{What}
-use Rattle.wire.specs.declared.frame.What.TheVariants as what
+use Rattle.wire.specs.declared.frame.FrameBody.{FrameBody}
+use Rattle.wire.specs.declared.frame.FrameBody.TheVariants as what
 use Rattle.client.specs.Answers.{judged, judged_what, answers}
 use Rattle.client.specs.Exchange.{Exchanges, Hears, LacksFor, Sides, StandsFirst}
 use Rattle.client.specs.declared.fault.ClientFault.{ClientFault}
 use Rattle.client.specs.declared.fault.ClientFault.TheVariants as fault
 
-abbrev failed : ClientFault → Result What ClientFault
+abbrev failed : ClientFault → Result FrameBody ClientFault
 failed e = Err e
 
 -- a frame is never judged to be a failed write or want of memory
-never_write : (w : What) (own : Bool) → Err fault.Write ≡ judged_what w own → ⊥
+never_write : (w : FrameBody) (own : Bool) → Err fault.Write ≡ judged_what w own → ⊥
 never_write (what.Refused refusal) own h =
     let k : failed fault.Write ≡ failed (fault.Refused refusal) = h in cc
 never_write w true h = let k : failed fault.Write ≡ Ok w = h in cc
 never_write w false h = let k : failed fault.Write ≡ failed fault.NoAnswer = h in cc
 
-never_memory : (w : What) (own : Bool) → Err fault.NoMemory ≡ judged_what w own → ⊥
+never_memory : (w : FrameBody) (own : Bool) → Err fault.NoMemory ≡ judged_what w own → ⊥
 never_memory (what.Refused refusal) own h =
     let k : failed fault.NoMemory ≡ failed (fault.Refused refusal) = h in cc
 never_memory w true h = let k : failed fault.NoMemory ≡ Ok w = h in cc
 never_memory w false h = let k : failed fault.NoMemory ≡ failed fault.NoAnswer = h in cc
 
 -- a frame came
-pub comes : (result : Result What ClientFault) (asked given : Frame) (bytes : List ℕ) (s : Sides)
+pub comes : (result : Result FrameBody ClientFault) (asked given : Frame) (bytes : List ℕ)
+    (s : Sides)
     → result ≡ judged asked given → Hears asked s bytes → StandsFirst given bytes
     → Exchanges result asked s
 comes (Ok answer) asked given bytes s is hears first = (bytes, hears, (given, first, sym is))

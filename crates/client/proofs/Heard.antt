@@ -72,8 +72,3 @@ pub waits_still : (bytes none : List ℕ) (had before left : Option (List ℕ)) 
 waits_still bytes none had before left is h k =
     subst (Consumes had left) (ap (λ z. bytes ++ z) is ∙ append-nil bytes)
     (Consumes-trans had before left bytes none h k)
-
--- the stream held the bytes when it was fed
-pub held_then : (bytes piece : List ℕ) (old : Reader) → old ≡ holding bytes
-    → old.held ++ piece ≡ bytes ++ piece
-held_then bytes piece old h = ap (λ (z : Reader). z.held ++ piece) h

@@ -3,8 +3,8 @@ use Rattle.std.proofs.Common.{◌≡◌, Bool, true, false, ◌&&◌}
 use Rattle.std.specs.Prelude.{ℕ, ◌==◌}
 use Rattle.wire.specs.Numbers.{IsFromThree}
 use Rattle.wire.specs.Ranges.{IsBody}
-use Rattle.wire.specs.declared.frame.What.{What}
-use Rattle.wire.specs.declared.frame.What.TheVariants as what
+use Rattle.wire.specs.declared.frame.FrameBody.{FrameBody}
+use Rattle.wire.specs.declared.frame.FrameBody.TheVariants as what
 use Rattle.wire.specs.declared.values.Version.{Version}
 use Rattle.client.specs.Answers.{fits, is_entries, is_standing}
 use Rattle.client.specs.Standings.{AnswersFromThree, IsOfThree}
@@ -14,22 +14,24 @@ last_of true true c h = h
 last_of true false c h = absurd (let k : false ≡ true = h in cc)
 last_of false b c h = absurd (let k : false ≡ true = h in cc)
 
-standing_in_three : (v : Version) (given : What) → is_standing given ≡ true → IsBody v given
+standing_in_three : (v : Version) (given : FrameBody) → is_standing given ≡ true → IsBody v given
     → IsFromThree v
 standing_in_three v (what.Standing standing) h body = body.0
 standing_in_three v _ h body = absurd (let k : false ≡ true = h in cc)
 
-entries_in_three : (v : Version) (position : ℕ) (given : What) → is_entries position given ≡ true
+entries_in_three : (v : Version) (position : ℕ) (given : FrameBody)
+    → is_entries position given ≡ true
     → IsBody v given → IsFromThree v
 entries_in_three v position (what.Entries from len entries) h body = body.0
 entries_in_three v position _ h body = absurd (let k : false ≡ true = h in cc)
 
-asked_in_three : (v : Version) (asked : What) → IsOfThree asked → IsBody v asked → IsFromThree v
+asked_in_three : (v : Version) (asked : FrameBody) → IsOfThree asked → IsBody v asked
+    → IsFromThree v
 asked_in_three v what.Status three body = body
 asked_in_three v (what.Log position) three body = body.0
 asked_in_three v _ three body = absurd three
 
-given_in_three : (v : Version) (asked given : What) → IsOfThree asked → fits asked given ≡ true
+given_in_three : (v : Version) (asked given : FrameBody) → IsOfThree asked → fits asked given ≡ true
     → IsBody v given → IsFromThree v
 given_in_three v what.Status given three h body = standing_in_three v given h body
 given_in_three v (what.Log position) given three h body = entries_in_three v position given h body

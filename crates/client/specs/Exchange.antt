@@ -6,7 +6,7 @@ use Rattle.std.specs.declared.io.Write as write
 use Rattle.lines.specs.Bytes.{AppendsPart}
 use Rattle.wire.specs.declared.fault.WireFault.{WireFault}
 use Rattle.wire.specs.declared.frame.Frame.{Frame}
-use Rattle.wire.specs.declared.frame.What.{What}
+use Rattle.wire.specs.declared.frame.FrameBody.{FrameBody}
 use Rattle.wire.specs.Ranges.{IsFrame}
 use Rattle.wire.specs.Spelling.{spelling}
 use Rattle.wire.specs.Stream.{Waits, Breaks, Reader, front, holding, IsBegun, IsOfStream}
@@ -62,7 +62,7 @@ pub record Hears (asked : Frame) (s : Sides) (bytes : List ℕ) : Type 0 where
   pub heard : Consumes s.had s.left bytes
 
 -- the first frame that came is judged so
-abbrev pub IsJudged : Result What ClientFault → Frame → List ℕ → Type 0
+abbrev pub IsJudged : Result FrameBody ClientFault → Frame → List ℕ → Type 0
 IsJudged result asked bytes =
     (given : Frame) × StandsFirst given bytes × (judged asked given ≡ result)
 
@@ -74,7 +74,7 @@ IsSilent s = Appends s.old s.new [] × Keeps s.had s.left
 -- answer where that frame is no answer, or no frame came. A write failed where a front part of the
 -- request was written and nothing was read. Memory was refused before anything was written, or
 -- where a frame had come whole.
-abbrev pub Exchanges : Result What ClientFault → Frame → Sides → Type 0
+abbrev pub Exchanges : Result FrameBody ClientFault → Frame → Sides → Type 0
 Exchanges (Ok answer) asked s =
     (bytes : List ℕ) × Hears asked s bytes × IsJudged (Ok answer) asked bytes
 Exchanges (Err (fault.Refused refusal)) asked s =

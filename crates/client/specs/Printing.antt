@@ -7,8 +7,8 @@ use Rattle.client.specs.declared.fault.ClientFault.{ClientFault}
 use Rattle.client.specs.declared.fault.ClientFault.TheVariants as fault
 use Rattle.wire.specs.declared.values.ClientRefusal.{ClientRefusal}
 use Rattle.wire.specs.declared.values.ClientRefusal.TheVariants as refusal
-use Rattle.wire.specs.declared.frame.What.{What}
-use Rattle.wire.specs.declared.frame.What.TheVariants as what
+use Rattle.wire.specs.declared.frame.FrameBody.{FrameBody}
+use Rattle.wire.specs.declared.frame.FrameBody.TheVariants as what
 use Rattle.wire.specs.declared.values.CommandState.{CommandState}
 use Rattle.wire.specs.declared.values.CommandState.TheVariants.{Unknown, Pending, Done}
 
@@ -25,7 +25,7 @@ state_text id (Done pos answer) =
     ++ codes "\n"
 
 -- a line for Taken, Told and Fine, the sheet itself for its text, and nothing for other kinds
-abbrev pub reply_text : What → List ℕ
+abbrev pub reply_text : FrameBody → List ℕ
 reply_text (what.Taken id) = codes "taken " ++ decimal id ++ codes "\n"
 reply_text (what.Told id state) = state_text id state
 reply_text (what.SheetText text) = text

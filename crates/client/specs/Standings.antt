@@ -4,13 +4,13 @@ use Rattle.std.specs.Prelude.{◌≡◌, ℕ, true}
 use Rattle.wire.specs.Numbers.{IsFromThree}
 use Rattle.wire.specs.Ranges.{IsFrame}
 use Rattle.wire.specs.declared.frame.Frame.{Frame}
-use Rattle.wire.specs.declared.frame.What.{What}
-use Rattle.wire.specs.declared.frame.What.TheVariants as what
+use Rattle.wire.specs.declared.frame.FrameBody.{FrameBody}
+use Rattle.wire.specs.declared.frame.FrameBody.TheVariants as what
 use Rattle.wire.specs.declared.values.Version.TheVariants.{Three, Five}
 use Rattle.client.specs.Answers.{answers}
 
 -- a request of a client, which is 0, to a desk of a hall, in version 3
-abbrev pub request_in_three : (hall desk : ℕ) → What → Frame
+abbrev pub request_in_three : (hall desk : ℕ) → FrameBody → Frame
 request_in_three hall desk asked =
     record { version = Three; hall = hall; from = 0; to = desk; what = asked }
 
@@ -19,7 +19,7 @@ abbrev pub status_request : (hall desk : ℕ) → Frame
 status_request hall desk = request_in_three hall desk what.Status
 
 -- a request of version 5
-abbrev pub request_in_five : (hall desk : ℕ) → What → Frame
+abbrev pub request_in_five : (hall desk : ℕ) → FrameBody → Frame
 request_in_five hall desk asked =
     record { version = Five; hall = hall; from = 0; to = desk; what = asked }
 
@@ -36,7 +36,7 @@ abbrev pub log_request : (hall desk position : ℕ) → Frame
 log_request hall desk position = request_in_three hall desk (what.Log position)
 
 -- it asks how the desk is, or for its log
-abbrev pub IsOfThree : What → Type 0
+abbrev pub IsOfThree : FrameBody → Type 0
 IsOfThree what.Status = Unit {0}
 IsOfThree (what.Log position) = Unit {0}
 IsOfThree _ = ⊥

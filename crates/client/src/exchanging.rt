@@ -9,7 +9,7 @@ use crate::judging::judged;
 use lines::write_text;
 use std::alloc::Global;
 use std::io::{Read, Write};
-use wire::{Frame, FrameReader, What, encode};
+use wire::{Frame, FrameBody, FrameReader, encode};
 
 /// Writes a request whole, reads in pieces of at most 4,096 bytes until a whole frame was read, and
 /// returns the answer: [`answers`](crate::answers) says which frame is one.
@@ -27,7 +27,7 @@ pub fn exchange<R: Read, W: Write>(
     asked: &Frame,
     reader: &mut R,
     writer: &mut W,
-) -> Result<What, ClientFault>
+) -> Result<FrameBody, ClientFault>
     requires spelled { IsFrame asked.now }
     ensures exchanges { Exchanges result asked.now
         (sides R.Read W.Write reader.old reader.new writer.old writer.new) }

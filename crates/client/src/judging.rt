@@ -5,73 +5,73 @@ ghost use Rattle.client.specs.Answers.{answers, fits, is_entries, is_fine, is_sh
 ghost use Rattle.client.specs.Answers.{is_standing, is_taken, is_told, judged};
 
 use crate::fault::ClientFault;
-use wire::{Frame, What};
+use wire::{Frame, FrameBody};
 
-fn is_taken(wanted: u64, given: &What) -> bool
+fn is_taken(wanted: u64, given: &FrameBody) -> bool
     ensures { result ≡ is_taken wanted given.now }
 {
     match given {
-        What::Taken { id } => *id == wanted,
+        FrameBody::Taken { id } => *id == wanted,
         _ => false,
     }
 }
 
-fn is_told(wanted: u64, given: &What) -> bool
+fn is_told(wanted: u64, given: &FrameBody) -> bool
     ensures { result ≡ is_told wanted given.now }
 {
     match given {
-        What::Told { id, .. } => *id == wanted,
+        FrameBody::Told { id, .. } => *id == wanted,
         _ => false,
     }
 }
 
-fn is_sheet_text(given: &What) -> bool
+fn is_sheet_text(given: &FrameBody) -> bool
     ensures { result ≡ is_sheet_text given.now }
 {
     match given {
-        What::SheetText { .. } => true,
+        FrameBody::SheetText { .. } => true,
         _ => false,
     }
 }
 
-fn is_fine(given: &What) -> bool
+fn is_fine(given: &FrameBody) -> bool
     ensures { result ≡ is_fine given.now }
 {
     match given {
-        What::Fine => true,
+        FrameBody::Fine => true,
         _ => false,
     }
 }
 
-fn is_standing(given: &What) -> bool
+fn is_standing(given: &FrameBody) -> bool
     ensures { result ≡ is_standing given.now }
 {
     match given {
-        What::Standing { .. } => true,
+        FrameBody::Standing { .. } => true,
         _ => false,
     }
 }
 
-fn is_entries(wanted: u32, given: &What) -> bool
+fn is_entries(wanted: u32, given: &FrameBody) -> bool
     ensures { result ≡ is_entries wanted given.now }
 {
     match given {
-        What::Entries { position, .. } => *position == wanted,
+        FrameBody::Entries { position, .. } => *position == wanted,
         _ => false,
     }
 }
 
 /// Whether a kind with its fields answers another.
-fn fits(asked: &What, given: &What) -> bool
+fn fits(asked: &FrameBody, given: &FrameBody) -> bool
     ensures { result ≡ fits asked.now given.now }
 {
     match asked {
-        What::Submit { entry } => is_taken(entry.id(), given),
-        What::Ask { id } | What::Await { id, .. } => is_told(*id, given),
-        What::Sheet { .. } => is_sheet_text(given),
-        What::Tick | What::Stop => is_fine(given),
-        What::Status => is_standing(given),
-        What::Log { position } => is_entries(*position, given),
+        FrameBody::Submit { entry } => is_taken(entry.id(), given),
+        FrameBody::Ask { id } | FrameBody::Await { id, .. } => is_told(*id, given),
+        FrameBody::Sheet { .. } => is_sheet_text(given),
+        FrameBody::Tick | FrameBody::Stop => is_fine(given),
+        FrameBody::Status => is_standing(given),
+        FrameBody::Log { position } => is_entries(*position, given),
         _ => false,
     }
 }
@@ -93,13 +93,13 @@ pub fn answers(asked: &Frame, given: &Frame) -> bool
 /// - `Refused` where the frame is a refusal, from whichever hall and desk: a desk that was not
 ///   meant refuses under its own hall and number.
 /// - `NoAnswer` where it is neither that nor the answer.
-pub fn judged(asked: &Frame, given: Frame) -> Result<What, ClientFault>
+pub fn judged(asked: &Frame, given: Frame) -> Result<FrameBody, ClientFault>
     ensures { result ≡ judged asked.now given }
 {
     let own = answers(asked, &given);
     let Frame { what, .. } = given;
     match what {
-        What::Refused { refusal } => Err(ClientFault::Refused { refusal }),
+        FrameBody::Refused { refusal } => Err(ClientFault::Refused { refusal }),
         other => {
             if own {
                 Ok(other)

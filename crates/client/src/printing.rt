@@ -6,7 +6,7 @@ ghost use Rattle.client.specs.Printing.{answer_name, reply_text, state_text};
 use itoa::Buffer;
 use std::alloc::{AllocError, Global};
 use texts::Answer;
-use wire::{CommandState, What};
+use wire::{CommandState, FrameBody};
 
 /// Adds a number in decimal.
 fn push_number(out: &mut Vec<u8>, number: u64) -> Result<(), AllocError>
@@ -53,24 +53,24 @@ fn push_state(out: &mut Vec<u8>, id: u64, state: CommandState) -> Result<(), All
 
 /// What is printed of an answer: a line for Taken, Told and Fine, and for the text of a sheet the
 /// text itself. Nothing for a kind that is no answer.
-pub fn reply_text(alloc: Global, answer: What) -> Result<Vec<u8>, AllocError>
+pub fn reply_text(alloc: Global, answer: FrameBody) -> Result<Vec<u8>, AllocError>
     ensures { IfOk result (λ text. text.items ≡ reply_text answer) }
 {
     match answer {
-        What::SheetText { text } => Ok(text.into_vec()),
-        What::Taken { id } => {
+        FrameBody::SheetText { text } => Ok(text.into_vec()),
+        FrameBody::Taken { id } => {
             let mut out = Vec::new(alloc);
             out.extend_from_slice(b"taken ")?;
             push_number(&mut out, id)?;
             out.extend_from_slice(b"\n")?;
             Ok(out)
         }
-        What::Told { id, state } => {
+        FrameBody::Told { id, state } => {
             let mut out = Vec::new(alloc);
             push_state(&mut out, id, state)?;
             Ok(out)
         }
-        What::Fine => Vec::from_slice(alloc, b"ok\n"),
+        FrameBody::Fine => Vec::from_slice(alloc, b"ok\n"),
         _ => Ok(Vec::new(alloc)),
     }
 }

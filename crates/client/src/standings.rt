@@ -5,7 +5,7 @@ ghost use Rattle.wire.specs.Ranges.{IsDesk, IsFrame, IsId};
 ghost use Rattle.client.specs.Standings.{AnswersFromThree, await_request, log_request};
 ghost use Rattle.client.specs.Standings.{status_request, status_request_in_five};
 
-use wire::{Frame, Version, What};
+use wire::{Frame, FrameBody, Version};
 
 /// The request that asks a desk, 1 to 5, how it is: a Status of a client, which is 0, in version 3
 /// of the wire.
@@ -18,7 +18,7 @@ pub fn status_request(hall: u32, desk: u8) -> Frame
         hall,
         from: 0,
         to: desk,
-        what: What::Status,
+        what: FrameBody::Status,
     }
 }
 
@@ -33,7 +33,7 @@ pub fn status_request_in_five(hall: u32, desk: u8) -> Frame
         hall,
         from: 0,
         to: desk,
-        what: What::Status,
+        what: FrameBody::Status,
     }
 }
 
@@ -49,7 +49,7 @@ pub fn await_request(hall: u32, desk: u8, id: u64, seconds: u8) -> Frame
         hall,
         from: 0,
         to: desk,
-        what: What::Await { id, seconds },
+        what: FrameBody::Await { id, seconds },
     }
 }
 
@@ -64,7 +64,7 @@ pub fn log_request(hall: u32, desk: u8, position: u32) -> Frame
         hall,
         from: 0,
         to: desk,
-        what: What::Log { position },
+        what: FrameBody::Log { position },
     }
 }
 

@@ -8,7 +8,7 @@ ghost use Rattle.command_lists.specs.Answered.{refused_from, shown};
 ghost use Rattle.mirror.specs.Answered.{answers_after};
 
 use card_forms::{CommandText, CommandTexts, FormId, command_entries};
-use foretelling::foretell;
+use dry_run::foretell;
 use itoa::Buffer;
 use learner::log::Log;
 use std::alloc::{AllocError, Global};

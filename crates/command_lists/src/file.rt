@@ -4,19 +4,23 @@ ghost use Rattle.std.specs.Prelude.{◌≡◌, IfOk};
 ghost use Rattle.command_lists.specs.Files.{IsOfFile};
 
 use std::alloc::{AllocError, Global};
-use wcif::{Fault, FileFault, Options, import_file, print_lines};
+use wcif::{CompetitionFault, FileFault, Options, import_file, print_lines};
 
 /// What a competition's file comes to.
 #[derive(Drop)]
 pub enum FileLines {
     /// These lines, each a command, set the competition up.
     Lines(Vec<u8>),
-    /// It gives no commands. Why, in words: a line for each thing that a desk cannot hold.
+    /// It gives no commands: why, in words, a line for each thing that a desk cannot hold.
     Refused { fault: FileFault, words: Vec<u8> },
 }
 
 /// Adds a line for each fault.
-fn push_faults(alloc: Global, words: &mut Vec<u8>, faults: &[Fault]) -> Result<(), AllocError> {
+fn push_faults(
+    alloc: Global,
+    words: &mut Vec<u8>,
+    faults: &[CompetitionFault],
+) -> Result<(), AllocError> {
     for fault in faults {
         let line = format!(in alloc; "{fault}\n")?;
         words.extend_from_slice(line.as_bytes())?;

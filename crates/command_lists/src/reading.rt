@@ -12,7 +12,7 @@ use std::alloc::{AllocError, Global};
 /// The texts of these commands. None where one has more than 600 bytes.
 fn shorts(
     alloc: Global,
-    commands: &[lines::command_file::CommandText],
+    commands: &[lines::command_file::InputCommand],
 ) -> Result<Option<Vec<CommandText>>, AllocError>
     ensures { IfOk result (λ texts. option_map (λ t. t.items) texts ≡ shorts [] commands.now) }
 {

@@ -11,7 +11,7 @@ use Rattle.commands.specs.History.{spelled_refusal}
 use Rattle.commands.proofs.Known.{read_fit}
 use Rattle.texts.specs.declared.answer.Answer.TheVariants.{Done}
 use Rattle.texts.specs.declared.command.Command.{Command}
-use Rattle.texts.specs.declared.command.Remarked.{Remarked}
+use Rattle.texts.specs.declared.command.RemarkedCommand.{RemarkedCommand}
 use Rattle.texts.specs.Reading.{command_of}
 use Rattle.texts.proofs.Words.{spelled_only}
 
@@ -56,7 +56,8 @@ abbrev pub grown : History → ℕ → Command → History
 grown h id c = record { ids = h.ids ++ id ∷ []; accepted = h.accepted ++ c ∷ [] }
 
 -- an entry of a new id whose text reads as a command that is accepted
-module _ (h : History) (id : ℕ) (text : List ℕ) (told : Remarked) (new : is_seen h id ≡ false)
+module _ (h : History) (id : ℕ) (text : List ℕ) (told : RemarkedCommand)
+    (new : is_seen h id ≡ false)
     (reads : command_of text ≡ Ok told) (accepted : spelled_refusal h.accepted told ≡ None) where
   not_refused : read_refusal h.accepted (Ok told) ≡ None
   not_refused = read_fit h.accepted told (spelled_only text told reads).0.0 ∙ accepted

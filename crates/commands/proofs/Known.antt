@@ -10,7 +10,7 @@ use Rattle.texts.specs.declared.answer.Code.{Code}
 use Rattle.texts.specs.declared.answer.Code.TheVariants as code
 use Rattle.texts.specs.declared.command.Command.{Command}
 use Rattle.texts.specs.declared.command.Command.TheVariants.{SetEdition}
-use Rattle.texts.specs.declared.command.Remarked.{Remarked}
+use Rattle.texts.specs.declared.command.RemarkedCommand.{RemarkedCommand}
 use Rattle.texts.specs.declared.reading.CommandFault.{CommandFault}
 use Rattle.texts.specs.Reading.{command_of}
 use Rattle.texts.specs.Spelling.{IsFit, IsFitRemark, last_edition, spelling, with_remark_text}
@@ -32,7 +32,7 @@ knows_fit (SetEdition e) fit = low fit.0.0.1
 knows_fit _ fit = refl
 
 -- so a command that is read is refused by its own checks
-pub read_fit : (cs : List Command) (told : Remarked) → IsFit told.command
+pub read_fit : (cs : List Command) (told : RemarkedCommand) → IsFit told.command
     → read_refusal cs (Ok told) ≡ spelled_refusal cs told
 read_fit cs told fit =
     ap (λ (b : Bool). cond b (spelled_refusal cs told) (Some code.Unread))
@@ -62,7 +62,7 @@ module _ (k later : ℕ) (most : k ≤ later) where
   knows_alike text (SetEdition e) (Some remark) fit is other = absurd (false≢true fit.0)
   knows_alike text _ remark fit is other = refl
 
-  read_alike : (cs : List Command) (text : List ℕ) (r : Result Remarked CommandFault)
+  read_alike : (cs : List Command) (text : List ℕ) (r : Result RemarkedCommand CommandFault)
       → command_of text ≡ r → SetsNone k later text
       → read_refusal_in later cs r ≡ read_refusal_in k cs r
   read_alike cs text (Ok told) is other =

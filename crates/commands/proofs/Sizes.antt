@@ -39,7 +39,7 @@ use Rattle.texts.specs.declared.command.Command.TheVariants.{Correct, Strike, Se
 use Rattle.texts.specs.declared.command.Command.TheVariants.{SetRound, Withdraw, Card, Fix}
 use Rattle.texts.specs.declared.command.CardEntry.{CardEntry}
 use Rattle.texts.specs.declared.command.Entered.{Entered}
-use Rattle.texts.specs.declared.command.Remarked.{Remarked}
+use Rattle.texts.specs.declared.command.RemarkedCommand.{RemarkedCommand}
 use Rattle.texts.specs.declared.command.Entered.TheVariants as entered
 use Rattle.texts.specs.declared.command.Settings.{Settings}
 use Rattle.texts.specs.declared.reading.CommandFault.{CommandFault}
@@ -719,7 +719,7 @@ not_refused : (spelled : Bool) (refused : Option Code)
 not_refused true refused h = h
 not_refused false refused h = absurd (some≢none code.Unread h)
 
-small_answered : (cs : List Command) (told : Remarked) → IsFit told.command → IsSmall cs
+small_answered : (cs : List Command) (told : RemarkedCommand) → IsFit told.command → IsSmall cs
     → (refused : Option Code)
     → spelled_refusal cs told ≡ refused → IsSmall (cs ++ added_read refused (Ok told))
 small_answered cs told fits h None is =
@@ -727,14 +727,14 @@ small_answered cs told fits h None is =
     (not_refused (is_spelled_in (edition_in cs) told) (refusal cs told.command) is) h
 small_answered cs told fits h (Some why) is = subst IsSmall (sym (append-nil cs)) h
 
-small_read : (cs : List Command) (read : Result Remarked CommandFault)
+small_read : (cs : List Command) (read : Result RemarkedCommand CommandFault)
     → IfOk read (λ told. IsFit told.command) → IsSmall cs
     → IsSmall (cs ++ added_read (read_refusal cs read) read)
 small_read cs (Ok told) fits h =
     small_answered cs told fits h (read_refusal cs (Ok told)) (sym (read_fit cs told fits))
 small_read cs (Err fault) fits h = subst IsSmall (sym (append-nil cs)) h
 
-read_fits : (bytes : List ℕ) (read : Result Remarked CommandFault) → command_of bytes ≡ read
+read_fits : (bytes : List ℕ) (read : Result RemarkedCommand CommandFault) → command_of bytes ≡ read
     → IfOk read (λ told. IsFit told.command)
 read_fits bytes (Ok told) is = (spelled_only bytes told is).0.0
 read_fits bytes (Err fault) is = tt

@@ -6,7 +6,7 @@ use Rattle.std.specs.Prelude.{fold, Option, None, Some, Result, Ok, Err}
 use Rattle.std.specs.List.{list_any}
 use Rattle.texts.specs.declared.command.Command.{Command}
 use Rattle.texts.specs.declared.command.Command.TheVariants.{SetEdition}
-use Rattle.texts.specs.declared.command.Remarked.{Remarked}
+use Rattle.texts.specs.declared.command.RemarkedCommand.{RemarkedCommand}
 use Rattle.texts.specs.declared.answer.Answer.{Answer}
 use Rattle.texts.specs.declared.answer.Answer.TheVariants.{Done, Refused}
 use Rattle.texts.specs.declared.answer.Code.{Code}
@@ -45,19 +45,19 @@ knows k _ = true
 
 -- the first check that fails for a command with its remark: that the edition that holds has its
 -- spelling, then the command's own, which the remark is no part of
-abbrev pub spelled_refusal : List Command → Remarked → Option Code
+abbrev pub spelled_refusal : List Command → RemarkedCommand → Option Code
 spelled_refusal cs told =
     if is_spelled_in (edition_in cs) told then refusal cs told.command else Some code.Unread
 
 -- the first check that fails for what a text reads as: that it is a command, and one that is known,
 -- then the checks of the command
-abbrev pub read_refusal_in : ℕ → List Command → Result Remarked CommandFault → Option Code
+abbrev pub read_refusal_in : ℕ → List Command → Result RemarkedCommand CommandFault → Option Code
 read_refusal_in k cs (Ok told) =
     if knows k told.command then spelled_refusal cs told else Some code.Unread
 read_refusal_in k cs (Err fault) = Some code.Unread
 
 -- the remark is not kept
-abbrev pub added_read : Option Code → Result Remarked CommandFault → List Command
+abbrev pub added_read : Option Code → Result RemarkedCommand CommandFault → List Command
 added_read refused (Ok told) = added refused told.command
 added_read refused (Err fault) = []
 
@@ -88,7 +88,7 @@ history_in k entries = fold (λ h entry. after_in k h entry.0 entry.1) nothing e
 
 -- This program knows each edition.
 
-abbrev pub read_refusal : List Command → Result Remarked CommandFault → Option Code
+abbrev pub read_refusal : List Command → Result RemarkedCommand CommandFault → Option Code
 read_refusal cs read = read_refusal_in last_edition cs read
 
 abbrev pub answer_to : History → ℕ → List ℕ → Answer

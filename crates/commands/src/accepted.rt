@@ -12,7 +12,7 @@ use cube::Move;
 use rounds::RoundTable;
 use std::alloc::Global;
 use std::marker::Model;
-use texts::{Answer, Code, Command, Remarked, RoundId, Settings, is_spelled_in};
+use texts::{Answer, Code, Command, RemarkedCommand, RoundId, Settings, is_spelled_in};
 
 /// The accepted commands in order, with what is looked up of them, and the edition that holds.
 #[derive(Drop)]
@@ -66,7 +66,7 @@ impl AcceptedCommands {
 
     /// Does what a text spells, whatever its remark says, or says why not: what the edition that
     /// holds has no spelling of is `Unread`.
-    pub(crate) fn apply(&mut self, alloc: Global, told: Remarked) -> Result<Answer, NoMemory>
+    pub(crate) fn apply(&mut self, alloc: Global, told: RemarkedCommand) -> Result<Answer, NoMemory>
         requires { IsFitTold told }
         ensures answer { IfOk result (λ a. a ≡ answer_of (spelled_refusal self.old told)) }
         ensures added { OnOk result
@@ -76,7 +76,7 @@ impl AcceptedCommands {
         if !is_spelled_in(self.edition(), &told) {
             return Ok(Answer::Refused(Code::Unread));
         }
-        let Remarked { command, .. } = told;
+        let RemarkedCommand { command, .. } = told;
         self.do_command(alloc, command)
     }
 

@@ -25,7 +25,7 @@ pub use laws::{
 pub use meet::Meet;
 pub use outcomes::{is_wrong, lacks_scramble, settled};
 pub use texts::{
-    Advance, Answer, AttemptEntry, CardEntry, Code, Command, CommandFault, Entered, Name, Now,
-    Remarked, RoundId, Settings, Was, is_spelled_in, one_spelling, print, print_advance,
-    print_cutoff, print_limit, print_remarked, read,
+    Advance, Answer, AttemptEntry, CardEntry, Code, Command, CommandFault, Entered, Name,
+    NewAttempts, RemarkedCommand, RoundId, SeenValues, Settings, is_spelled_in, one_spelling,
+    print, print_advance, print_cutoff, print_limit, print_remarked, read,
 };

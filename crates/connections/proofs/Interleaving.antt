@@ -13,8 +13,8 @@ use Rattle.wire.specs.declared.values.Version.{Version}
 use Rattle.wire.specs.Ranges.{IsFrame}
 use Rattle.wire.specs.Spelling.{spelling}
 use Rattle.wire.specs.Stream.{IsBegun, IsKept, Reader, front, holding, keeps}
-use Rattle.serving.specs.declared.ends.End.{End}
-use Rattle.serving.specs.declared.ends.End.TheVariants as end
+use Rattle.serving.specs.declared.ends.ConnectionEnd.{ConnectionEnd}
+use Rattle.serving.specs.declared.ends.ConnectionEnd.TheVariants as end
 use Rattle.serving.specs.Connection.{Begun, AreBegun, Sides, sides, serve_frame}
 use Rattle.serving.specs.Making.{Makes, Outside, Way}
 use Rattle.serving.specs.Serving.{Act}
@@ -66,7 +66,8 @@ at_first home wire talk is = subst (λ z. HoldsSome home [] [] [] z) (sym is) (
 )
 
 -- an open connection is open after all its frames
-stays_open : (e : Option End) (all : List Served) (rest : List ℕ) → e ≡ None → EndsBy e all rest
+stays_open : (e : Option ConnectionEnd) (all : List Served) (rest : List ℕ) → e ≡ None
+    → EndsBy e all rest
     → StayOpen all
 stays_open None all rest is h = h
 stays_open (Some e) all rest is h = absurd (some_end is)
@@ -90,7 +91,8 @@ stands_with home came taken later rest next all old new only h begins ends = rec
 }
 
 -- the new frames wait, or the end came
-came_to : (e : Option End) (home : Home) (came taken piece rest : List ℕ) (all : List Served)
+came_to : (e : Option ConnectionEnd) (home : Home) (came taken piece rest : List ℕ)
+    (all : List Served)
     (old new : Talk)
     → Holds home came taken all rest old → WantsRead old → OnlyReads old new
     → old.stream ≡ holding rest → new.end ≡ e → ReadsTo e piece old new
@@ -186,7 +188,8 @@ open_more : (all : List Served) (f : Served) → StayOpen all → f.leaves ≡ N
 open_more [] f h is = (is, tt)
 open_more (x ∷ all) f h is = (h.0, open_more all f h.1 is)
 
-ends_more : (e : Option End) (all : List Served) (f : Served) (rest : List ℕ) → StayOpen all
+ends_more : (e : Option ConnectionEnd) (all : List Served) (f : Served) (rest : List ℕ)
+    → StayOpen all
     → f.leaves ≡ e → EndsBy e (all ++ f ∷ []) rest
 ends_more None all f rest h is = open_more all f h is
 ends_more (Some e) all f rest h is =
@@ -376,7 +379,7 @@ turn_serves home start fs k (Took more) a b same h g = quiet_then home start fs 
 
 -- ---- calls and pushes
 
-makes_of : {V : Type 0} {way : Way V} (e : Option End) (home : Home) (a b : Sides way)
+makes_of : {V : Type 0} {way : Way V} (e : Option ConnectionEnd) (home : Home) (a b : Sides way)
     (one : Begun) (count : ℕ) → LeavesAt e home a b one count
     → (acts : List Act) × Makes home.hall a.outside b.outside acts
 makes_of None home a b one count h = ((serve_frame home a.seen one).acts, h.0.made)

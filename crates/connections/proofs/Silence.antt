@@ -12,8 +12,8 @@ use Rattle.wire.specs.Ranges.{IsFrame}
 use Rattle.wire.specs.Spelling.{spelling}
 use Rattle.wire.specs.Stream.{Begins, Breaks, Front, IsBegun, Reader, Waits, front, holding, keeps}
 use Rattle.wire.proofs.Streams.{front_again}
-use Rattle.serving.specs.declared.ends.End.{End}
-use Rattle.serving.specs.declared.ends.End.TheVariants as end
+use Rattle.serving.specs.declared.ends.ConnectionEnd.{ConnectionEnd}
+use Rattle.serving.specs.declared.ends.ConnectionEnd.TheVariants as end
 use Rattle.serving.specs.Making.{Way}
 use Rattle.serving.specs.Turns.{Talk, OnlyReads, ReadsTo, broken_by, new_talk}
 use Rattle.serving.specs.TurnLaw.{Came, Began, IsQuiet, Place, Rested, Took, Turn, Turns, came_in}
@@ -61,7 +61,7 @@ waits_not : (at : Front) → Waits ≡ at → IsBegun at → ⊥
 waits_not at is h = subst IsBegun (sym is) h
 
 -- no byte came: it is idle still
-idle_came : (e : Option End) (piece : List ℕ) (old new : Talk)
+idle_came : (e : Option ConnectionEnd) (piece : List ℕ) (old new : Talk)
     → IsIdle old → OnlyReads old new → piece ≡ [] → new.end ≡ e → ReadsTo e piece old new
     → IsIdle new
 idle_came None piece old new h only none is r =

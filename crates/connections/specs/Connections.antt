@@ -9,8 +9,8 @@ use Rattle.store.specs.declared.home.Home.{Home}
 use Rattle.wire.specs.declared.values.Version.{Version}
 use Rattle.wire.specs.Spelling.{spelling}
 use Rattle.wire.specs.Stream.{Breaks, front, IsOfStream}
-use Rattle.serving.specs.declared.ends.End.{End}
-use Rattle.serving.specs.declared.ends.End.TheVariants as end
+use Rattle.serving.specs.declared.ends.ConnectionEnd.{ConnectionEnd}
+use Rattle.serving.specs.declared.ends.ConnectionEnd.TheVariants as end
 use Rattle.serving.specs.Connection.{AreBegun, Begun, sides}
 use Rattle.serving.specs.Making.{Makes, Outside, Way, speaking}
 use Rattle.serving.specs.Serving.{Act}
@@ -58,7 +58,7 @@ pub record Served : Type 0 where
   pub one : Begun
   pub count : ℕ
   pub answer : List ℕ
-  pub leaves : Option End
+  pub leaves : Option ConnectionEnd
 
 -- what is seen of the node, and what is there beside
 pub record Point {V : Type 0} (way : Way V) : Type 0 where
@@ -105,13 +105,13 @@ StayOpen [] = Unit {0}
 StayOpen (f ∷ fs) = (f.leaves ≡ None) × StayOpen fs
 
 -- the last of these frames ended its connection so, and those before it left it open
-pub record LastEnds (why : End) (all earlier : List Served) (last : Served) : Type 0 where
+pub record LastEnds (why : ConnectionEnd) (all earlier : List Served) (last : Served) : Type 0 where
   pub parts : all ≡ earlier ++ last ∷ []
   pub open_before : StayOpen earlier
   pub ends : last.leaves ≡ Some why
 
 -- it ended after all its frames: by a fault that is after them, or for want of memory
-abbrev pub EndsAfter : End → List ℕ → Type 0
+abbrev pub EndsAfter : ConnectionEnd → List ℕ → Type 0
 EndsAfter (end.Fault e) rest = (front rest ≡ Breaks e) × IsOfStream e
 EndsAfter end.NoMemory rest = Unit {0}
 EndsAfter end.Stopped rest = ⊥
@@ -123,7 +123,7 @@ EndsAfter end.Read rest = ⊥
 EndsAfter end.Write rest = ⊥
 
 -- the connection is open, or ended by its cause
-abbrev pub EndsBy : Option End → List Served → List ℕ → Type 0
+abbrev pub EndsBy : Option ConnectionEnd → List Served → List ℕ → Type 0
 EndsBy None all rest = StayOpen all
 EndsBy (Some e) all rest =
     ((earlier : List Served) × (last : Served) × LastEnds e all earlier last)
@@ -154,7 +154,7 @@ MakesSome hall a b = (acts : List Act) × Makes hall a.outside b.outside acts
 abbrev pub EachIsServed : {V : Type 0} → DeskOf V → Type 0
 EachIsServed d =
     (home : Home) (wire : Version) (turns : List TurnOf)
-    (a b : Connections (speaking d.handles wire))
+    (a b : Connections (speaking d.handles d.settles wire))
     → ((k : ℕ) → a.talks k ≡ new_talk home wire) → FollowEach a turns b
     → (frames : List Served)
     × AreServedInTurn home (point_of a) frames (point_of b)
@@ -180,9 +180,9 @@ pub record IsSameBut {V : Type 0} {way : Way V} (k : ℕ) (a b : Connections way
 abbrev pub SilenceChangesNothing : {V : Type 0} → DeskOf V → Type 0
 SilenceChangesNothing d =
     (home : Home) (wire : Version) (turns : List TurnOf)
-    (a b : Connections (speaking d.handles wire)) (k : ℕ)
+    (a b : Connections (speaking d.handles d.settles wire)) (k : ℕ)
     → ((j : ℕ) → a.talks j ≡ new_talk home wire) → FollowEach a turns b
     → received (turns_of k turns) ≡ []
     → (handed_out (turns_of k turns) ≡ [])
-    × ((c : Connections (speaking d.handles wire)) × FollowEach a (without k turns) c
+    × ((c : Connections (speaking d.handles d.settles wire)) × FollowEach a (without k turns) c
     × IsSameBut k b c)

@@ -9,5 +9,5 @@ mod tokens;
 pub use laws::{one_reading, printed_is_spelled};
 pub use moves::Moves;
 pub use printing::{count, print};
-pub use reading::{MOST_MOVES, ReadFault, read};
+pub use reading::{MOST_MOVES, NotationFault, read};
 pub use std::alloc::AllocError as NoMemory;

@@ -1,9 +1,9 @@
 -- How tasks end at a fault.
 use Rattle.std.proofs.Common.{◌≡◌, ◌∙◌, ℕ, List, Option, arith, sym}
 use Rattle.desk.specs.Statuses.{PrintsAtMost}
-use Rattle.errands.specs.Statuses.{key_status, status_of}
-use Rattle.errands.specs.declared.fault.DeskFault.{DeskFault}
-use Rattle.errands.specs.declared.fault.DeskFault.TheVariants as fault
+use Rattle.desk_requests.specs.Statuses.{key_status, status_of}
+use Rattle.desk_requests.specs.declared.fault.DeskFault.{DeskFault}
+use Rattle.desk_requests.specs.declared.fault.DeskFault.TheVariants as fault
 use Rattle.fault_lines.specs.Statuses.{status_of_run}
 use Rattle.exports.specs.Statuses.{export_status, log_status, results_status}
 use Rattle.exports.specs.declared.fault.ExportsFault.{ExportsFault}
@@ -21,13 +21,13 @@ use Rattle.lines.specs.declared.fault.RunFault.{RunFault}
 use Rattle.lines.specs.declared.fault.RunFault.TheVariants as run
 use Rattle.sqlite.specs.Recovery.{Image}
 use Rattle.desk_file.specs.stored_log.StoredLogs.{FailsLog, PrintsLogPart}
-use Rattle.desk_file.specs.declared.stored_log.fault.LogFault.{LogFault}
-use Rattle.desk_file.specs.declared.stored_log.fault.LogFault.TheVariants as stored
+use Rattle.desk_file.specs.declared.stored_log.fault.StoredLogFault.{StoredLogFault}
+use Rattle.desk_file.specs.declared.stored_log.fault.StoredLogFault.TheVariants as stored
 use Rattle.wcif.specs.declared.file.FileFault.TheVariants as file
 use Rattle.wcif_results.specs.declared.exporting.ExportFault.TheVariants as export
 
 -- what was written of an archive at a fault
-pub prints_at_most : {K : Type 0} (e : LogFault) (IsHonest : K → Type 0) (files : Image)
+pub prints_at_most : {K : Type 0} (e : StoredLogFault) (IsHonest : K → Type 0) (files : Image)
     (old new : Option (List ℕ))
     → FailsLog e IsHonest files old new → PrintsLogPart old new → PrintsAtMost e old new
 prints_at_most stored.Damaged IsHonest files old new fails part = fails

@@ -3,7 +3,7 @@ use Rattle.std.proofs.Common.{◌≤◌, List, Option, subst}
 use Rattle.std.proofs.lemmas.List.{length-map}
 use Rattle.clap.specs.Words.{Row, Text}
 use Rattle.arguments.specs.Asking.{Finds}
-use Rattle.arguments.specs.declared.places.Desks.TheVariants as desks
+use Rattle.arguments.specs.declared.places.DeskPlaces.TheVariants as desks
 use Rattle.arguments.specs.declared.task.Task.{Task}
 use Rattle.arguments.specs.declared.task.Task.TheVariants as task
 use Rattle.desk.specs.Statuses.{HasFew}

@@ -7,9 +7,9 @@ use Rattle.clap.specs.Words.{Text}
 use Rattle.lines.specs.Bytes.{HasLeft, Sides}
 use Rattle.lines.specs.declared.fault.RunFault.{RunFault}
 use Rattle.lines.specs.declared.fault.RunFault.TheVariants as run
-use Rattle.addressing.specs.Files.{IsOfFile}
-use Rattle.addressing.specs.Keys.{key_file_of, naming}
-use Rattle.addressing.specs.Printing.{FailsToPrint, PrintsHall}
+use Rattle.desk_choice.specs.Files.{IsOfFile}
+use Rattle.desk_choice.specs.Keys.{key_file_of, naming}
+use Rattle.desk_choice.specs.Printing.{FailsToPrint, PrintsHall}
 use Rattle.hall.specs.Halls.{Run as HallRun, Runs, RunFails}
 use Rattle.hall.specs.Halls.{run_of as hall_run_of}
 use Rattle.hall_file.specs.Halls.{Says, texts_of}
@@ -24,35 +24,35 @@ use Rattle.exports.specs.Statuses.{export_status, notes_status, results_status}
 use Rattle.exports.specs.declared.fault.ExportsFault.{ExportsFault}
 use Rattle.exports.specs.declared.fault.ResultsFault.{ResultsFault}
 use Rattle.wcif.specs.declared.options.Options.{Options}
-use Rattle.wcif_results.specs.declared.note.Note.{Note}
+use Rattle.wcif_results.specs.declared.note.ExportNote.{ExportNote}
 use Rattle.replay.specs.Apart.{Told}
 use Rattle.standings.specs.declared.forms.Form.{Form}
 use Rattle.standings.specs.declared.forms.Form.TheVariants as form
 use Rattle.desk_file.specs.stored_log.StoredLogs.{PrintsLog, PrintsLogPart}
-use Rattle.desk_file.specs.declared.stored_log.fault.LogFault.{LogFault}
-use Rattle.desk_file.specs.declared.stored_log.fault.LogFault.TheVariants as stored
+use Rattle.desk_file.specs.declared.stored_log.fault.StoredLogFault.{StoredLogFault}
+use Rattle.desk_file.specs.declared.stored_log.fault.StoredLogFault.TheVariants as stored
 use Rattle.serve.specs.Printing.{Prints, PrintsAt, output}
 use Rattle.serve.specs.declared.fault.ServeFault.{ServeFault}
 use Rattle.serve.specs.declared.fault.ServeFault.TheVariants as serve
 use Rattle.hall_file.specs.declared.service.Service.{Service}
 use Rattle.arguments.specs.Asking.{Asks}
-use Rattle.errands.specs.Statuses.{status_of}
-use Rattle.errands.specs.declared.fault.DeskFault.{DeskFault}
-use Rattle.errands.specs.declared.fault.DeskFault.TheVariants as fault
+use Rattle.desk_requests.specs.Statuses.{status_of}
+use Rattle.desk_requests.specs.declared.fault.DeskFault.{DeskFault}
+use Rattle.desk_requests.specs.declared.fault.DeskFault.TheVariants as fault
 use Rattle.fault_lines.specs.Statuses.{EndsTask, RunsNothing, status_of_run}
-use Rattle.arguments.specs.declared.places.Desks.TheVariants as desks
+use Rattle.arguments.specs.declared.places.DeskPlaces.TheVariants as desks
 use Rattle.arguments.specs.declared.places.Place.{Place}
 use Rattle.arguments.specs.declared.task.HallService.{HallService}
 use Rattle.arguments.specs.declared.task.Task.{Task}
 use Rattle.arguments.specs.declared.task.Task.TheVariants as task
 use Rattle.desk.specs.Keys.{EndsKey}
-use Rattle.tasks.specs.Begun.{AsksFirst}
-use Rattle.tasks.specs.Asking.{EndsCarry, EndsCopyLog, EndsNewest, log_form}
-use Rattle.tasks.specs.Entering.{EndsLines, EndsWords}
-use Rattle.tasks.specs.Folders.{EndsFolders}
-use Rattle.tasks.specs.Places.{NamesDesk, Reach}
-use Rattle.tasks.specs.Services.{IsEntryKeyFile, IsServiceOf}
-use Rattle.tasks.specs.Standings.{AreFew, EndsStatus}
+use Rattle.subcommands.specs.Begun.{AsksFirst}
+use Rattle.subcommands.specs.Asking.{EndsCarry, EndsCopyLog, EndsNewest, log_form}
+use Rattle.subcommands.specs.Entering.{EndsLines, EndsWords}
+use Rattle.subcommands.specs.Folders.{EndsFolders}
+use Rattle.subcommands.specs.Places.{NamesDesk, Reach}
+use Rattle.subcommands.specs.Services.{IsEntryKeyFile, IsServiceOf}
+use Rattle.subcommands.specs.Standings.{AreFew, EndsStatus}
 
 -- the fault of a desk that serves
 abbrev pub fault_of_serve : ServeFault → DeskFault
@@ -74,14 +74,14 @@ fault_of_serve serve.Write = fault.Run run.Write
 fault_of_serve serve.NoMemory = fault.Run run.NoMemory
 
 -- the fault of a stored log
-abbrev pub fault_of_log : LogFault → DeskFault
+abbrev pub fault_of_log : StoredLogFault → DeskFault
 fault_of_log stored.Damaged = fault.DamagedStore
 fault_of_log stored.Device = fault.StoreDevice
 fault_of_log stored.Write = fault.Run run.Write
 fault_of_log stored.NoMemory = fault.Run run.NoMemory
 
 -- what was written of a log at each fault: nothing where the file is damaged or cannot be read
-abbrev pub PrintsAtMost : LogFault → Option (List ℕ) → Option (List ℕ) → Type 0
+abbrev pub PrintsAtMost : StoredLogFault → Option (List ℕ) → Option (List ℕ) → Type 0
 PrintsAtMost stored.Damaged old new = Keeps old new
 PrintsAtMost stored.Device old new = Keeps old new
 PrintsAtMost stored.Write old new = PrintsLogPart old new
@@ -91,7 +91,7 @@ PrintsAtMost stored.NoMemory old new = PrintsLogPart old new
 abbrev pub EndsLog : ℕ → Option (List ℕ) → Option (List ℕ) → Type 0
 EndsLog status old new =
     ((status ≡ 0) × PrintsLog old new)
-    ⊎ ((e : LogFault) × (status ≡ status_of (fault_of_log e)) × PrintsAtMost e old new)
+    ⊎ ((e : StoredLogFault) × (status ≡ status_of (fault_of_log e)) × PrintsAtMost e old new)
 
 -- a competition's commands were printed, or not
 abbrev pub EndsImport : ℕ → Options → Option (List ℕ) → Option (List ℕ) → Type 0
@@ -102,7 +102,7 @@ EndsImport status options old new =
 -- a competition's file was printed with the results of a log, or not
 abbrev pub EndsExport : ℕ → (running : Bool) → (had old new : Option (List ℕ)) → Type 0
 EndsExport status running had old new =
-    ((notes : List Note) × (status ≡ notes_status notes)
+    ((notes : List ExportNote) × (status ≡ notes_status notes)
     × PrintsExport running notes None had old new)
     ⊎ ((f : ExportsFault) × (status ≡ export_status f) × FailsExport f running None had old new)
 
@@ -150,7 +150,7 @@ EndsUnserved status c old new =
     (f : DeskFault) × (status ≡ status_of f) × IsOfFile f × (c.old ≡ c.new) × Keeps old new
 
 -- Or the desk of its hall served, or ended by a fault. Where its store was to be made, the hall's
--- desks may have been asked first; and where it did not serve one of them had a command, or none
+-- desks may have been asked first; and if it did not serve, then one of them had a command, or none
 -- answered in a hall that is not new.
 abbrev pub EndsServeHall : ℕ → Bor (List ℕ) → HallService → Calls → Option (List ℕ)
     → Option (List ℕ) → Type 0
@@ -165,7 +165,7 @@ EndsServeHall status file wanted c old new =
     × AsksFirst file wanted hall (texts_of hall) true c.old c.new
     × EndsServe status s old new)))
 
--- where all was done, nothing is told on the fault stream
+-- where all was done, nothing is written on the fault stream
 abbrev pub IsQuiet : ℕ → Told → Type 0
 IsQuiet status t = status ≡ 0 → Keeps t.before t.now
 
@@ -173,7 +173,7 @@ IsQuiet status t = status ≡ 0 → Keeps t.before t.now
 abbrev pub IsQuietAt : Place → ℕ → Told → Type 0
 IsQuietAt place status t = status ≡ 0 → NamesDesk place → Keeps t.before t.now
 
--- in which form the desks of a hall are told of
+-- in which form the states of a hall's desks are printed
 abbrev pub form_of : Bool → Form
 form_of true = form.Json
 form_of false = form.Text
@@ -197,7 +197,7 @@ HasFew (task.CopyLog place patience start form) = Unit {0}
 HasFew (task.Serve service) = Unit {0}
 HasFew (task.ServeHall file wanted) = Unit {0}
 
--- how a task ended: by a status, with what was read, written and told, and what became of
+-- how a task ended: by a status, with what was read, written and reported, and what became of
 -- connections
 abbrev pub Ends : Task → ℕ → Sides → Calls → Told → Type 0
 Ends (task.Replay event round style only_sheet) status s c t =
@@ -245,7 +245,7 @@ Ends (task.Serve service) status s c t =
 Ends (task.ServeHall file wanted) status s c t =
     Keeps s.had s.left × EndsServeHall status file wanted c s.old s.new × IsQuiet status t
 
--- what a status says of the arguments, and of what was read, written and told
+-- what a status says of the arguments, and of what was read, written and reported
 abbrev pub Ran : List Text → ℕ → Sides → Calls → Told → Type 0
 Ran given status s c t =
     ((asked : Task) × Asks given asked × Ends asked status s c t)

@@ -4,11 +4,11 @@ ghost use Rattle.std.specs.Prelude.{◌≡◌, option_map, OnErr, OnOk};
 ghost use Rattle.std.specs.Io.KnownBytes.{Keeps};
 ghost use Rattle.desk.specs.Keys.{EndsKey, IsMade, IsUnmade, fault_of_making};
 
-use errands::DeskFault;
+use desk_requests::DeskFault;
 use keys::key_file::{MakeFault, make_key, make_key_at};
 use lines::RunFault;
 use std::io::Write;
-use tasks::tell_missing;
+use subcommands::tell_missing;
 
 /// The fault of a key that is not made.
 fn fault_of_making(fault: MakeFault) -> DeskFault

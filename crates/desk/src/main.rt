@@ -7,7 +7,7 @@ mod running;
 mod served;
 
 use command_line::given;
-use errands::Sockets;
+use desk_requests::TcpDialer;
 use fault_lines::tell_no_arguments;
 use running::run_given;
 use std::process::ExitCode;
@@ -16,7 +16,7 @@ fn main(rt: HostRuntime) -> ExitCode {
     let mut input = rt.stdin();
     let mut output = rt.stdout();
     let mut faults = rt.stderr();
-    let mut dial = Sockets::new(&rt);
+    let mut dial = TcpDialer::new(&rt);
     let status = match given(&rt) {
         Ok(texts) => run_given(&rt, &mut dial, &texts, &mut input, &mut output, &mut faults),
         Err(error) => tell_no_arguments(&error, &mut faults),

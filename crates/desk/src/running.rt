@@ -12,12 +12,12 @@ ghost use Rattle.replay.specs.Apart.{told};
 use crate::exported::{run_export, run_results};
 use crate::made_key::run_key;
 use crate::served::{run_hall_service, run_service};
-use addressing::print_hall_file;
-use arguments::{Asked, Task, parse, task_of};
+use arguments::{Invocation, Task, parse, task_of};
 use batch::{Dial, RoundSheet};
 use command_line::borrowed;
-use desk_file::stored_log::{LogFault, write_stored_log};
-use errands::DeskFault;
+use desk_choice::print_hall_file;
+use desk_file::stored_log::{StoredLogFault, write_stored_log};
+use desk_requests::DeskFault;
 use exports::imports::{print_file, tell_import};
 use fault_lines::{run_replay, tell_bad_number, tell_fault, tell_parse_error, tell_run};
 use hall::hall;
@@ -26,20 +26,20 @@ use replay_arguments::ReplayTask;
 use sqlite::Unknown;
 use standings::Form;
 use std::io::{Read, Write};
-use tasks::{
-    Watching, carry_at, copy_log_at, enter_lines_at, enter_words_at, make_folders, newest_at,
+use subcommands::{
+    StatusOptions, carry_at, copy_log_at, enter_lines_at, enter_words_at, make_folders, newest_at,
     status_at, tell_log, tell_missing,
 };
 
 /// The fault of a stored log.
-fn fault_of_log(fault: LogFault) -> DeskFault
+fn fault_of_log(fault: StoredLogFault) -> DeskFault
     ensures { result ≡ fault_of_log fault }
 {
     match fault {
-        LogFault::Damaged => DeskFault::DamagedStore,
-        LogFault::Device => DeskFault::StoreDevice,
-        LogFault::Write => DeskFault::Run(RunFault::Write),
-        LogFault::NoMemory => DeskFault::Run(RunFault::NoMemory),
+        StoredLogFault::Damaged => DeskFault::DamagedStore,
+        StoredLogFault::Device => DeskFault::StoreDevice,
+        StoredLogFault::Write => DeskFault::Run(RunFault::Write),
+        StoredLogFault::NoMemory => DeskFault::Run(RunFault::NoMemory),
     }
 }
 
@@ -77,7 +77,7 @@ fn run_hall_file<W: Write, F: Write>(
 fn run_task<D: Dial, R: Read, W: Write, F: Write>(
     rt: &HostRuntime,
     dial: &mut D,
-    asked: Asked<'_>,
+    asked: Invocation<'_>,
     reader: &mut R,
     writer: &mut W,
     faults: &mut F,
@@ -175,7 +175,7 @@ fn run_task<D: Dial, R: Read, W: Write, F: Write>(
             all,
         } => {
             let form = form_of(json);
-            let way = Watching { form, watches, all };
+            let way = StatusOptions { form, watches, all };
             status_at(rt, dial, desks, patience, way, writer, faults)
         }
         Task::Serve { service } => run_service(rt, service, explains, writer, faults),
@@ -197,7 +197,7 @@ fn run_task<D: Dial, R: Read, W: Write, F: Write>(
 /// a terminal and with `--explain` a second line says why: [`DeskFault`], [`tell_import`] and
 /// [`tell_export`](exports::tell_export) have them. What each subcommand reads, writes and refuses
 /// is said at [`run_replay`], [`print_file`], [`run_export`], [`run_results`],
-/// [`hall`](hall::hall), and in the crate `tasks`. Desks are asked by `dial`.
+/// [`hall`](hall::hall), and in the crate `subcommands`. Desks are asked by `dial`.
 pub fn run_arguments<'a, D: Dial, R: Read, W: Write, F: Write>(
     rt: &HostRuntime,
     dial: &mut D,

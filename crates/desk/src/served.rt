@@ -3,19 +3,19 @@
 ghost use Rattle.std.specs.Prelude.{◌≡◌, ◌≤◌, IsTrue, length, map, option_map, string_bytes};
 ghost use Rattle.std.specs.Io.KnownBytes.{Keeps};
 ghost use Rattle.desk.specs.Statuses.{EndsServe, EndsServeHall, calls, fault_of_serve};
-ghost use Rattle.tasks.specs.Begun.{AsksFirst};
+ghost use Rattle.subcommands.specs.Begun.{AsksFirst};
 
-use addressing::{hall_key_file, hall_of_file, key_of_hall};
 use arguments::HallService;
 use batch::Dial;
-use errands::{DeskFault, Inquiry, tell};
+use desk_choice::{hall_key_file, hall_of_file, key_of_hall};
+use desk_requests::{DeskFault, Inquiry, tell};
 use hall_file::HallFile;
 use hall_file::service::Service;
 use lines::RunFault;
 use serve::{ServeFault, has_bytes, serve};
 use sqlite::Unknown;
 use std::io::Write;
-use tasks::{addresses_of, entry_key_file, may_make, service_of, tell_missing, tell_service};
+use subcommands::{addresses_of, entry_key_file, may_make, service_of, tell_missing, tell_service};
 
 /// The fault of a desk that serves.
 fn fault_of_serve(fault: ServeFault) -> DeskFault

@@ -10,8 +10,8 @@ use Rattle.sqlite_wal.specs.Recovery.{IsIgnored, header}
 use Rattle.sqlite_wal.proofs.PartLemmas.{part_held, same_be32}
 use Rattle.desk_file.specs.Marks.{CountsInBytes, HasFrame, IsEmptied, IsLog, IsMarked, IsOfUse}
 use Rattle.desk_file.specs.Marks.{IsShut, Stands, StandsBeside, number_of, uses_of}
-use Rattle.desk_file.specs.declared.mark.Standing.{Standing}
-use Rattle.desk_file.specs.declared.mark.Standing.TheVariants as standing
+use Rattle.desk_file.specs.declared.mark.FilesState.{FilesState}
+use Rattle.desk_file.specs.declared.mark.FilesState.TheVariants as standing
 
 -- ---- what was read of the front of a file
 
@@ -34,7 +34,7 @@ pub told_twice : (b : Bool) (P : Type 0) → (IsTrue b → P) × (P → IsTrue b
 told_twice true P is twice = refl
 told_twice false P is twice = absurd (twice (λ p. false≢true (is.1 p)))
 
--- ---- how a log stands
+-- ---- what there is of a log
 
 pub unnamed : (n : ℕ) (log : List ℕ) → (be32 log 12 + n) % 2 ^ 32 ≢ be32 log 16
     → StandsBeside standing.LogLost n log
@@ -372,7 +372,7 @@ pub both_ok : {E : Type 0} (r : Result (Unit {0}) E) (A B : Type 0) → A → On
 both_ok (Ok _) A B a b = (a, b)
 both_ok (Err _) A B a b = tt
 
-pub stands_by : (it : Standing) (n : ℕ) (log db : List ℕ) → IsMarked db → n ≡ number_of db
+pub stands_by : (it : FilesState) (n : ℕ) (log db : List ℕ) → IsMarked db → n ≡ number_of db
     → StandsBeside it n log → Stands it log db
 stands_by standing.Free n log db marked is isnt = absurd isnt
 stands_by standing.StrangeLog n log db marked is isnt = absurd isnt

@@ -71,14 +71,16 @@ pub opened_on : {K E : Type 0} (k : Ghosts K) (files : Image) (home : Home) (c :
     (r : Result K E)
     → (HasCleanDisk c → IsFresh c × IsLive c) → (HasCleanDisk c → FindsIn files c)
     → IfOk r (λ keeper. k.home_of keeper ≡ home) → IfOk r (λ keeper. k.failures_of keeper ≡ 0)
+    → IfOk r (λ keeper. k.is_settled keeper)
     → IfOk r (λ keeper. k.is_honest keeper → Opens home c (k.keeps keeper))
     → IfOk r (KeepsHeld k files home)
-opened_on k files home c (Ok keeper) fresh found place none opens = record {
+opened_on k files home c (Ok keeper) fresh found place none settled opens = record {
   place = place;
   fresh = none;
+  settled = settled;
   held = λ honest. held files home c (k.keeps keeper) fresh found (opens honest);
 }
-opened_on k files home c (Err e) fresh found place none opens = tt
+opened_on k files home c (Err e) fresh found place none settled opens = tt
 
 -- ---- where one is there, and where none is
 
@@ -90,11 +92,13 @@ pub there_on : {K E : Type 0} (k : Ghosts K) (files : Image) (home : Home) (c : 
     → (HasCleanDisk c → IsFresh c × IsLive c) → (HasCleanDisk c → FindsIn files c)
     → ¬ IsBare c
     → IfOk r (λ keeper. k.home_of keeper ≡ home) → IfOk r (λ keeper. k.failures_of keeper ≡ 0)
+    → IfOk r (λ keeper. k.is_settled keeper)
     → IfOk r (λ keeper. k.is_honest keeper → Opens home c (k.keeps keeper))
     → IfOk r (KeepsThere k files home)
-there_on k files home c (Ok keeper) fresh found there place none opens = record {
+there_on k files home c (Ok keeper) fresh found there place none settled opens = record {
   place = place;
   fresh = none;
+  settled = settled;
   held =
       λ honest.
       let o = opens honest in
@@ -113,17 +117,18 @@ there_on k files home c (Ok keeper) fresh found there place none opens = record 
         )
       ];
 }
-there_on k files home c (Err e) fresh found there place none opens = tt
+there_on k files home c (Err e) fresh found there place none settled opens = tt
 
 pub first_on : {K : Type 0} (k : Ghosts K) (files : Image) (home : Home) (c : State) (keeper : K)
     → (HasCleanDisk c → IsFresh c × IsLive c) → (HasCleanDisk c → FindsIn files c)
     → IsBare c
-    → k.home_of keeper ≡ home → k.failures_of keeper ≡ 0
+    → k.home_of keeper ≡ home → k.failures_of keeper ≡ 0 → k.is_settled keeper
     → (k.is_honest keeper → Opens home c (k.keeps keeper))
     → KeepsFirst k files home keeper
-first_on k files home c keeper fresh found bare place none opens = record {
+first_on k files home c keeper fresh found bare place none settled opens = record {
   place = place;
   fresh = none;
+  settled = settled;
   held =
       λ honest.
       let o = opens honest in
@@ -170,7 +175,7 @@ other_row files home c fresh finds has = record {
   row = subst (λ (d : Database). HasRow has.0 has.1 d.trees) fresh.clean has.2.row;
 }
 
--- so it was where a connection that was dropped tells that the row is another desk's
+-- so it was where a connection that was dropped says that the row is another desk's
 pub other_on : {D K : Type 0} (state_of : D → State) (files : Image) (home : Home) (c : State)
     (r : Result K OpenFault)
     → (HasCleanDisk c → IsFresh c × IsLive c) → (HasCleanDisk c → FindsIn files c)

@@ -43,6 +43,7 @@ pub record KeepsHeld {K : Type 0} (k : Ghosts K) (files : Image) (home : Home) (
     : Type 0 where
   pub place : k.home_of keeper ≡ home
   pub fresh : k.failures_of keeper ≡ 0
+  pub settled : k.is_settled keeper
   pub held : k.is_honest keeper
       → (s : Stored) × (log : List Entry) × k.keeps keeper s log × HeldBy files home s log
 
@@ -61,6 +62,7 @@ pub record KeepsAs {K : Type 0} (k : Ghosts K) (files : Image) (home : Home)
     (Has : Stored → List Entry → Trees → Type 0) (keeper : K) : Type 0 where
   pub place : k.home_of keeper ≡ home
   pub fresh : k.failures_of keeper ≡ 0
+  pub settled : k.is_settled keeper
   pub held : k.is_honest keeper
       → (s : Stored) × (log : List Entry) × k.keeps keeper s log × HeldAs files (Has s log)
 
@@ -70,7 +72,7 @@ HasTable trees =
     (schema : Schema) × (schema ≢ no_schema)
     × IsDatabase (record { schema = schema; trees = trees })
 
--- so it was where a connection that has been dropped had been given back what was written
+-- it was so if a connection that has been dropped had been given back what was written
 abbrev pub TellsTable : {C : Type 0} → (C → State) → Image → Type 0
 TellsTable {C} state files =
     (dropped : C) × (HasCleanDisk (state dropped) → HeldAs files HasTable)
@@ -83,7 +85,7 @@ StandsIn home s log trees = Holds home trees s log
 abbrev pub IsMadeIn : Stored → List Entry → Trees → Type 0
 IsMadeIn s log trees = IsFirst trees s log
 
--- The keeper of this desk keeps what stood in its tables.
+-- The keeper of this desk keeps what its tables had.
 abbrev pub KeepsThere : {K : Type 0} → Ghosts K → Image → Home → K → Type 0
 KeepsThere k files home keeper = KeepsAs k files home (StandsIn home) keeper
 
@@ -103,7 +105,7 @@ pub record HeldOther (files : Image) (home : Home) : Type 0 where
   pub state : Stored
   pub row : HasRow away state trees
 
--- so it was where a connection that has been dropped had been given back what was written
+-- it was so if a connection that has been dropped had been given back what was written
 abbrev pub TellsOther : {C : Type 0} → (C → State) → Image → Home → Type 0
 TellsOther {C} state files home =
     (dropped : C) × (HasCleanDisk (state dropped) → HeldOther files home)

@@ -7,8 +7,8 @@ use Rattle.sqlite_disk.specs.declared.Files.{Files}
 use Rattle.sqlite_wal.specs.Format.{IsSigned, be32}
 use Rattle.sqlite_wal.specs.Reads.{IsClean}
 use Rattle.sqlite_wal.specs.Recovery.{IsIgnored, header}
-use Rattle.desk_file.specs.declared.mark.Standing.{Standing}
-use Rattle.desk_file.specs.declared.mark.Standing.TheVariants as standing
+use Rattle.desk_file.specs.declared.mark.FilesState.{FilesState}
+use Rattle.desk_file.specs.declared.mark.FilesState.TheVariants as standing
 
 -- The file is in use: the first byte of the field that SQLite calls `user_version` is not 0.
 abbrev pub IsMarked : List ℕ → Type 0
@@ -33,24 +33,24 @@ CountsInBytes db =
 abbrev pub IsOfUse : ℕ → List ℕ → Type 0
 IsOfUse n log = (41 ≤ length log) × ((be32 log 12 + n) % 2 ^ 32 ≡ be32 log 16)
 
--- None of its frames counts: the byte that the first one is to begin its salt with is another one.
+-- None of its frames counts: the first one's salt does not begin with the byte that it would need.
 abbrev pub IsShut : List ℕ → Type 0
 IsShut log = slice_index log 40 ≢ slice_index log 16
 
--- The log of this use, as a desk writes it: SQLite takes it for a log, and, where it has frames,
+-- The log of this use, as a desk writes it: SQLite reads it as a log, and, where it has frames,
 -- the first one is there to its end.
 abbrev pub IsLog : ℕ → List ℕ → Type 0
 IsLog n log =
     IsOfUse n log × (¬ IsIgnored log) × (IsShut log ⊎ (be32 log 8 + 56 ≤ length log))
 
 -- The log of this use, emptied once all that it had was copied into the file: it is about to get a
--- new header, or nothing is behind its header.
+-- new header, or nothing follows its header.
 abbrev pub IsEmptied : ℕ → List ℕ → Type 0
 IsEmptied n log =
     IsOfUse n log
     × ((slice_index log 0 ≡ 0) ⊎ ((length log < 56) × IsSigned (header log) × IsShut log))
 
--- SQLite takes it for a log, and takes up its first frame, which is there to its end.
+-- SQLite reads it as a log, and reads its first frame, which is there to its end.
 abbrev pub HasFrame : List ℕ → Type 0
 HasFrame log =
     (¬ IsIgnored log) × (slice_index log 40 ≡ slice_index log 16)
@@ -63,7 +63,7 @@ IsStrange log db =
     (64 ≤ length db) × (slice_index db 60 ≡ 0) × (number_of db ≢ 0) × HasFrame log
 
 -- how the log beside a file is that is in use under this number
-abbrev pub StandsBeside : Standing → ℕ → List ℕ → Type 0
+abbrev pub StandsBeside : FilesState → ℕ → List ℕ → Type 0
 StandsBeside standing.Free n log = ⊥
 StandsBeside standing.StrangeLog n log = ⊥
 StandsBeside standing.InUse n log = IsLog n log
@@ -71,7 +71,7 @@ StandsBeside standing.Emptied n log = IsEmptied n log
 StandsBeside standing.LogLost n log = (¬ IsLog n log) × (¬ IsEmptied n log)
 
 -- How a desk's two files are: each two files in one of these ways, and in no other.
-abbrev pub Stands : Standing → (log db : List ℕ) → Type 0
+abbrev pub Stands : FilesState → (log db : List ℕ) → Type 0
 Stands standing.Free log db = (¬ IsMarked db) × (¬ IsStrange log db)
 Stands standing.StrangeLog log db = IsStrange log db
 Stands it log db = IsMarked db × StandsBeside it (number_of db) log
@@ -85,7 +85,7 @@ AreWhole log db =
 abbrev pub AreApart : (log db : List ℕ) → Type 0
 AreApart log db = Stands standing.LogLost log db ⊎ Stands standing.StrangeLog log db
 
--- so the two files were that were looked at, where they gave back what they hold
+-- the two files that were looked at were so, if they gave back what they hold
 abbrev pub Tells : {D : Type 0} → Ghosts D → (List ℕ → List ℕ → Type 0) → (log db : List ℕ)
     → Type 0
 Tells {D} g Are log db =
@@ -123,3 +123,39 @@ IsBetween g old log db =
 abbrev pub HasCounted : {D : Type 0} → Ghosts D → ℕ → D → Type 0
 HasCounted g uses db =
     (c : List ℕ) → g.may_leave db c → (64 ≤ length c) × (uses ≤ uses_of c)
+
+-- What a kill leaves of an unmarked file while it gets the mark of this number: what it left
+-- before, or no mark, or that mark.
+abbrev pub MayGetMark : {D : Type 0} → Ghosts D → ℕ → (old new : D) → Type 0
+MayGetMark g number old new =
+    Mixes g → 64 ≤ length (g.seen old) → ¬ IsMarked (g.seen old)
+    → (c : List ℕ) → g.may_leave new c
+    → g.may_leave old c ⊎ ((¬ IsMarked c) ⊎ (IsMarked c × (number_of c ≡ number)))
+
+-- What a kill leaves of an unmarked file and its log while the use of this number begins: what it
+-- left of the file before, or no mark, or the mark of this use and its log.
+abbrev pub MayBegin : {D : Type 0} → Ghosts D → ℕ → (old new : Files D) → Type 0
+MayBegin g number old new =
+    Mixes g → 64 ≤ length (g.seen old.db) → ¬ IsMarked (g.seen old.db)
+    → (log db : List ℕ) → g.may_leave new.log log → g.may_leave new.db db
+    → g.may_leave old.db db ⊎ IsBegun number log db
+
+-- If whatever a kill could leave of the file before had the field of the mark, then what a kill
+-- leaves of the two while the next use begins is between the two uses.
+abbrev pub MayBeginNext : {D : Type 0} → Ghosts D → (old new : Files D) → Type 0
+MayBeginNext g old new =
+    Mixes g → 64 ≤ length (g.seen old.db)
+    → ((d : List ℕ) → g.may_leave old.db d → 64 ≤ length d)
+    → (log db : List ℕ) → g.may_leave new.log log → g.may_leave new.db db
+    → IsBetween g old log db
+
+-- whatever a kill leaves of the file counts as many uses as were seen in it, as it did before
+abbrev pub KeepsCount : {D : Type 0} → Ghosts D → (old new : D) → Type 0
+KeepsCount g old new =
+    HasCounted g (uses_of (g.seen old)) old → HasCounted g (uses_of (g.seen old)) new
+
+-- so it is while the file gets the mark of this number, which counts no fewer uses
+abbrev pub KeepsCountUpTo : {D : Type 0} → Ghosts D → ℕ → (old new : D) → Type 0
+KeepsCountUpTo g number old new =
+    Mixes g → 64 ≤ length (g.seen old) → CountsInBytes (g.seen old)
+    → uses_of (g.seen old) ≤ number % 2 ^ 24 → KeepsCount g old new

@@ -19,7 +19,8 @@ use Rattle.desk_file.specs.Marks.{IsMarked, IsNextUse}
 -- What the keeper kept is in the database that the file has alone, with no log beside it.
 abbrev pub HasAllOf : {D K : Type 0} → disk.Ghosts D → keeper.Ghosts K → K → Files D → Type 0
 HasAllOf g k kept files =
-    AreClean g files.log files.db → (s : Stored) (log : List Entry) → k.keeps kept s log
+    AreClean g files.log files.db → k.is_settled kept → (s : Stored) (log : List Entry)
+    → k.keeps kept s log
     → (trees : Trees) × HoldsAlone (image_of g files) trees × Holds (k.home_of kept) trees s log
 
 -- the keeper was closed so, and then its file was put into its next use

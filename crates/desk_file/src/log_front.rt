@@ -6,7 +6,7 @@ ghost use Rattle.sqlite_wal.specs.Format.{IsHeader, IsSigned, be32, part, stored
 
 use sqlite_wal::checksum_of;
 
-/// A log's header, and its first frame up to the byte that tells whether frames count.
+/// A log's header, and its first frame up to the byte that says whether frames count.
 pub const FRONT_LEN: usize = 41;
 
 /// A shorter file is no log: a header, and that of a frame.
@@ -76,7 +76,7 @@ pub fn is_signed(head: &[u8; 32]) -> bool
 }
 
 /// The header of a log that has no frame and was never emptied, with this salt, and the first
-/// frame's bytes up to the one that tells that it does not count.
+/// frame's bytes up to the one that says that it does not count.
 pub fn empty_log(page_size: u32, salt: &[u8; 8]) -> [u8; 41]
     ensures len { length result ≡ 41 }
     ensures head { IsHeader page_size (part result 0 32) }

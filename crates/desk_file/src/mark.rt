@@ -8,8 +8,9 @@ ghost use Rattle.std.specs.Prelude.{IfOk, IsErr, IsTrue, OnOk, slice_index};
 ghost use Rattle.sqlite_disk.specs.Disk.{Follows, Holds, Mixed, Only, Torn};
 ghost use Rattle.sqlite_wal.specs.Format.{be32};
 ghost use Rattle.sqlite_wal.specs.Reads.{IsClean, OnlyReads};
-ghost use Rattle.desk_file.specs.Marks.{CountsInBytes, HasCounted, HasFrame, IsBegun, IsLog};
-ghost use Rattle.desk_file.specs.Marks.{IsMarked, Mixes, Stands, StandsBeside, number_of, uses_of};
+ghost use Rattle.desk_file.specs.Marks.{CountsInBytes, HasFrame, IsLog, IsMarked, KeepsCountUpTo};
+ghost use Rattle.desk_file.specs.Marks.{MayBegin, MayGetMark, Mixes, Stands, StandsBeside};
+ghost use Rattle.desk_file.specs.Marks.{number_of, uses_of};
 
 use crate::log_front::{FRONT_LEN, LOG_LEN, empty_log, get_be32, header_of, is_signed, put_be32};
 use sqlite::Files;
@@ -25,7 +26,7 @@ const USE_END: usize = 64;
 
 /// How a desk's two files are.
 #[derive(Clone, Copy, Debug, PartialEq, Eq)]
-pub enum Standing {
+pub enum FilesState {
     /// The file is not in use and has everything, or it never was in use, or is no database.
     Free,
     /// It is in use, and the log of this use is beside it.
@@ -76,36 +77,36 @@ fn has_frame(front: &[u8; 41], len: usize) -> bool
 }
 
 /// How the log that begins with these bytes and is this long is beside a file in use.
-fn standing_of(front: &[u8; 41], len: usize, number: u32) -> Standing
+fn standing_of(front: &[u8; 41], len: usize, number: u32) -> FilesState
     ensures { (log : List ℕ) → length log ≡ len → (41 ≤ len → Holds log 0 front.now)
         → StandsBeside result number log }
 {
     if len < FRONT_LEN {
-        return Standing::LogLost;
+        return FilesState::LogLost;
     }
     let round = get_be32(front, 12);
     if round.wrapping_add(number) != get_be32(front, 16) {
-        return Standing::LogLost;
+        return FilesState::LogLost;
     }
     if front[0] == 0 {
-        return Standing::Emptied;
+        return FilesState::Emptied;
     }
     if !is_signed(&header_of(front)) {
-        return Standing::LogLost;
+        return FilesState::LogLost;
     }
     let gate = front[40];
     let salt = front[16];
     if gate == salt {
         return if has_frame(front, len) {
-            Standing::InUse
+            FilesState::InUse
         } else {
-            Standing::LogLost
+            FilesState::LogLost
         };
     }
     if len < LOG_LEN {
-        Standing::Emptied
+        FilesState::Emptied
     } else {
-        Standing::InUse
+        FilesState::InUse
     }
 }
 
@@ -114,7 +115,7 @@ fn standing_of(front: &[u8; 41], len: usize, number: u32) -> Standing
 /// # Errors
 ///
 /// Where a read fails.
-pub fn look<D: Disk>(files: &mut Files<D>) -> io::Result<Standing>
+pub fn look<D: Disk>(files: &mut Files<D>) -> io::Result<FilesState>
     requires log { IsTrue (D.Disk.is_usable files.old.log) }
     requires db { IsTrue (D.Disk.is_usable files.old.db) }
     ensures ok { IfOk result (λ it. IsClean D.Disk files.new.log → IsClean D.Disk files.new.db
@@ -123,7 +124,7 @@ pub fn look<D: Disk>(files: &mut Files<D>) -> io::Result<Standing>
     ensures db { OnlyReads D.Disk files.old.db files.new.db }
 {
     if files.db.len()? < USE_END {
-        return Ok(Standing::Free);
+        return Ok(FilesState::Free);
     }
     let mut field = [0; 4];
     files.db.read_at(USE, &mut field)?;
@@ -134,12 +135,12 @@ pub fn look<D: Disk>(files: &mut Files<D>) -> io::Result<Standing>
         return Ok(standing_of(&front, size, number));
     }
     if number == 0 {
-        return Ok(Standing::Free);
+        return Ok(FilesState::Free);
     }
     if has_frame(&front, size) {
-        return Ok(Standing::StrangeLog);
+        return Ok(FilesState::StrangeLog);
     }
-    Ok(Standing::Free)
+    Ok(FilesState::Free)
 }
 
 /// How many uses a number of four bytes counts.
@@ -230,15 +231,8 @@ fn write_mark<D: Disk>(db: &mut D, number: u32) -> io::Result<()>
     ensures synced { OnOk result (Only (D.Disk.seen db.new) (D.Disk.may_leave db.new)) }
     ensures others { Torn 60 4 (D.Disk.seen db.old) (D.Disk.seen db.new) }
     ensures clean { IsClean D.Disk db.new → IsClean D.Disk db.old }
-    ensures crash { Mixes D.Disk → 64 ≤ length (D.Disk.seen db.old)
-        → ¬ IsMarked (D.Disk.seen db.old)
-        → (c : List ℕ) → D.Disk.may_leave db.new c
-        → D.Disk.may_leave db.old c ⊎ ((¬ IsMarked c) ⊎ (IsMarked c × (number_of c ≡ number))) }
-    ensures grows { Mixes D.Disk → 64 ≤ length (D.Disk.seen db.old)
-        → CountsInBytes (D.Disk.seen db.old)
-        → uses_of (D.Disk.seen db.old) ≤ number % 2 ^ 24
-        → HasCounted D.Disk (uses_of (D.Disk.seen db.old)) db.old
-        → HasCounted D.Disk (uses_of (D.Disk.seen db.old)) db.new }
+    ensures crash { MayGetMark D.Disk number db.old db.new }
+    ensures grows { KeepsCountUpTo D.Disk number db.old db.new }
 {
     db.sync()?;
     put_byte(db, USE + 1, (number / 0x1_0000 % 0x100) as u8)?;
@@ -259,21 +253,14 @@ pub fn begin_use<D: Disk>(files: &mut Files<D>, number: u32) -> io::Result<()>
     requires db { IsTrue (D.Disk.is_usable files.old.db) }
     requires number { 0x100_0000 ≤ number }
     ensures begun { OnOk result
-        (Stands Standing.InUse (D.Disk.seen files.new.log) (D.Disk.seen files.new.db)) }
+        (Stands FilesState.InUse (D.Disk.seen files.new.log) (D.Disk.seen files.new.db)) }
     ensures number { OnOk result (number_of (D.Disk.seen files.new.db) ≡ number) }
     ensures synced { OnOk result (Only (D.Disk.seen files.new.log) (D.Disk.may_leave files.new.log)
         × Only (D.Disk.seen files.new.db) (D.Disk.may_leave files.new.db)) }
     ensures others { Torn 60 4 (D.Disk.seen files.old.db) (D.Disk.seen files.new.db) }
     ensures clean { IsClean D.Disk files.new.db → IsClean D.Disk files.old.db }
-    ensures crash { Mixes D.Disk → 64 ≤ length (D.Disk.seen files.old.db)
-        → ¬ IsMarked (D.Disk.seen files.old.db)
-        → (log db : List ℕ) → D.Disk.may_leave files.new.log log → D.Disk.may_leave files.new.db db
-        → D.Disk.may_leave files.old.db db ⊎ IsBegun number log db }
-    ensures grows { Mixes D.Disk → 64 ≤ length (D.Disk.seen files.old.db)
-        → CountsInBytes (D.Disk.seen files.old.db)
-        → uses_of (D.Disk.seen files.old.db) ≤ number % 2 ^ 24
-        → HasCounted D.Disk (uses_of (D.Disk.seen files.old.db)) files.old.db
-        → HasCounted D.Disk (uses_of (D.Disk.seen files.old.db)) files.new.db }
+    ensures crash { MayBegin D.Disk number files.old files.new }
+    ensures grows { KeepsCountUpTo D.Disk number files.old.db files.new.db }
 {
     let page_size = page_size_of(&mut files.db)?;
     begin_log(&mut files.log, page_size, number)?;

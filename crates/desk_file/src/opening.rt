@@ -45,7 +45,7 @@ pub fn open_file<S: Start>(
 /// and its log held. `S` stands for what they held.
 ///
 /// WrongDesk: the file is the store of another desk or hall, or of a hall of another number of
-/// desks, as the connection tells that was dropped. Damaged: what it holds is no desk's store,
+/// desks, as the connection that was dropped says. Damaged: what it holds is no desk's store,
 /// whole and in its ranges. Device and NoMemory come where they happen.
 pub fn open_keeper<S: Start>(
     rt: &HostRuntime,
@@ -104,7 +104,7 @@ pub fn open_keeper_there<S: Start>(
 /// log. None where the database has a table, an index or a view already. `S` stands for what the
 /// file and its log held.
 ///
-/// The faults are those of [`open_keeper`]; WrongDesk is none of them.
+/// The faults are those of [`open_keeper`]; WrongDesk is not one of them.
 pub fn make_keeper<S: Start>(
     rt: &HostRuntime,
     home: Home,

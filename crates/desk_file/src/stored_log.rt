@@ -3,5 +3,5 @@
 mod fault;
 mod reading;
 
-pub use fault::LogFault;
+pub use fault::StoredLogFault;
 pub use reading::write_stored_log;

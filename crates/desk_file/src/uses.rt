@@ -4,11 +4,11 @@ ghost use Rattle.std.specs.Prelude.{◌≡◌, ◌+◌, ◌%◌, ◌^◌, ◌<�
 ghost use Rattle.std.specs.Prelude.{OnOk, length};
 ghost use Rattle.sqlite.specs.Closing.{IsCopied};
 ghost use Rattle.sqlite_wal.specs.Reads.{AreClean, IsClean};
-ghost use Rattle.desk_file.specs.Marks.{AreApart, AreWhole, HasCounted, IsBetween, IsNextUse};
-ghost use Rattle.desk_file.specs.Marks.{Mixes, Tells, uses_of};
+ghost use Rattle.desk_file.specs.Marks.{AreApart, AreWhole, IsNextUse, KeepsCount, MayBeginNext};
+ghost use Rattle.desk_file.specs.Marks.{Mixes, Tells};
 ghost use Rattle.desk_file.specs.Uses.{IsPutAway, IsPutInUse};
 
-use crate::mark::{Standing, begin_use, end_use, look, uses_of};
+use crate::mark::{FilesState, begin_use, end_use, look, uses_of};
 use sqlite::{Connection, FileFrom, FileStore, Files, Start};
 use sqlite_disk::Disk;
 use sqlite_std_file::{OpenError, open};
@@ -33,11 +33,11 @@ fn judge<D: Disk>(files: &mut Files<D>) -> Result<(), OpenFault>
         Err(_) => return Err(OpenFault::Device),
     };
     match standing {
-        Standing::Free => Ok(()),
-        Standing::InUse => Ok(()),
-        Standing::Emptied => Ok(()),
-        Standing::LogLost => Err(OpenFault::Damaged),
-        Standing::StrangeLog => Err(OpenFault::Damaged),
+        FilesState::Free => Ok(()),
+        FilesState::InUse => Ok(()),
+        FilesState::Emptied => Ok(()),
+        FilesState::LogLost => Err(OpenFault::Damaged),
+        FilesState::StrangeLog => Err(OpenFault::Damaged),
     }
 }
 
@@ -80,14 +80,9 @@ fn begin_next<D: Disk>(files: &mut Files<D>, drawn: u64) -> io::Result<u32>
     requires db { IsTrue (D.Disk.is_usable files.old.db) }
     ensures next { IfOk result (IsNextUse D.Disk files.old files.new) }
     ensures clean { IsClean D.Disk files.new.db → IsClean D.Disk files.old.db }
-    ensures crash { Mixes D.Disk → 64 ≤ length (D.Disk.seen files.old.db)
-        → ((d : List ℕ) → D.Disk.may_leave files.old.db d → 64 ≤ length d)
-        → (log db : List ℕ) → D.Disk.may_leave files.new.log log
-        → D.Disk.may_leave files.new.db db → IsBetween D.Disk files.old log db }
+    ensures crash { MayBeginNext D.Disk files.old files.new }
     ensures grows { Mixes D.Disk → IsClean D.Disk files.new.db
-        → 64 ≤ length (D.Disk.seen files.old.db)
-        → HasCounted D.Disk (uses_of (D.Disk.seen files.old.db)) files.old.db
-        → HasCounted D.Disk (uses_of (D.Disk.seen files.old.db)) files.new.db }
+        → 64 ≤ length (D.Disk.seen files.old.db) → KeepsCount D.Disk files.old.db files.new.db }
 {
     let uses = uses_of(&mut files.db)?;
     if uses >= 0xff_ffff {

@@ -8,7 +8,7 @@ use Rattle.std.specs.List.{AllByRecursion, flat_map}
 use Rattle.std.specs.Prelude.{Some}
 use Rattle.connections.specs.Connections.{begun_of}
 use Rattle.connections.proofs.Interleaving.{begun_both}
-use Rattle.guarded.specs.GuardLaw.{IsHallKey}
+use Rattle.guarded.specs.LockedLaw.{IsHallKey}
 use Rattle.links.specs.Histories.{Dropped, Fate, Full, History, IsCut, IsCutAt, IsRest, NoMemory}
 use Rattle.links.specs.Histories.{SentOn, Told, Unreachable, Waits, if_sent_on, sent_on}
 use Rattle.links.specs.Histories.{waiting_of, written}
@@ -23,7 +23,7 @@ use Rattle.seal.specs.declared.channel.Channel.{Channel}
 use Rattle.seal.proofs.Whole.{length-record, one_record}
 use Rattle.seal_laws.proofs.Hearing.{one_preface, went}
 use Rattle.sealed.specs.Admitting.{comes_under}
-use Rattle.sealed.specs.declared.callers.Locks.{Locks}
+use Rattle.sealed.specs.declared.callers.DeskKeys.{DeskKeys}
 use Rattle.sealed.proofs.ends.Speaking.{calls_speak}
 use Rattle.serving.specs.Connection.{Begun, frames_of}
 use Rattle.serving.proofs.Connecting.{frames_of_both}
@@ -250,7 +250,7 @@ first_bodies c n (b ∷ bs) (d ∷ ds) x good each e =
 -- ---- the way
 
 -- a desk with one key of the hall
-the_halls : (locks : Locks) (key : List ℕ) → locks.old ≡ false → IsHallKey locks key
+the_halls : (locks : DeskKeys) (key : List ℕ) → locks.old ≡ false → IsHallKey locks key
     → key ≡ locks.hall
 the_halls locks key one (inl is) = is
 the_halls locks key one (inr it) = absurd (let two : false ≡ true = sym one ∙ it.0 in cc)

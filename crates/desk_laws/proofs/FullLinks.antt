@@ -3,9 +3,9 @@ use Rattle.std.proofs.Common.{◌≡◌, ◌≢◌, refl, ap, ℕ, zero, suc, Bo
 use Rattle.std.proofs.Common.{if◌then◌else◌, List, [], ◌∷◌, arith, drop, nat_lt, nat_le}
 use Rattle.std.proofs.lemmas.Bool.Decides.{nat_tests}
 use Rattle.links.specs.Links.{LinkState, first_of, has_room, has_some, wish_at}
-use Rattle.links.specs.declared.stages.Stage.{Stage}
-use Rattle.links.specs.declared.stages.Stage.TheVariants.{Closed, Paused, Opening, Open}
-use Rattle.links.specs.declared.stages.Wish.TheVariants as wish
+use Rattle.links.specs.declared.stages.LinkStage.{LinkStage}
+use Rattle.links.specs.declared.stages.LinkStage.TheVariants.{Closed, Paused, Opening, Open}
+use Rattle.links.specs.declared.stages.LinkAction.TheVariants as wish
 use Rattle.desk_laws.specs.FullLinks.{WorksFullLinks}
 
 nothing : (begun : ℕ) → drop begun (first_of []) ≡ []
@@ -13,7 +13,7 @@ nothing zero = refl
 nothing (suc n) = refl
 
 -- what is to be sent in a stage
-abbrev to_send : Stage → ℕ → List (List ℕ) → List ℕ
+abbrev to_send : LinkStage → ℕ → List (List ℕ) → List ℕ
 to_send stage begun waiting = if has_room stage then drop begun (first_of waiting) else []
 
 open_writes : (frames quiet begun now : ℕ) (waiting : List (List ℕ)) (room : Bool)
@@ -26,7 +26,7 @@ open_writes frames quiet begun now (f ∷ fs) true is some =
     let more : nat_le 63 frames ≡ false = grind (arith, nat_tests, is) in
     ap (λ (t : Bool). if t then wish.Close else wish.Write) more
 
-writes_at : (stage : Stage) (begun now : ℕ) (waiting : List (List ℕ))
+writes_at : (stage : LinkStage) (begun now : ℕ) (waiting : List (List ℕ))
     → to_send stage begun waiting ≢ [] → wish_at stage (has_some waiting) now ≡ wish.Write
 writes_at Closed begun now waiting some = absurd (some refl)
 writes_at (Paused since millis) begun now waiting some = absurd (some refl)

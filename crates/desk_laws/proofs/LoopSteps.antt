@@ -15,7 +15,7 @@ use Rattle.serving.specs.Making.{calls_of}
 use Rattle.serving.specs.Serving.{Act}
 use Rattle.store.specs.declared.home.Home.{Home}
 use Rattle.store.specs.declared.keeper.Keeper.{Ghosts}
-use Rattle.wire.specs.declared.frame.What.TheVariants as what
+use Rattle.wire.specs.declared.frame.FrameBody.TheVariants as what
 use Rattle.hall_laws.specs.HallRuns.{FrameWasSent, IsSameStore, IsTakenIn, StopsInSave}
 use Rattle.hall_laws.specs.Served.{all_handed_out, AreSentTo, StandsFor}
 use Rattle.hall_laws.specs.Stops.{CallsAreHappenings, Happening, real_run, with_desk}
@@ -26,9 +26,11 @@ use Rattle.hall_laws.proofs.HallSteps.{put_other}
 use Rattle.hall_laws.proofs.OwnMessages.{calls_both, front_sent, one_frame, sent_later}
 use Rattle.hall_laws.proofs.Putting.{put_here}
 use Rattle.hall_laws.proofs.Running.{CallsCome, HasSubmit, calls_come, run_both, submit_in}
+use Rattle.hall_laws.proofs.Running.{same_world}
 use Rattle.hall_laws.proofs.Running.{with_both}
 use Rattle.desk_laws.specs.LoopRuns.{BeginsIn, Does, DoesAt, Doing, IsDone, IsOpened, LoopEvent}
-use Rattle.desk_laws.specs.LoopRuns.{LoopGoes, Loops, OnlyAt, OpensAgain, OpensAt, Stops, StopsAt}
+use Rattle.desk_laws.specs.LoopRuns.{LoopGoes, Loops, OnlyAt, OpensAgain, OpensAt, SettlesAt}
+use Rattle.desk_laws.specs.LoopRuns.{SettlesOnce, Stops, StopsAt}
 use Rattle.desk_laws.specs.LoopRuns.{home_in}
 
 -- ---- desks and their world
@@ -83,7 +85,7 @@ moved {K} k n d acts a b w m only own = record {
         subst (λ (x : NodeValue K). MatchesAt k n j v x) (sym (only.others j other))
         (other_matches k n d j w (b.nodes d).desk ms (a.nodes j) other (m.here j ours))
 
--- the desk takes the entry in this event, of a frame that submits it
+-- the desk accepts the entry in this event, of a frame that submits it
 pub record TakesIn (event : LoopEvent) (e : Entry) : Type 0 where
   pub doing : Doing
   pub begins : BeginsIn event doing
@@ -177,6 +179,27 @@ does_comes {K} k law n d doing a b w m step =
 
     home : k.home_of y.keeper ≡ k.home_of x.keeper
     home = home_after k (calls_of doing.acts) x y step.does.calls
+
+-- ---- a settling
+
+settling_comes : {K : Type 0} (k : Ghosts K) (n d : ℕ) (a b : Loops K) (w : World)
+    → Matches k n a w → SettlesOnce k n d a b → StepComes k n (SettlesAt d) b w
+settling_comes k n d a b w m step =
+    let y = b.nodes d in
+    let own = m.here d step.ours in
+    comes k n d (SettlesAt d) [] a b w [] m step.only
+    (record {
+      stands =
+          record {
+            ours = own.stands.ours;
+            desks = ap (λ u. u.desks) step.settles.home ∙ own.stands.desks;
+            desk = ap (λ u. u.desk) step.settles.home ∙ own.stands.desk;
+            known = sym (put_here w.desks d y.desk);
+          };
+      kept = inl (step.settles.stored step.settles.down);
+    })
+    (same_world w d y.desk (step.settles.desk ∙ own.stands.known))
+    (λ e has. absurd has)
 
 -- ---- an opening
 
@@ -296,7 +319,7 @@ stop_comes {K} k law n d doing a b w m cut =
         (cut.opened.opens.loaded cut.opened.honest)
         (cut.opened.opens.honest cut.opened.honest) cut.opened.opens.first
 
-    by_store : (IsSameStore k z.keeper cut.keeper ⊎ StopsInSave k z cut.keeper cut.does.rest)
+    by_store : (IsSameStore k z.keeper cut.keeper y.desk ⊎ StopsInSave k z cut.keeper cut.does.rest)
         → Reopens n d between y
     by_store (inl same) =
         reopens k n d between z cut.keeper y stands
@@ -307,7 +330,7 @@ stop_comes {K} k law n d doing a b w m cut =
     again : Reopens n d between y
     again = by_store cut.store
 
-    home_by : (IsSameStore k z.keeper cut.keeper ⊎ StopsInSave k z cut.keeper cut.does.rest)
+    home_by : (IsSameStore k z.keeper cut.keeper y.desk ⊎ StopsInSave k z cut.keeper cut.does.rest)
         → k.home_of cut.keeper ≡ k.home_of z.keeper
     home_by (inl same) = same.home
     home_by (inr stop) = stop.home
@@ -334,5 +357,6 @@ pub step_comes : {K : Type 0} (k : Ghosts K) → CallsAreHappenings k → (n : �
     (a b : Loops K) (w : World)
     → Matches k n a w → LoopGoes k n event a b → StepComes k n event b w
 step_comes k law n (DoesAt d doing) a b w m step = does_comes k law n d doing a b w m step
+step_comes k law n (SettlesAt d) a b w m step = settling_comes k n d a b w m step
 step_comes k law n (OpensAt d) a b w m step = opening_comes k n d a b w m step
 step_comes k law n (StopsAt d doing) a b w m step = stop_comes k law n d doing a b w m step

@@ -8,43 +8,45 @@ use Rattle.std.proofs.lemmas.List.{append-nil}
 use Rattle.acceptor.specs.declared.message.Message.{Message}
 use Rattle.answers.specs.Seen.{Seen}
 use Rattle.connections.specs.Connections.{Connections, FollowEach, Goes}
-use Rattle.guarded.specs.GuardLaw.{IsGuardedStream}
-use Rattle.guarded.specs.GuardTurns.{Follow, Place}
-use Rattle.guarded.specs.Guarding.{Guarding, LetsIn, after_sent, fresh_guard}
+use Rattle.guarded.specs.LockedLaw.{IsGuardedStream}
+use Rattle.guarded.specs.LockedTurns.{Follow, Place}
+use Rattle.guarded.specs.LockedConnections.{LockedConnectionOf, LetsIn, after_sent}
+use Rattle.guarded.specs.LockedConnections.{fresh_locked_connection}
 use Rattle.learner.specs.Desks.{first_desk}
 use Rattle.learner.specs.declared.event.DeskEvent.TheVariants.{Deliver}
 use Rattle.links.specs.Histories.{Began, History, Opened, Push, Sent, Start, Then}
 use Rattle.links.specs.Links.{LinkState, new_link, with_waiting, after_began, after_opened}
 use Rattle.links.specs.Links.{after_sent as link_sent}
-use Rattle.links.specs.declared.stages.Pushed.TheVariants.{Waits}
+use Rattle.links.specs.declared.stages.PushOutcome.TheVariants.{Waits}
 use Rattle.multiplex.specs.EachClient.{IsServedBehind}
 use Rattle.multiplex.specs.Noting.{Ears, ears, fresh_notes, hear_all}
 use Rattle.multiplex.specs.Passing.{IsServedEach, Lobby, Pass, Room, Visits, empty_lobby, guest}
 use Rattle.multiplex.specs.Passing.{lobby}
 use Rattle.multiplex.specs.Silence.{ready_after}
-use Rattle.multiplex.specs.declared.ends.Over.{Over}
-use Rattle.multiplex.specs.declared.ends.Over.TheVariants.{All as NoMore}
+use Rattle.multiplex.specs.declared.ends.ServingEnd.{ServingEnd}
+use Rattle.multiplex.specs.declared.ends.ServingEnd.TheVariants.{All as NoMore}
 use Rattle.multiplex.specs.declared.notes.Notes.{Notes}
 use Rattle.multiplex.specs.declared.own_ticks.OwnTicks.{OwnTicks}
 use Rattle.multiplex.specs.declared.table.Guest.{Guest}
-use Rattle.guarded.specs.Guarding as Guarding
+use Rattle.guarded.specs.LockedConnections as LockedConnectionOf
 use Rattle.replica.specs.Handles.{Handles}
+use Rattle.replica.specs.Settles.{Settles}
 use Rattle.replica.specs.Stores.{HoldsDesk}
 use Rattle.seal.specs.Records.{IsBody, preface_of, records}
 use Rattle.seal.specs.declared.channel.Channel.{Channel}
 use Rattle.seal.proofs.Reading.{reads_none}
 use Rattle.seal_laws.specs.Keys.{AreRandom}
 use Rattle.sealed.specs.Admitting.{comes_under, goes_under}
-use Rattle.sealed.specs.Calls.{CalledOf, IsOfLocks, Receives, Stands, fresh_called}
+use Rattle.sealed.specs.ServerSeals.{ServerSealOf, IsOfLocks, Receives, Stands, fresh_server_seal}
 use Rattle.sealed.specs.Sent.{KeepsSent}
-use Rattle.sealed.specs.Callings.{CallingOf}
+use Rattle.sealed.specs.ClientSeals.{ClientSealOf}
 use Rattle.sealed.specs.Trials.{ReadsAll, TrialOf, entry_of, fresh_trial}
 use Rattle.sealed.specs.Tunnels.{TunnelOf}
 use Rattle.sealed.specs.declared.callers.Caller.TheVariants as caller
-use Rattle.sealed.specs.declared.callers.Doors.TheVariants.{Locked}
+use Rattle.sealed.specs.declared.callers.Access.TheVariants.{Locked}
 use Rattle.sealed.specs.declared.callers.Holder.TheVariants.{Hall}
-use Rattle.sealed.specs.declared.callers.Locks.{Locks}
-use Rattle.sealed.specs.ends.Calls.{CallOf}
+use Rattle.sealed.specs.declared.callers.DeskKeys.{DeskKeys}
+use Rattle.sealed.specs.ends.ClientStreams.{ClientStreamOf}
 use Rattle.sealed.specs.ends.Laws.{IsCall}
 use Rattle.sealed.proofs.Fresh.{fresh_of_locks}
 use Rattle.serving.specs.Connection.{serve_frame}
@@ -98,14 +100,14 @@ opened comes goes body good = record {
   held = refl;
 }
 
-abbrev trial : Locks → List ℕ → List ℕ → TrialOf
+abbrev trial : DeskKeys → List ℕ → List ℕ → TrialOf
 trial locks client server = record {
   hall = has_opened (comes_under client server locks.hall) (goes_under client server locks.hall);
   entry = entry_of locks.entry client server;
   holder = Some Hall;
 }
 
-abbrev called : Locks → List ℕ → List ℕ → CalledOf
+abbrev called : DeskKeys → List ℕ → List ℕ → ServerSealOf
 called locks client server = record {
   doors = Locked locks;
   random = server;
@@ -132,7 +134,7 @@ past = talk_of home [] 1 (answer_to home said_frame)
 
 -- ---- the guards
 
-abbrev come : Locks → List ℕ → List ℕ → Guarding
+abbrev come : DeskKeys → List ℕ → List ℕ → LockedConnectionOf
 come locks client server = record {
   called = called locks client server;
   talk = waits;
@@ -140,11 +142,11 @@ come locks client server = record {
   starved = false;
 }
 
-abbrev greeted : Locks → List ℕ → List ℕ → Guarding
+abbrev greeted : DeskKeys → List ℕ → List ℕ → LockedConnectionOf
 greeted locks client server =
     after_sent (come locks client server) (length (preface_of server))
 
-abbrev done : Locks → List ℕ → List ℕ → Guarding
+abbrev done : DeskKeys → List ℕ → List ℕ → LockedConnectionOf
 done locks client server = record {
   called = called locks client server;
   talk = Turns.after_sent past (length (answer_to home said_frame));
@@ -152,15 +154,16 @@ done locks client server = record {
   starved = false;
 }
 
-abbrev place : {K : Type 0} → (k : Ghosts K) → K → Guarding → Place (speaking (Handles k) Two)
+abbrev place : {K : Type 0} → (k : Ghosts K) → K → LockedConnectionOf
+    → Place (speaking (Handles k) (Settles k) Two)
 place k keeper g = record {
   guard = g;
   seen = seen_of (first_node keeper);
-  outside = outside_of (speaking (Handles k) Two) (first_node keeper) None;
+  outside = outside_of (speaking (Handles k) (Settles k) Two) (first_node keeper) None;
 }
 
-receives : (locks : Locks) (client server : List ℕ) → AreRandom client server
-    → Receives (gives locks client server) (fresh_called (Locked locks) server)
+receives : (locks : DeskKeys) (client server : List ℕ) → AreRandom client server
+    → Receives (gives locks client server) (fresh_server_seal (Locked locks) server)
     (called locks client server) (spelling said_frame)
 unfolding has_opened
 receives locks client server random came handed st =
@@ -193,8 +196,8 @@ receives locks client server random came handed st =
         (fresh_trial locks client server)
     fresh = fresh_of_locks locks client server
 
-keeps_sent : (locks : Locks) (client server : List ℕ)
-    → KeepsSent (fresh_called (Locked locks) server) (called locks client server)
+keeps_sent : (locks : DeskKeys) (client server : List ℕ)
+    → KeepsSent (fresh_server_seal (Locked locks) server) (called locks client server)
 unfolding has_opened
 keeps_sent locks client server given sent none = record {
   bodies = [];
@@ -205,9 +208,9 @@ keeps_sent locks client server given sent none = record {
 }
 
 -- what came is let in
-lets_in : (locks : Locks) (client server : List ℕ) → AreRandom client server
+lets_in : (locks : DeskKeys) (client server : List ℕ) → AreRandom client server
     → LetsIn (gives locks client server) (spelling said_frame)
-    (fresh_guard (Locked locks) server home Two) (come locks client server)
+    (fresh_locked_connection (Locked locks) server home Two) (come locks client server)
 unfolding front
 lets_in locks client server random = record {
   receives = receives locks client server random;
@@ -238,9 +241,9 @@ heard k keeper is holds =
 nothing_left : drop (length (answer_to home said_frame)) (answer_to home said_frame) ≡ []
 nothing_left = drop-length (answer_to home said_frame)
 
-follows : {K : Type 0} (k : Ghosts K) (keeper : K) (locks : Locks) (client server : List ℕ)
+follows : {K : Type 0} (k : Ghosts K) (keeper : K) (locks : DeskKeys) (client server : List ℕ)
     → k.home_of keeper ≡ home → HoldsDesk k keeper first_desk → AreRandom client server
-    → Follow (place k keeper (fresh_guard (Locked locks) server home Two))
+    → Follow (place k keeper (fresh_locked_connection (Locked locks) server home Two))
     (turns locks client server) (place k keeper (done locks client server))
 unfolding has_opened
 follows k keeper locks client server is holds random = (
@@ -316,22 +319,24 @@ seen keeper = seen_of (first_node keeper)
 abbrev ears_after : {K : Type 0} → K → Ears
 ears_after keeper = hear_all home (ears (seen keeper) [] None) (one ∷ [])
 
-abbrev guest_before : Locks → List ℕ → Guest
+abbrev guest_before : DeskKeys → List ℕ → Guest
 guest_before locks server =
-    guest 0 (fresh_guard (Locked locks) server home Two) notes_before 0
+    guest 0 (fresh_locked_connection (Locked locks) server home Two) notes_before 0
 
-abbrev guest_after : {K : Type 0} → K → Locks → List ℕ → List ℕ → Guest
+abbrev guest_after : {K : Type 0} → K → DeskKeys → List ℕ → List ℕ → Guest
 guest_after keeper locks client server =
     guest 0 (done locks client server)
     (record { until = None; known = (ears_after keeper).known })
-    (ready_after 0 (Guarding.begun (fresh_guard (Locked locks) server home Two))
-    (Guarding.begun (done locks client server)) 0)
+    (ready_after 0 (LockedConnectionOf.begun (fresh_locked_connection (Locked locks) server home
+    Two))
+    (LockedConnectionOf.begun (done locks client server)) 0)
 
-abbrev room : {K : Type 0} → (k : Ghosts K) → K → Lobby → Room (speaking (Handles k) Two)
+abbrev room : {K : Type 0} → (k : Ghosts K) → K → Lobby
+    → Room (speaking (Handles k) (Settles k) Two)
 room k keeper l = record {
   lobby = l;
   seen = seen keeper;
-  outside = outside_of (speaking (Handles k) Two) (first_node keeper) None;
+  outside = outside_of (speaking (Handles k) (Settles k) Two) (first_node keeper) None;
 }
 
 abbrev after_visit : {K : Type 0} → K → Lobby
@@ -340,8 +345,8 @@ after_visit keeper = lobby [] 1 0 own false (ears_after keeper).differs None
 abbrev at_end : {K : Type 0} → K → Lobby
 at_end keeper = lobby [] 1 0 own false (ears_after keeper).differs (Some NoMore)
 
-wants_read : (locks : Locks) (client server : List ℕ)
-    → Guarding.WantsRead (done locks client server)
+wants_read : (locks : DeskKeys) (client server : List ℕ)
+    → LockedConnectionOf.WantsRead (done locks client server)
 unfolding has_opened
 wants_read locks client server = record {
   fed = refl;
@@ -355,7 +360,7 @@ wants_read locks client server = record {
       };
 }
 
-passes : {K : Type 0} (k : Ghosts K) (keeper : K) (locks : Locks) (client server : List ℕ)
+passes : {K : Type 0} (k : Ghosts K) (keeper : K) (locks : DeskKeys) (client server : List ℕ)
     → k.home_of keeper ≡ home → HoldsDesk k keeper first_desk → AreRandom client server
     → Pass home (terms locks) (room k keeper (empty_lobby own)) (steps locks client server)
     (room k keeper (at_end keeper))
@@ -413,7 +418,7 @@ passes k keeper locks client server is holds random = (
   ),
 )
 
-serves : {K : Type 0} (k : Ghosts K) (keeper : K) (locks : Locks) (client server : List ℕ)
+serves : {K : Type 0} (k : Ghosts K) (keeper : K) (locks : DeskKeys) (client server : List ℕ)
     → k.home_of keeper ≡ home → HoldsDesk k keeper first_desk → AreRandom client server
     → IsServedEach result home (terms locks) None (room k keeper (empty_lobby own))
     (room k keeper (at_end keeper)) None None (steps locks client server)
@@ -429,7 +434,7 @@ serves k keeper locks client server is holds random = record {
 
 -- ---- by the bytes alone
 
-stream_is : (locks : Locks) (client server : List ℕ) → AreRandom client server
+stream_is : (locks : DeskKeys) (client server : List ℕ) → AreRandom client server
     → IsGuardedStream (Locked locks) server (done locks client server)
     (gives locks client server) (preface_of server) (spelling said_frame) [] (one ∷ [])
 unfolding has_opened
@@ -491,7 +496,7 @@ stream_is locks client server random =
       allowed = (record { known = refl; may = refl }, tt);
     }
 
-behind : (locks : Locks) (client server : List ℕ) → AreRandom client server
+behind : (locks : DeskKeys) (client server : List ℕ) → AreRandom client server
     → IsServedBehind home (Locked locks) server (gives locks client server) (preface_of server)
     (served ∷ [])
 behind locks client server random = record {
@@ -539,7 +544,7 @@ has_sent comes goes = record {
   sealer = record { channel = comes; number = 1 };
 }
 
-abbrev side : Locks → List ℕ → List ℕ → CallingOf
+abbrev side : DeskKeys → List ℕ → List ℕ → ClientSealOf
 side locks client server = record {
   key = locks.hall;
   random = client;
@@ -549,7 +554,7 @@ side locks client server = record {
   unsealed = false;
 }
 
-abbrev link_end : Locks → List ℕ → List ℕ → CallOf
+abbrev link_end : DeskKeys → List ℕ → List ℕ → ClientStreamOf
 link_end locks client server = record {
   calling = Some (side locks client server);
   front = take 4 (preface_of server ++ []);
@@ -557,7 +562,7 @@ link_end locks client server = record {
   output = [];
 }
 
-calls : (locks : Locks) (client server : List ℕ) → AreRandom client server
+calls : (locks : DeskKeys) (client server : List ℕ) → AreRandom client server
     → IsCall (Some locks.hall) client (link_end locks client server) (preface_of server ++ []) []
     (spelling said_frame) (gives locks client server)
 unfolding has_sent
@@ -599,7 +604,7 @@ calls locks client server random =
           };
     }
 
-way : (locks : Locks) (client server : List ℕ) → AreRandom client server → locks.old ≡ false
+way : (locks : DeskKeys) (client server : List ℕ) → AreRandom client server → locks.old ≡ false
     → IsWay locks server (gives locks client server) (said_frame ∷ [])
 way locks client server random one_key = record {
   one_key = one_key;
@@ -626,11 +631,12 @@ way locks client server random one_key = record {
 
 -- ---- a connection as it is
 
-abbrev plain : {K : Type 0} → (k : Ghosts K) → K → Talk → Connections (speaking (Handles k) Two)
+abbrev plain : {K : Type 0} → (k : Ghosts K) → K → Talk
+    → Connections (speaking (Handles k) (Settles k) Two)
 plain k keeper talk = record {
   talks = λ j. if eqb j 0 then talk else new_talk home Two;
   seen = seen keeper;
-  outside = outside_of (speaking (Handles k) Two) (first_node keeper) None;
+  outside = outside_of (speaking (Handles k) (Settles k) Two) (first_node keeper) None;
 }
 
 all_new : (j : ℕ) → (if eqb j 0 then new_talk home Two else new_talk home Two) ≡ new_talk home Two
@@ -657,8 +663,9 @@ plain_follows k keeper is holds = (
   plain k keeper waits,
   record {
     turn =
-        came_whole (speaking (Handles k) Two) (seen keeper)
-        (outside_of (speaking (Handles k) Two) (first_node keeper) None) home Two said_frame
+        came_whole (speaking (Handles k) (Settles k) Two) (seen keeper)
+        (outside_of (speaking (Handles k) (Settles k) Two) (first_node keeper) None) home Two
+        said_frame
         said_is_frame;
     others = λ j ne. others j waits (new_talk home Two) ne;
   },
@@ -678,7 +685,7 @@ serving_works k keeper locks client server is holds random = record {
   plain_after = plain k keeper past;
   plain_new = all_new;
   follows = plain_follows k keeper is holds;
-  place_before = place k keeper (fresh_guard (Locked locks) server home Two);
+  place_before = place k keeper (fresh_locked_connection (Locked locks) server home Two);
   place_after = place k keeper (done locks client server);
   fresh = refl;
   guarded = follows k keeper locks client server is holds random;

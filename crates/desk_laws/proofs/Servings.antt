@@ -6,9 +6,11 @@ use Rattle.std.proofs.lemmas.List.{append-nil}
 use Rattle.answers.specs.declared.desk.Desk.{Ghosts as DeskOf}
 use Rattle.connections.specs.Connections.{Point}
 use Rattle.multiplex.specs.EachClient.{AreDoneInTurn, Deed, Frame, OwnTick, point_in, sides_at}
+use Rattle.multiplex.specs.EachClient.{Settling}
 use Rattle.multiplex.specs.Passing.{TicksBy}
 use Rattle.multiplex.proofs.Following.{each_client}
 use Rattle.replica.specs.Handles.{Handles}
+use Rattle.replica.specs.Settles.{Settles}
 use Rattle.replica.specs.Nodes.{NodeValue}
 use Rattle.serving.specs.Asking.{strange}
 use Rattle.serving.specs.Connection.{Begun, Sides, serve_frame}
@@ -17,8 +19,8 @@ use Rattle.serving.specs.Nodes.{Fate}
 use Rattle.serving.specs.OwnTicks.{tick_begun, tick_frame}
 use Rattle.serving.specs.Serving.{Act}
 use Rattle.serving.specs.Turns.{LeavesAt}
-use Rattle.serving.specs.declared.ends.End.{End}
-use Rattle.serving.specs.declared.ends.End.TheVariants as end
+use Rattle.serving.specs.declared.ends.ConnectionEnd.{ConnectionEnd}
+use Rattle.serving.specs.declared.ends.ConnectionEnd.TheVariants as end
 use Rattle.serving.specs.declared.request.Request.{Request}
 use Rattle.serving.specs.declared.request.Request.TheVariants.{Ticked}
 use Rattle.store.specs.declared.home.Home.{Home}
@@ -26,10 +28,11 @@ use Rattle.store.specs.declared.keeper.Keeper.{Ghosts}
 use Rattle.wire.specs.declared.values.Version.{Version}
 use Rattle.hall_laws.specs.HallRuns.{IsTick}
 use Rattle.desk_laws.specs.LoopRuns.{AreDone, AreFor, Doing, IsDone, ServingsAreDoings}
+use Rattle.desk_laws.specs.LoopRuns.{Did, Done, Settled}
 
 -- ---- a frame
 
--- what is done for a frame, and what would be done behind it
+-- what is done for a frame, and what would be done after it
 abbrev Front : {V : Type 0} → (way : Way V) → Home → Sides way → Sides way → Begun → Type 0
 Front way home a b one =
     (acts : List Act) × (rest : List Act)
@@ -42,7 +45,7 @@ whole_front : {V : Type 0} (way : Way V) (home : Home) (a b : Sides way) (one : 
 whole_front way home a b one lead =
     let all = (serve_frame home a.seen one).acts in (all, [], sym (append-nil all), lead)
 
-front_of : {V : Type 0} (way : Way V) (e : Option End) (home : Home) (a b : Sides way)
+front_of : {V : Type 0} (way : Way V) (e : Option ConnectionEnd) (home : Home) (a b : Sides way)
     (one : Begun) (count : ℕ) → LeavesAt e home a b one count → Front way home a b one
 front_of way None home a b one count l = whole_front way home a b one l.0.made.calls
 front_of way (Some end.Stopped) home a b one count l = whole_front way home a b one l.made.calls
@@ -86,16 +89,16 @@ tick_front way true home a b t = (
 -- ---- one after the other
 
 doings_of : {K : Type 0} (k : Ghosts K) (home : Home) (wire : Version) (deeds : List Deed)
-    (p q : Point (speaking (Handles k) wire)) → AreDoneInTurn home p deeds q
-    → (doings : List Doing) × AreFor home deeds doings
+    (p q : Point (speaking (Handles k) (Settles k) wire)) → AreDoneInTurn home p deeds q
+    → (doings : List Did) × AreFor home deeds doings
     × AreDone k home p.outside.node doings q.outside.node
 doings_of {K} k home wire [] p q h =
-    ([], tt, ap (λ (z : Point (speaking (Handles k) wire)). z.outside.node) h)
+    ([], tt, ap (λ (z : Point (speaking (Handles k) (Settles k) wire)). z.outside.node) h)
 doings_of {K} k home wire (Frame f ∷ deeds) p q h =
     let m = h.0 in
     let at = h.1.0 in
     let front =
-    front_of (speaking (Handles k) wire) f.leaves home
+    front_of (speaking (Handles k) (Settles k) wire) f.leaves home
     (record { seen = p.seen; written = Some []; outside = p.outside })
     (record { seen = at.seen; written = Some f.answer; outside = at.outside }) f.one f.count
     h.1.1 in
@@ -108,18 +111,23 @@ doings_of {K} k home wire (Frame f ∷ deeds) p q h =
       parts = front.2;
       calls =
           subst
-          (λ (z : Point (speaking (Handles k) wire)).
+          (λ (z : Point (speaking (Handles k) (Settles k) wire)).
           Lead (Handles k) p.outside.node (calls_of front.0) z.outside.node) h.1.2 front.3;
     } in
-    (doing ∷ later.0, (refl, later.1), (m.outside.node, done, later.2))
+    (Done doing ∷ later.0, (refl, later.1), (m.outside.node, done, later.2))
 doings_of {K} k home wire (OwnTick starved ∷ deeds) p q h =
     let m = h.0 in
-    let tick = tick_front (speaking (Handles k) wire) starved home (sides_at p) (sides_at m) h.1 in
+    let tick = tick_front (speaking (Handles k) (Settles k) wire) starved home (sides_at p)
+    (sides_at m) h.1 in
     let later = doings_of k home wire deeds m q h.2 in
     let doing : Doing = record { one = tick.0; acts = tick.2.0 } in
     let done : IsDone k home doing p.outside.node m.outside.node =
     record { seen = p.seen; rest = tick.2.1; parts = tick.2.2; calls = tick.2.3 } in
-    (doing ∷ later.0, (tick.1, later.1), (m.outside.node, done, later.2))
+    (Done doing ∷ later.0, (tick.1, later.1), (m.outside.node, done, later.2))
+doings_of {K} k home wire (Settling ok ∷ deeds) p q h =
+    let m = h.0 in
+    let later = doings_of k home wire deeds m q h.2 in
+    (Settled ok ∷ later.0, (refl, later.1), (m.outside.node, h.1.1, later.2))
 
 -- a kind of desk whose nodes are these
 abbrev kind_of : {K : Type 0} → Ghosts K → DeskOf (NodeValue K)
@@ -127,6 +135,8 @@ kind_of k = record {
   seen = λ x. record { desk = x.desk; is_down = x.is_down; told = x.told };
   home_of = λ x. k.home_of x.keeper;
   handles = Handles k;
+  settles = Settles k;
+  is_settled = λ x. k.is_settled x.keeper;
 }
 
 pub servings_are_doings : {K : Type 0} (k : Ghosts K) → ServingsAreDoings k

@@ -6,7 +6,7 @@ use Rattle.std.specs.Prelude.{IsTrue, option_map}
 use Rattle.std.specs.List.{flat_map}
 use Rattle.connections.specs.Connections.{begun_of}
 use Rattle.connections.proofs.Interleaving.{begun_both}
-use Rattle.guarded.specs.GuardLaw.{AreAllowed, IsAllowed, IsHallKey}
+use Rattle.guarded.specs.LockedLaw.{AreAllowed, IsAllowed, IsHallKey}
 use Rattle.guarded.specs.Permitting.{permission_of}
 use Rattle.guarded.proofs.Holding.{BeginsAt}
 use Rattle.multiplex.proofs.Placed.{all_back}
@@ -16,12 +16,12 @@ use Rattle.sealed.specs.Admitting.{Admits, IsSealed, comes_under}
 use Rattle.sealed.specs.Sent.{key_for}
 use Rattle.sealed.specs.Trials.{Hands}
 use Rattle.sealed.specs.declared.callers.Caller.{Caller}
-use Rattle.sealed.specs.declared.callers.Caller.TheVariants.{Anyone, Passer}
+use Rattle.sealed.specs.declared.callers.Caller.TheVariants.{Anyone, Visitor}
 use Rattle.sealed.specs.declared.callers.Caller.TheVariants as caller
-use Rattle.sealed.specs.declared.callers.Doors.TheVariants.{Open, Locked}
+use Rattle.sealed.specs.declared.callers.Access.TheVariants.{Open, Locked}
 use Rattle.sealed.specs.declared.callers.Holder.{Holder}
 use Rattle.sealed.specs.declared.callers.Holder.TheVariants.{Hall, Entry}
-use Rattle.sealed.specs.declared.callers.Locks.{Locks}
+use Rattle.sealed.specs.declared.callers.DeskKeys.{DeskKeys}
 use Rattle.serving.specs.Asking.{request}
 use Rattle.serving.specs.Connection.{Begun, asked, frames_of}
 use Rattle.serving.specs.Differing.{withheld}
@@ -97,7 +97,7 @@ needs_still (Some d) Withheld = (λ h. h, λ h. h)
 
 -- ---- what is let in under a key
 
-under_it : (locks : Locks) (who : Holder) (server front handed key client stream : List ℕ)
+under_it : (locks : DeskKeys) (who : Holder) (server front handed key client stream : List ℕ)
     (earlier : List Begun) (one : Begun) (c : Channel) → key_for locks who ≡ Some key
     → length client ≡ 16 → front ≡ preface_of client ++ stream
     → c ≡ comes_under client server key → Hands c stream handed → BeginsAt handed earlier one
@@ -126,14 +126,14 @@ entry_key None client server c is = absurd cc
 entry_key (Some key) client server c is = (key, refl, cc)
 
 -- under the second key: it was the hall's, or nothing is done that needs one of the hall
-second_halls : (locks : Locks) (key : List ℕ) (r : Request) (old : Bool) → locks.old ≡ old
+second_halls : (locks : DeskKeys) (key : List ℕ) (r : Request) (old : Bool) → locks.old ≡ old
     → locks.entry ≡ Some key
     → (let may : Permission = if old then permission.All else permission.Entries in
     IsTrue (needs_halls (permitted may r))) → IsHallKey locks key
 second_halls locks key r true is held needs = inr (is, held)
 second_halls locks key r false is held needs = absurd (under_entry r needs)
 
-came_under : (who : Option Caller) (locks : Locks) (server front handed : List ℕ)
+came_under : (who : Option Caller) (locks : DeskKeys) (server front handed : List ℕ)
     (earlier : List Begun) (one : Begun) (r : Request)
     → IsTrue (needs_key (permitted (permission_of (Locked locks) who) r))
     → Admits (Locked locks) server front handed who → BeginsAt handed earlier one
@@ -142,12 +142,12 @@ unfolding under_it
 came_under None locks server front handed earlier one r may h at = absurd (without_key r may)
 came_under (Some Anyone) locks server front handed earlier one r may h at =
     let bad : Locked locks ≡ Open = h.0 in absurd cc
-came_under (Some Passer) locks server front handed earlier one r may h at =
+came_under (Some Visitor) locks server front handed earlier one r may h at =
     absurd (without_key r may)
 came_under (Some (caller.Holder Hall)) locks server front handed earlier one r may h at =
     let two : Locked locks ≡ Locked h.0 = h.1 in
     let same : h.0 ≡ locks = cc in
-    let s = subst (λ (l : Locks). IsSealed l server front handed (Some Hall)) same h.2 in
+    let s = subst (λ (l : DeskKeys). IsSealed l server front handed (Some Hall)) same h.2 in
     record {
       who = Hall;
       under =
@@ -159,7 +159,7 @@ came_under (Some (caller.Holder Hall)) locks server front handed earlier one r m
 came_under (Some (caller.Holder Entry)) locks server front handed earlier one r may h at =
     let two : Locked locks ≡ Locked h.0 = h.1 in
     let same : h.0 ≡ locks = cc in
-    let s = subst (λ (l : Locks). IsSealed l server front handed (Some Entry)) same h.2 in
+    let s = subst (λ (l : DeskKeys). IsSealed l server front handed (Some Entry)) same h.2 in
     let it = entry_key locks.entry s.client server s.hands.0 s.hands.1 in
     record {
       who = Entry;
@@ -169,8 +169,8 @@ came_under (Some (caller.Holder Entry)) locks server front handed earlier one r 
       halls = λ needs. second_halls locks it.0 r locks.old refl it.1 needs;
     }
 
--- more came behind, and it needed no more than this
-under_more : (locks : Locks) (server front later : List ℕ) (earlier : List Begun) (one : Begun)
+-- more came after it, and it needed no more than this
+under_more : (locks : DeskKeys) (server front later : List ℕ) (earlier : List Begun) (one : Begun)
     (r s : Request) → (IsTrue (needs_halls r) → IsTrue (needs_halls s))
     → CameUnderKey locks server front earlier one s
     → CameUnderKey locks server (front ++ later) earlier one r

@@ -1,27 +1,28 @@
 -- A message of one desk to another, from a link to the desk that it is for, by hand: desk 1 of
--- three tells desk 2 how long its log is, over a connection under the hall's key.
+-- three reports to desk 2 how long its log is, over a connection under the hall's key.
 use Rattle.std.specs.Prelude.{◌≡◌, ℕ, false, List, [], ◌∷◌, ◌++◌, None, Some, Ok, IsTrue, map}
 use Rattle.connections.specs.Connections.{Connections, FollowEach, Served, TurnOf}
-use Rattle.guarded.specs.GuardLaw.{delivers}
-use Rattle.guarded.specs.GuardTurns.{Follow, Place}
-use Rattle.guarded.specs.Guarding.{fresh_guard}
+use Rattle.guarded.specs.LockedLaw.{delivers}
+use Rattle.guarded.specs.LockedTurns.{Follow, Place}
+use Rattle.guarded.specs.LockedConnections.{fresh_locked_connection}
 use Rattle.learner.specs.Desks.{first_desk}
 use Rattle.learner.specs.Steps.{IsDesk}
 use Rattle.learner.specs.declared.event.DeskEvent.TheVariants.{Deliver}
 use Rattle.multiplex.specs.EachClient.{IsServedBehind}
 use Rattle.multiplex.specs.Passing.{Changed, Comes, IsServedEach, Room, Step, Stops, Visit}
-use Rattle.multiplex.specs.declared.ends.Over.TheVariants.{All as NoMore}
-use Rattle.multiplex.specs.declared.ends.ServedEach.{ServedEach}
-use Rattle.multiplex.specs.declared.ends.Why.TheVariants.{Ended}
-use Rattle.multiplex.specs.declared.table.Terms.{Terms}
+use Rattle.multiplex.specs.declared.ends.ServingEnd.TheVariants.{All as NoMore}
+use Rattle.multiplex.specs.declared.ends.ServingsOutcome.{ServingsOutcome}
+use Rattle.multiplex.specs.declared.ends.EndReason.TheVariants.{Ended}
+use Rattle.multiplex.specs.declared.table.ServingOptions.{ServingOptions}
 use Rattle.replica.specs.Handles.{Handles}
+use Rattle.replica.specs.Settles.{Settles}
 use Rattle.replica.specs.Lengths.{nothing_told}
 use Rattle.replica.specs.Stores.{HoldsDesk}
 use Rattle.seal.specs.Records.{preface_of, records}
 use Rattle.seal_laws.specs.Keys.{AreRandom}
 use Rattle.sealed.specs.Admitting.{comes_under}
-use Rattle.sealed.specs.declared.callers.Doors.TheVariants.{Locked}
-use Rattle.sealed.specs.declared.callers.Locks.{Locks}
+use Rattle.sealed.specs.declared.callers.Access.TheVariants.{Locked}
+use Rattle.sealed.specs.declared.callers.DeskKeys.{DeskKeys}
 use Rattle.serving.specs.Connection.{Begun, asked}
 use Rattle.serving.specs.Making.{speaking}
 use Rattle.serving.specs.Serving.{Called}
@@ -37,7 +38,7 @@ use Rattle.desk_laws.specs.UnderKeys.{needs_key}
 use Rattle.desk_laws.specs.Ways.{IsWay}
 
 -- one client is accepted
-abbrev pub terms : Locks → Terms
+abbrev pub terms : DeskKeys → ServingOptions
 terms locks = record { wire = Two; most = 1; patience = 30000; doors = Locked locks }
 
 abbrev pub one : Begun
@@ -47,23 +48,23 @@ abbrev pub served : Served
 served = record { number = 0; one = one; count = 1; answer = []; leaves = None }
 
 -- the link's preface, and its one record
-abbrev pub gives : Locks → List ℕ → List ℕ → List ℕ
+abbrev pub gives : DeskKeys → List ℕ → List ℕ → List ℕ
 gives locks client server =
     preface_of client
     ++ records (comes_under client server locks.hall) 0 (spelling said_frame ∷ [])
 
 -- it comes, the desk's preface is taken, and the frame is begun
-abbrev pub turns : Locks → List ℕ → List ℕ → List Turn
+abbrev pub turns : DeskKeys → List ℕ → List ℕ → List Turn
 turns locks client server =
     Came (gives locks client server) ∷ Took (preface_of server) ∷ Began one ∷ []
 
 -- the client comes, and ends its side; no more clients are accepted
-abbrev pub steps : Locks → List ℕ → List ℕ → List Step
+abbrev pub steps : DeskKeys → List ℕ → List ℕ → List Step
 steps locks client server =
     Changed (Comes 0 server) ∷ Visit 0 (turns locks client server) (Some Ended)
     ∷ Changed (Stops NoMore) ∷ []
 
-abbrev pub result : ServedEach
+abbrev pub result : ServingsOutcome
 result = record { connections = 1; over = NoMore; starved = false }
 
 -- the frame comes to a connection as it is, and is begun
@@ -72,19 +73,19 @@ plain_turns =
     record { number = 0; turn = Came (spelling said_frame) }
     ∷ record { number = 0; turn = Began one } ∷ []
 
-pub record WorksServing {K : Type 0} (k : Ghosts K) (locks : Locks) (client server : List ℕ)
+pub record WorksServing {K : Type 0} (k : Ghosts K) (locks : DeskKeys) (client server : List ℕ)
     : Type 0 where
-  -- of one of many connections, of one behind a door, and of a desk that serves clients
-  pub plain_before : Connections (speaking (Handles k) Two)
-  pub plain_after : Connections (speaking (Handles k) Two)
+  -- of one of many connections, of one with keys, and of a desk that serves clients
+  pub plain_before : Connections (speaking (Handles k) (Settles k) Two)
+  pub plain_after : Connections (speaking (Handles k) (Settles k) Two)
   pub plain_new : (j : ℕ) → plain_before.talks j ≡ new_talk (third_home 2) Two
   pub follows : FollowEach plain_before plain_turns plain_after
-  pub place_before : Place (speaking (Handles k) Two)
-  pub place_after : Place (speaking (Handles k) Two)
-  pub fresh : place_before.guard ≡ fresh_guard (Locked locks) server (third_home 2) Two
+  pub place_before : Place (speaking (Handles k) (Settles k) Two)
+  pub place_after : Place (speaking (Handles k) (Settles k) Two)
+  pub fresh : place_before.guard ≡ fresh_locked_connection (Locked locks) server (third_home 2) Two
   pub guarded : Follow place_before (turns locks client server) place_after
-  pub before : Room (speaking (Handles k) Two)
-  pub after : Room (speaking (Handles k) Two)
+  pub before : Room (speaking (Handles k) (Settles k) Two)
+  pub after : Room (speaking (Handles k) (Settles k) Two)
   pub serves : IsServedEach result (third_home 2) (terms locks) None before after None None
       (steps locks client server)
   -- of what the client gave, and the link wrote
@@ -97,7 +98,7 @@ pub record WorksServing {K : Type 0} (k : Ghosts K) (locks : Locks) (client serv
 -- whatever keeps the desk's state, and whichever the keys and the random bytes are
 abbrev pub ServingWorks : {K : Type 0} → Ghosts K → Type 0
 ServingWorks {K} k =
-    (keeper : K) (locks : Locks) (client server : List ℕ)
+    (keeper : K) (locks : DeskKeys) (client server : List ℕ)
     → k.home_of keeper ≡ third_home 2 → HoldsDesk k keeper first_desk → AreRandom client server
     → WorksServing k locks client server
 
@@ -111,7 +112,7 @@ first_loops keeper = record {
   sent = [];
 }
 
--- desk 1 takes a Tick, and says to the others how long its log is; desk 2 is given that
+-- desk 1 makes a Tick, and says to the others how long its log is; desk 2 is given that
 abbrev pub ticks : Doing
 ticks = record {
   one = record { frame = tick_frame; may = All; differs = None; fates = [] };

@@ -2,11 +2,11 @@
 use Rattle.std.specs.Prelude.{◌≡◌, ◌≢◌, ℕ, List, [], ◌∷◌, ◌++◌, None, map}
 use Rattle.std.specs.List.{range_with_len}
 use Rattle.links.specs.Links.{LinkState, Pushes, pending, wish_of}
-use Rattle.links.specs.declared.stages.Pushed.TheVariants.{DroppedOldest}
-use Rattle.links.specs.declared.stages.Stage.TheVariants.{Open}
-use Rattle.links.specs.declared.stages.Wish.TheVariants as wish
+use Rattle.links.specs.declared.stages.PushOutcome.TheVariants.{DroppedOldest}
+use Rattle.links.specs.declared.stages.LinkStage.TheVariants.{Open}
+use Rattle.links.specs.declared.stages.LinkAction.TheVariants as wish
 
--- frames of two bytes, of which the first ones count on from this number
+-- frames of two bytes, whose first bytes count up from this number
 abbrev pub counted : ℕ → ℕ → List (List ℕ)
 counted from count = map (λ i. i ∷ 7 ∷ []) (range_with_len from count)
 

@@ -1,6 +1,7 @@
--- Desks that serve by the program's own loop, behind doors and sealed streams, with Ticks of their
+-- Desks that serve by the program's own loop, with keys and sealed streams, with Ticks of their
 -- own: what may happen to them, one event after the other, in any order, and what becomes of it.
-use Rattle.std.specs.Prelude.{ℕ, ◌≡◌, ◌≢◌, ◌⊎◌, List, [], ◌∷◌, ◌++◌, Option, Some, slice_get, take}
+use Rattle.std.specs.Prelude.{ℕ, ◌≡◌, ◌≢◌, ◌⊎◌, Bool, true, List, [], ◌∷◌, ◌++◌, Option, Some}
+use Rattle.std.specs.Prelude.{slice_get, take}
 use Rattle.acceptor.specs.declared.entry.Entry.{Entry}
 use Rattle.acceptor.specs.declared.message.Message.{Message}
 use Rattle.answers.specs.Seen.{Seen}
@@ -8,12 +9,13 @@ use Rattle.learner.specs.Desks.{first_desk}
 use Rattle.learner.specs.Laws.{IsPrefix}
 use Rattle.learner.specs.Steps.{IsDesk}
 use Rattle.learner.specs.Worlds.{World, new_world}
-use Rattle.multiplex.specs.EachClient.{AreDoneInTurn, Deed, Frame, OwnTick, point_in}
+use Rattle.multiplex.specs.EachClient.{AreDoneInTurn, Deed, Frame, OwnTick, Settling, point_in}
 use Rattle.multiplex.specs.Happenings.{Happened}
 use Rattle.multiplex.specs.Passing.{IsServedEach, Room, Step}
-use Rattle.multiplex.specs.declared.ends.ServedEach.{ServedEach}
-use Rattle.multiplex.specs.declared.table.Terms.{Terms}
+use Rattle.multiplex.specs.declared.ends.ServingsOutcome.{ServingsOutcome}
+use Rattle.multiplex.specs.declared.table.ServingOptions.{ServingOptions}
 use Rattle.replica.specs.Handles.{Handles}
+use Rattle.replica.specs.Settles.{Settles}
 use Rattle.replica.specs.Nodes.{NodeValue}
 use Rattle.replica.specs.Opens.{Opens}
 use Rattle.replica.specs.Stores.{HoldsDesk}
@@ -25,7 +27,7 @@ use Rattle.store.specs.declared.keeper.Keeper.{Ghosts}
 use Rattle.hall_laws.specs.HallRuns.{FrameWasSent, IsSameStore, IsTakenIn, IsTick, StopsInSave}
 use Rattle.hall_laws.specs.OwnMessages.{sent_after}
 use Rattle.hall_laws.specs.Stops.{Happening, real_run}
-use Rattle.wire.specs.declared.frame.What.TheVariants as what
+use Rattle.wire.specs.declared.frame.FrameBody.TheVariants as what
 
 -- ---- what a desk does
 
@@ -44,33 +46,45 @@ pub record IsDone {K : Type 0} (k : Ghosts K) (home : Home) (doing : Doing)
   pub parts : (serve_frame home seen doing.one).acts ≡ doing.acts ++ rest
   pub calls : Lead (Handles k) x (calls_of doing.acts) y
 
+-- a desk does that, or settles what it has changed, or that fails
+pub data Did : Type 0 where
+  Done : Doing → Did
+  Settled : Bool → Did
+
 -- one after the other
-abbrev pub AreDone : {K : Type 0} → Ghosts K → Home → NodeValue K → List Doing → NodeValue K
+abbrev pub AreDone : {K : Type 0} → Ghosts K → Home → NodeValue K → List Did → NodeValue K
     → Type 0
 AreDone k home x [] y = x ≡ y
-AreDone {K} k home x (doing ∷ more) y =
+AreDone {K} k home x (Done doing ∷ more) y =
     (z : NodeValue K) × IsDone k home doing x z × AreDone k home z more y
+AreDone {K} k home x (Settled ok ∷ more) y =
+    (z : NodeValue K) × Settles k x ok z × AreDone k home z more y
 
--- it is done for this frame of a client, or for a Tick of the desk's own
-abbrev pub IsFor : Home → Deed → Doing → Type 0
-IsFor home (Frame f) doing = doing.one ≡ f.one
-IsFor home (OwnTick starved) doing = IsTick home doing.one
+-- it is done for this frame of a client, or for a Tick of the desk's own, or it is that settling
+abbrev pub IsFor : Home → Deed → Did → Type 0
+IsFor home (Frame f) (Done doing) = doing.one ≡ f.one
+IsFor home (OwnTick starved) (Done doing) = IsTick home doing.one
+IsFor home (Settling ok) (Settled same) = same ≡ ok
+IsFor home (Frame f) (Settled ok) = ⊥
+IsFor home (OwnTick starved) (Settled ok) = ⊥
+IsFor home (Settling ok) (Done doing) = ⊥
 
-abbrev pub AreFor : Home → List Deed → List Doing → Type 0
+abbrev pub AreFor : Home → List Deed → List Did → Type 0
 AreFor home [] [] = Unit {0}
 AreFor home (deed ∷ deeds) (doing ∷ doings) = IsFor home deed doing × AreFor home deeds doings
 AreFor home [] (doing ∷ doings) = ⊥
 AreFor home (deed ∷ deeds) [] = ⊥
 
 -- What a desk does while it serves clients by the loop is such: for each frame that is begun, and
--- for each Tick of its own, in order, from its node before to its node after.
+-- for each Tick of its own, with what it settles between them, in order, from its node before to
+-- its node after.
 abbrev pub ServingsAreDoings : {K : Type 0} → Ghosts K → Type 0
 ServingsAreDoings {K} k =
-    (result : ServedEach) (home : Home) (t : Terms) (period : Option ℕ)
-    (a b : Room (speaking (Handles k) t.wire)) (before after : Option (List Happened))
+    (result : ServingsOutcome) (home : Home) (t : ServingOptions) (period : Option ℕ)
+    (a b : Room (speaking (Handles k) (Settles k) t.wire)) (before after : Option (List Happened))
     (steps : List Step)
     → IsServedEach result home t period a b before after steps
-    → (deeds : List Deed) × (doings : List Doing)
+    → (deeds : List Deed) × (doings : List Did)
     × AreDoneInTurn home (point_in a) deeds (point_in b) × AreFor home deeds doings
     × AreDone k home a.outside.node doings b.outside.node
 
@@ -84,10 +98,12 @@ pub record Loops (K : Type 0) : Type 0 where
 abbrev pub home_in : {K : Type 0} → Ghosts K → NodeValue K → Home
 home_in k x = k.home_of x.keeper
 
--- A desk does that; or it is opened again, after it ended or was stopped between two of these; or
--- it stops in the middle of one, with so much of it done, and is opened again.
+-- A desk does that; or it settles what it has changed; or it is opened again, after it ended or was
+-- stopped between two of these; or it stops in the middle of one, with a front part of it done, and
+-- is opened again.
 pub data LoopEvent : Type 0 where
   DoesAt : ℕ → Doing → LoopEvent
+  SettlesAt : ℕ → LoopEvent
   OpensAt : ℕ → LoopEvent
   StopsAt : ℕ → Doing → LoopEvent
 
@@ -104,6 +120,11 @@ pub record Does {K : Type 0} (k : Ghosts K) (n d : ℕ) (doing : Doing) (a b : L
     pub brings : FrameWasSent (home_in k (a.nodes d)) a.sent doing.one
     pub only : OnlyAt d doing.acts a b
 
+pub record SettlesOnce {K : Type 0} (k : Ghosts K) (n d : ℕ) (a b : Loops K) : Type 0 where
+  pub ours : IsDesk n d
+  pub settles : Settles k (a.nodes d) true (b.nodes d)
+  pub only : OnlyAt d [] a b
+
 -- the node was opened over this keeper, whose store gave back what was written to it
 pub record IsOpened {K : Type 0} (k : Ghosts K) (keeper : K) (y : NodeValue K) : Type 0 where
   pub opens : Opens k keeper y
@@ -113,7 +134,7 @@ pub record IsOpened {K : Type 0} (k : Ghosts K) (keeper : K) (y : NodeValue K) :
 pub record OpensAgain {K : Type 0} (k : Ghosts K) (n d : ℕ) (a b : Loops K) : Type 0 where
   pub ours : IsDesk n d
   pub keeper : K
-  pub store : IsSameStore k (a.nodes d).keeper keeper
+  pub store : IsSameStore k (a.nodes d).keeper keeper (b.nodes d).desk
   pub opened : IsOpened k keeper (b.nodes d)
   pub only : OnlyAt d [] a b
 
@@ -125,12 +146,14 @@ pub record Stops {K : Type 0} (k : Ghosts K) (n d : ℕ) (doing : Doing) (a b : 
     pub does : IsDone k (home_in k (a.nodes d)) doing (a.nodes d) node
     pub brings : FrameWasSent (home_in k (a.nodes d)) a.sent doing.one
     pub keeper : K
-    pub store : IsSameStore k node.keeper keeper ⊎ StopsInSave k node keeper does.rest
+    pub store : IsSameStore k node.keeper keeper (b.nodes d).desk
+        ⊎ StopsInSave k node keeper does.rest
     pub opened : IsOpened k keeper (b.nodes d)
     pub only : OnlyAt d doing.acts a b
 
 abbrev pub LoopGoes : {K : Type 0} → Ghosts K → ℕ → LoopEvent → Loops K → Loops K → Type 0
 LoopGoes k n (DoesAt d doing) a b = Does k n d doing a b
+LoopGoes k n (SettlesAt d) a b = SettlesOnce k n d a b
 LoopGoes k n (OpensAt d) a b = OpensAgain k n d a b
 LoopGoes k n (StopsAt d doing) a b = Stops k n d doing a b
 
@@ -199,10 +222,11 @@ LoopLogsAgree {K} k =
 -- a desk does so for a frame, or stops while it does
 abbrev pub BeginsIn : LoopEvent → Doing → Type 0
 BeginsIn (DoesAt d it) doing = it ≡ doing
+BeginsIn (SettlesAt d) doing = ⊥
 BeginsIn (OpensAt d) doing = ⊥
 BeginsIn (StopsAt d it) doing = it ≡ doing
 
--- in one of the steps a desk took the entry, of a frame that submits it
+-- in one of the steps a desk accepted the entry of a frame that submits it
 pub record WasEntered {K : Type 0} (steps : List (LoopStep K)) (e : Entry) : Type 0 where
   pub at : ℕ
   pub step : LoopStep K

@@ -2,15 +2,15 @@
 use Rattle.std.specs.Prelude.{◌≡◌, ℕ, Bool, true, false, List, ◌∷◌, ◌++◌, length, Some, IsTrue}
 use Rattle.std.specs.List.{flat_map}
 use Rattle.connections.specs.Connections.{Served, begun_of}
-use Rattle.guarded.specs.GuardLaw.{IsHallKey}
+use Rattle.guarded.specs.LockedLaw.{IsHallKey}
 use Rattle.multiplex.specs.EachClient.{IsServedBehind}
 use Rattle.seal.specs.Records.{AreBodies, preface_of, records}
 use Rattle.seal.specs.Streams.{joined}
 use Rattle.sealed.specs.Admitting.{comes_under}
 use Rattle.sealed.specs.Sent.{key_for}
-use Rattle.sealed.specs.declared.callers.Doors.TheVariants.{Locked}
+use Rattle.sealed.specs.declared.callers.Access.TheVariants.{Locked}
 use Rattle.sealed.specs.declared.callers.Holder.{Holder}
-use Rattle.sealed.specs.declared.callers.Locks.{Locks}
+use Rattle.sealed.specs.declared.callers.DeskKeys.{DeskKeys}
 use Rattle.serving.specs.Connection.{Begun, asked, frames_of}
 use Rattle.serving.specs.declared.request.Request.{Request}
 use Rattle.serving.specs.declared.request.Request.TheVariants.{Heard, Lagging, Learned, Entered}
@@ -57,7 +57,8 @@ needs_halls Withheld = false
 
 -- What came is a client's preface, records whose tags fit under this key of the desk, numbered from
 -- 0, and a rest; and in the bodies of these records is this frame, after those before it.
-pub record IsUnderKey (locks : Locks) (who : Holder) (server came : List ℕ) (earlier : List Begun)
+pub record IsUnderKey (locks : DeskKeys) (who : Holder) (server came : List ℕ)
+    (earlier : List Begun)
     (one : Begun) : Type 0 where
   pub key : List ℕ
   pub held : key_for locks who ≡ Some key
@@ -72,17 +73,19 @@ pub record IsUnderKey (locks : Locks) (who : Holder) (server came : List ℕ) (e
   pub inside : joined bodies
       ≡ flat_map spelling (frames_of earlier) ++ (spelling one.frame ++ more)
 
--- whose key it is; and where a key of the hall is needed, it is one
-pub record CameUnderKey (locks : Locks) (server came : List ℕ) (earlier : List Begun) (one : Begun)
+-- whose key it is; and where the frame needs a key of the hall, it is one
+pub record CameUnderKey (locks : DeskKeys) (server came : List ℕ) (earlier : List Begun)
+    (one : Begun)
     (r : Request) : Type 0 where
   pub who : Holder
   pub under : IsUnderKey locks who server came earlier one
   pub halls : IsTrue (needs_halls r) → IsHallKey locks under.key
 
--- At a desk with a key, for each frame of a client that asks for such, and is done.
+-- The law, at a desk with a key, for each frame of a client that asks for something that needs a
+-- key, and is served.
 abbrev pub EachAsksUnderAKey : Type 0
 EachAsksUnderAKey =
-    (home : Home) (locks : Locks) (server came sent : List ℕ) (earlier later : List Served)
+    (home : Home) (locks : DeskKeys) (server came sent : List ℕ) (earlier later : List Served)
     (one : Served)
     → IsServedBehind home (Locked locks) server came sent (earlier ++ one ∷ later)
     → IsTrue (needs_key (asked home one.one))

@@ -3,15 +3,15 @@
 use Rattle.std.specs.Prelude.{◌≡◌, ◌⊎◌, ℕ, false, List, [], ◌∷◌, ◌++◌, Some, IsTrue, map}
 use Rattle.std.specs.List.{AllByRecursion}
 use Rattle.connections.specs.Connections.{Served, begun_of}
-use Rattle.guarded.specs.GuardLaw.{delivers}
+use Rattle.guarded.specs.LockedLaw.{delivers}
 use Rattle.links.specs.Histories.{History, Leads, pushed, written}
 use Rattle.links.specs.Links.{LinkState}
 use Rattle.multiplex.specs.EachClient.{IsServedBehind}
 use Rattle.seal.specs.Records.{preface_of}
 use Rattle.seal_laws.specs.Keys.{AreRandom}
-use Rattle.sealed.specs.declared.callers.Doors.TheVariants.{Locked}
-use Rattle.sealed.specs.declared.callers.Locks.{Locks}
-use Rattle.sealed.specs.ends.Calls.{CallOf}
+use Rattle.sealed.specs.declared.callers.Access.TheVariants.{Locked}
+use Rattle.sealed.specs.declared.callers.DeskKeys.{DeskKeys}
+use Rattle.sealed.specs.ends.ClientStreams.{ClientStreamOf}
 use Rattle.sealed.specs.ends.Laws.{IsCall}
 use Rattle.serving.specs.Connection.{asked, frames_of}
 use Rattle.store.specs.declared.home.Home.{Home}
@@ -22,7 +22,7 @@ use Rattle.wire.specs.declared.frame.Frame.{Frame}
 -- A link was pushed these frames. What it wrote on its connection with this number was given to the
 -- caller's end of it, under the hall's key, and what came to the other desk is a front part of what
 -- that sent. The other desk has no other key of the hall.
-pub record IsWay (locks : Locks) (server came : List ℕ) (frames : List Frame) : Type 0 where
+pub record IsWay (locks : DeskKeys) (server came : List ℕ) (frames : List Frame) : Type 0 where
   pub one_key : locks.old ≡ false
   pub history : History
   pub link : LinkState
@@ -30,7 +30,7 @@ pub record IsWay (locks : Locks) (server came : List ℕ) (frames : List Frame) 
   pub pushes : pushed history ≡ map spelling frames
   pub each : AllByRecursion IsFrame frames
   pub number : ℕ
-  pub caller : CallOf
+  pub caller : ClientStreamOf
   pub client : List ℕ
   pub random : AreRandom client server
   pub heard : List ℕ
@@ -59,7 +59,7 @@ pub record ComesAsPushed (frames before : List Frame) (one : Frame) : Type 0 whe
 -- that were begun before it, in order: none is lost between them, doubled or changed.
 abbrev pub MessagesComeAsPushed : Type 0
 MessagesComeAsPushed =
-    (home : Home) (locks : Locks) (server came sent : List ℕ) (frames : List Frame)
+    (home : Home) (locks : DeskKeys) (server came sent : List ℕ) (frames : List Frame)
     (earlier later : List Served) (one : Served)
     → IsWay locks server came frames
     → IsServedBehind home (Locked locks) server came sent (earlier ++ one ∷ later)

@@ -1,5 +1,5 @@
-//! What desks that serve by the program's own loop do in a hall, and what keys leave of that. Each
-//! law is the contract of a function that does nothing.
+//! Laws of a hall whose desks serve by the program's own loop, and what is proved of their messages
+//! where they have keys. Each law is the contract of a function that does nothing.
 #![tactic(auto)]
 
 mod example;

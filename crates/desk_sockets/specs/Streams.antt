@@ -2,8 +2,8 @@
 use Rattle.std.specs.Prelude.{ℕ, List, Option, None}
 use Rattle.sealed.specs.declared.ends.trouble.CallTrouble.{CallTrouble}
 use Rattle.desk_sockets.specs.Troubles.{confirmed}
-use Rattle.desk_sockets.specs.declared.connection.After.{After}
-use Rattle.desk_sockets.specs.declared.connection.After.TheVariants as after
+use Rattle.desk_sockets.specs.declared.connection.NextStep.{NextStep}
+use Rattle.desk_sockets.specs.declared.connection.NextStep.TheVariants as after
 
 -- the key, if there is one, what is wrong with it, and what the last connection that ended told of
 -- that
@@ -22,7 +22,7 @@ fresh_stream key = stream key None None
 
 -- what is known once a connection was read or written: where it ended, something is wrong with the
 -- keys once two in a row told the same
-abbrev pub noted : After → StreamOf → StreamOf
+abbrev pub noted : NextStep → StreamOf → StreamOf
 noted after.More s = s
 noted after.Later s = s
 noted (after.Ended told) s = stream s.key (confirmed s.trouble s.suspected told) told

@@ -2,12 +2,12 @@
 
 ghost use Rattle.std.specs.Prelude.{◌≡◌, false, true};
 ghost use Rattle.desk_talks.specs.Dialogues.{Reaches, has_changed};
-ghost use Rattle.sealed.specs.ends.Calls.{own_key};
+ghost use Rattle.sealed.specs.ends.ClientStreams.{own_key};
 ghost use Rattle.desk_sockets.specs.Connections.{Follows, after_came, is_harmless};
 
-use desk_talks::{Came, Dialogue};
+use desk_talks::{Dialogue, ReceiveOutcome};
 use mio::net::TcpStream;
-use sealed::ends::{Call, CallTrouble};
+use sealed::ends::{CallTrouble, ClientStream};
 use std::io;
 use std::io::{ErrorKind, Read, Write};
 
@@ -17,7 +17,7 @@ const MOST_TURNS: u32 = 128;
 
 /// What is to be done after a read or a write.
 #[derive(Clone, Copy)]
-pub(crate) enum After {
+pub(crate) enum NextStep {
     /// Again.
     More,
     /// Again, once the socket is ready.
@@ -28,19 +28,19 @@ pub(crate) enum After {
 
 /// What came of reading a connection.
 #[derive(Clone, Copy)]
-pub(crate) struct Reading {
+pub(crate) struct ReadingOutcome {
     /// Whether what the dialogue holds has changed, or may have.
     pub(crate) changed: bool,
     /// Whether the desk answered.
     pub(crate) answered: bool,
-    pub(crate) after: After,
+    pub(crate) after: NextStep,
 }
 
 /// A connection that is open or is being opened, and the call over it.
 #[derive(Drop)]
-pub(crate) struct Connection {
+pub(crate) struct DeskConnection {
     stream: TcpStream,
-    call: Call,
+    call: ClientStream,
 }
 
 /// Whether a call is to be made again once the socket is ready.
@@ -61,11 +61,11 @@ fn is_open(stream: &TcpStream) -> Option<bool> {
 }
 
 /// What came of a read that gave nothing of use.
-fn reading_nothing(after: After) -> Reading
+fn reading_nothing(after: NextStep) -> ReadingOutcome
     ensures changed { result.changed ≡ false }
     ensures after { result.after ≡ after }
 {
-    Reading {
+    ReadingOutcome {
         changed: false,
         answered: false,
         after,
@@ -73,50 +73,50 @@ fn reading_nothing(after: After) -> Reading
 }
 
 /// What the bytes of a read came to.
-fn reading_of(came: Came) -> Reading
+fn reading_of(came: ReceiveOutcome) -> ReadingOutcome
     ensures changed { result.changed ≡ has_changed came }
     ensures after { result.after ≡ after_came came }
 {
     match came {
-        Came::Nothing => reading_nothing(After::More),
-        Came::Answer { changed } => Reading {
+        ReceiveOutcome::Nothing => reading_nothing(NextStep::More),
+        ReceiveOutcome::Answer { changed } => ReadingOutcome {
             changed,
             answered: true,
-            after: After::More,
+            after: NextStep::More,
         },
-        Came::NoAnswer => reading_nothing(After::Ended { trouble: None }),
+        ReceiveOutcome::NoAnswer => reading_nothing(NextStep::Ended { trouble: None }),
     }
 }
 
 /// Tells the dialogue that the connection is lost, since this is wrong.
-fn reading_lost<D: Dialogue>(dialogue: &mut D, trouble: Option<CallTrouble>) -> Reading
+fn reading_lost<D: Dialogue>(dialogue: &mut D, trouble: Option<CallTrouble>) -> ReadingOutcome
     ensures changed { result.changed ≡ false }
-    ensures after { result.after ≡ After.Ended trouble }
+    ensures after { result.after ≡ NextStep.Ended trouble }
     ensures held { D.held dialogue.new ≡ D.held dialogue.old }
     ensures went { Reaches D.leads dialogue.old dialogue.new }
 {
     dialogue.lost();
-    reading_nothing(After::Ended { trouble })
+    reading_nothing(NextStep::Ended { trouble })
 }
 
 /// Tells the dialogue what was handed on to it, if that is something.
-fn hear_some<D: Dialogue>(dialogue: &mut D, now: u64, handed: &[u8]) -> Reading
+fn hear_some<D: Dialogue>(dialogue: &mut D, now: u64, handed: &[u8]) -> ReadingOutcome
     ensures after { is_harmless result.after ≡ true }
     ensures held { result.changed ≡ false → D.held dialogue.new ≡ D.held dialogue.old }
     ensures went { Reaches D.leads dialogue.old dialogue.new }
 {
     if handed.is_empty() {
-        return reading_nothing(After::More);
+        return reading_nothing(NextStep::More);
     }
     reading_of(dialogue.hear(now, handed))
 }
 
-impl Connection {
+impl DeskConnection {
     /// A connection that is being opened, for this call.
-    pub(crate) fn new(stream: TcpStream, call: Call) -> Connection
+    pub(crate) fn new(stream: TcpStream, call: ClientStream) -> DeskConnection
         ensures { result.call ≡ call }
     {
-        Connection { stream, call }
+        DeskConnection { stream, call }
     }
 
     /// Tells the dialogue whether the connection is open. False: it is of no use.
@@ -135,7 +135,7 @@ impl Connection {
     }
 
     /// Takes bytes that came.
-    fn hear<D: Dialogue>(&mut self, dialogue: &mut D, now: u64, piece: &[u8]) -> Reading
+    fn hear<D: Dialogue>(&mut self, dialogue: &mut D, now: u64, piece: &[u8]) -> ReadingOutcome
         ensures follows { Follows result.after (own_key self.old.call) self.new.call }
         ensures held { result.changed ≡ false → D.held dialogue.new ≡ D.held dialogue.old }
         ensures went { Reaches D.leads dialogue.old dialogue.new }
@@ -150,7 +150,7 @@ impl Connection {
     }
 
     /// Reads once what the desk sent.
-    fn read_once<D: Dialogue>(&mut self, dialogue: &mut D, now: u64) -> Reading
+    fn read_once<D: Dialogue>(&mut self, dialogue: &mut D, now: u64) -> ReadingOutcome
         ensures follows { Follows result.after (own_key self.old.call) self.new.call }
         ensures held { result.changed ≡ false → D.held dialogue.new ≡ D.held dialogue.old }
         ensures went { Reaches D.leads dialogue.old dialogue.new }
@@ -160,14 +160,14 @@ impl Connection {
         match stream.read(&mut piece) {
             Ok(0) => reading_lost(dialogue, self.call.trouble_at_end()),
             Ok(count) => self.hear(dialogue, now, &piece[..count]),
-            Err(error) if is_waiting(&error) => reading_nothing(After::Later),
+            Err(error) if is_waiting(&error) => reading_nothing(NextStep::Later),
             // a desk that dies resets its connections: that tells nothing of the keys
             Err(_) => reading_lost(dialogue, None),
         }
     }
 
     /// Reads what the desk sent.
-    pub(crate) fn read<D: Dialogue>(&mut self, dialogue: &mut D, now: u64) -> Reading
+    pub(crate) fn read<D: Dialogue>(&mut self, dialogue: &mut D, now: u64) -> ReadingOutcome
         ensures follows { Follows result.after (own_key self.old.call) self.new.call }
         ensures held { result.changed ≡ false → D.held dialogue.new ≡ D.held dialogue.old }
         ensures went { Reaches D.leads dialogue.old dialogue.new }
@@ -178,18 +178,18 @@ impl Connection {
             let reading = self.read_once(dialogue, now);
             changed = changed || reading.changed;
             answered = answered || reading.answered;
-            if !matches!(reading.after, After::More) {
-                return Reading {
+            if !matches!(reading.after, NextStep::More) {
+                return ReadingOutcome {
                     changed,
                     answered,
                     after: reading.after,
                 };
             }
         }
-        Reading {
+        ReadingOutcome {
             changed,
             answered,
-            after: After::More,
+            after: NextStep::More,
         }
     }
 
@@ -214,39 +214,39 @@ impl Connection {
     }
 
     /// Writes once what is to be sent over the call.
-    fn write_once(&mut self) -> After
+    fn write_once(&mut self) -> NextStep
         ensures { Follows result (own_key self.old.call) self.new.call }
     {
         if !self.is_waiting() {
-            return After::Later;
+            return NextStep::Later;
         }
         let mut stream = &self.stream;
         match stream.write(self.call.output()) {
-            Ok(0) => After::Later,
+            Ok(0) => NextStep::Later,
             Ok(count) => {
                 self.call.sent(count);
-                After::More
+                NextStep::More
             }
-            Err(error) if is_waiting(&error) => After::Later,
-            Err(_) => After::Ended { trouble: None },
+            Err(error) if is_waiting(&error) => NextStep::Later,
+            Err(_) => NextStep::Ended { trouble: None },
         }
     }
 
     /// Writes what the dialogue has to send, as much as the connection takes.
-    pub(crate) fn write<D: Dialogue>(&mut self, dialogue: &mut D) -> After
+    pub(crate) fn write<D: Dialogue>(&mut self, dialogue: &mut D) -> NextStep
         ensures follows { Follows result (own_key self.old.call) self.new.call }
         ensures held { D.held dialogue.new ≡ D.held dialogue.old }
         ensures went { Reaches D.leads dialogue.old dialogue.new }
     {
         for _write in 0..MOST_TURNS {
             if !self.give(dialogue) {
-                return After::Ended { trouble: None };
+                return NextStep::Ended { trouble: None };
             }
             let after = self.write_once();
-            if !matches!(after, After::More) {
+            if !matches!(after, NextStep::More) {
                 return after;
             }
         }
-        After::More
+        NextStep::More
     }
 }

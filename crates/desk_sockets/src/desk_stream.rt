@@ -2,17 +2,17 @@
 
 ghost use Rattle.std.specs.Prelude.{◌≡◌, Bool, false, true, is_some, IfSome};
 ghost use Rattle.desk_talks.specs.Dialogues.{Reaches};
-ghost use Rattle.sealed.specs.ends.Calls.{own_key};
+ghost use Rattle.sealed.specs.ends.ClientStreams.{own_key};
 ghost use Rattle.desk_sockets.specs.Asking.{AsksNow};
 ghost use Rattle.desk_sockets.specs.Connections.{Follows};
 ghost use Rattle.desk_sockets.specs.Streams.{fresh_stream, noted};
 ghost use Rattle.desk_sockets.specs.Troubles.{confirmed, fits};
 
-use crate::connection::{After, Connection};
-use desk_talks::{Dialogue, Wish};
+use crate::connection::{DeskConnection, NextStep};
+use desk_talks::{Dialogue, DialogueAction};
 use mio::net::TcpStream;
 use mio::{Interest, Registry, Token};
-use sealed::ends::{Call, CallTrouble};
+use sealed::ends::{CallTrouble, ClientStream};
 use std::alloc::Global;
 use std::io;
 use std::io::ErrorKind;
@@ -26,7 +26,7 @@ const MOST_WISHES: u32 = 1024;
 
 /// What came of keeping a dialogue up.
 #[derive(Clone, Copy, PartialEq, Eq, Debug)]
-pub enum Kept {
+pub enum DialogueChange {
     /// The dialogue holds what it held.
     Same,
     /// What it holds has changed, or may have.
@@ -49,7 +49,7 @@ pub struct DeskStream<'a, R> {
     /// The address of desk 1, of desk 2 and so on, where it is known.
     addresses: Vec<Option<SocketAddr>>,
     key: Option<[u8; 32]>,
-    connection: Option<Connection>,
+    connection: Option<DeskConnection>,
     trouble: Option<CallTrouble>,
     /// What the end of the last connection said, of which a second one has to say the same.
     suspected: Option<CallTrouble>,
@@ -78,7 +78,7 @@ fn confirmed(
 impl<'a, R> Model for DeskStream<'a, R> {
     ghost use Rattle.std.specs.Prelude.{◌≡◌, is_some, true};
     ghost use Rattle.std.specs.Option.{ForSome};
-    ghost use Rattle.sealed.specs.ends.Calls.{own_key};
+    ghost use Rattle.sealed.specs.ends.ClientStreams.{own_key};
     ghost use Rattle.desk_sockets.specs.Streams.{StreamOf, stream};
     ghost use Rattle.desk_sockets.specs.Troubles.{fits};
 
@@ -129,12 +129,12 @@ impl<'a, R: Net + RandomSource> DeskStream<'a, R> {
 
     /// What goes over a new connection, with bytes that are drawn for it. None: the system gives no
     /// random bytes, or no memory.
-    fn call(&self) -> Option<Call>
+    fn call(&self) -> Option<ClientStream>
         ensures { IfSome result (λ call. own_key call ≡ self.now.key) }
     {
         let mut random = [0; 16];
         match self.source.fill_bytes(&mut random) {
-            Ok(()) => Call::new(self.alloc, self.key, random).ok(),
+            Ok(()) => ClientStream::new(self.alloc, self.key, random).ok(),
             Err(_) => None,
         }
     }
@@ -153,24 +153,24 @@ impl<'a, R: Net + RandomSource> DeskStream<'a, R> {
     }
 
     /// Begins to open a connection to a desk. None: it can't be opened.
-    fn connection_to(&self, desk: u8) -> Option<Connection>
+    fn connection_to(&self, desk: u8) -> Option<DeskConnection>
         ensures { IfSome result (λ c. own_key c.call ≡ self.now.key) }
     {
         let call = self.call()?;
         match self.connect(desk) {
-            Ok(stream) => Some(Connection::new(stream, call)),
+            Ok(stream) => Some(DeskConnection::new(stream, call)),
             Err(_) => None,
         }
     }
 
     /// Goes on with a connection, unless it has ended; what its end tells of the keys is noted.
-    fn go_on(&mut self, connection: Connection, after: After)
+    fn go_on(&mut self, connection: DeskConnection, after: NextStep)
         requires { Follows after self.old.key connection.call }
         ensures { self.new ≡ noted after self.old }
     {
         match after {
-            After::More | After::Later => self.connection = Some(connection),
-            After::Ended { trouble } => {
+            NextStep::More | NextStep::Later => self.connection = Some(connection),
+            NextStep::Ended { trouble } => {
                 self.trouble = confirmed(self.trouble, self.suspected, trouble);
                 self.suspected = trouble;
             }
@@ -235,7 +235,7 @@ impl<'a, R: Net + RandomSource> DeskStream<'a, R> {
             return;
         };
         let after = connection.write(dialogue);
-        if matches!(after, After::Ended { .. }) {
+        if matches!(after, NextStep::Ended { .. }) {
             dialogue.lost();
         }
         self.go_on(connection, after);
@@ -273,16 +273,16 @@ impl<'a, R: Net + RandomSource> DeskStream<'a, R> {
     }
 
     /// Fulfils a wish of the dialogue.
-    fn fulfil<D: Dialogue>(&mut self, dialogue: &mut D, wish: Wish)
+    fn fulfil<D: Dialogue>(&mut self, dialogue: &mut D, wish: DialogueAction)
         ensures key { self.new.key ≡ self.old.key }
         ensures held { D.held dialogue.new ≡ D.held dialogue.old }
         ensures went { Reaches D.leads dialogue.old dialogue.new }
     {
         match wish {
-            Wish::Rest => {}
-            Wish::Open { desk } => self.open(dialogue, desk),
-            Wish::Write => self.write(dialogue),
-            Wish::Close | Wish::Stop => self.connection = None,
+            DialogueAction::Rest => {}
+            DialogueAction::Open { desk } => self.open(dialogue, desk),
+            DialogueAction::Write => self.write(dialogue),
+            DialogueAction::Close | DialogueAction::Stop => self.connection = None,
         }
     }
 
@@ -297,9 +297,9 @@ impl<'a, R: Net + RandomSource> DeskStream<'a, R> {
             let wish = dialogue.act(now);
             self.fulfil(dialogue, wish);
             match wish {
-                Wish::Rest => return true,
-                Wish::Stop => return false,
-                Wish::Open { .. } | Wish::Write | Wish::Close => {}
+                DialogueAction::Rest => return true,
+                DialogueAction::Stop => return false,
+                DialogueAction::Open { .. } | DialogueAction::Write | DialogueAction::Close => {}
             }
         }
         true
@@ -309,17 +309,21 @@ impl<'a, R: Net + RandomSource> DeskStream<'a, R> {
     /// doesn't go back, without waiting. It is to be called again once the socket is ready, or the
     /// time is over that the dialogue's `wait` says. A desk that has another key, or none, or has a
     /// key where there is none here, counts as lost.
-    pub fn keep<D: Dialogue>(&mut self, dialogue: &mut D, now: u64) -> Kept
+    pub fn keep<D: Dialogue>(&mut self, dialogue: &mut D, now: u64) -> DialogueChange
         ensures key { self.new.key ≡ self.old.key }
-        ensures held { result ≡ Kept.Same → D.held dialogue.new ≡ D.held dialogue.old }
+        ensures held { result ≡ DialogueChange.Same → D.held dialogue.new ≡ D.held dialogue.old }
         ensures went { Reaches D.leads dialogue.old dialogue.new }
         ensures asked { AsksNow D.leads now dialogue.old dialogue.new }
     {
         let changed = self.look(dialogue, now);
         self.write_rest(dialogue);
         if !self.fulfil_all(dialogue, now) {
-            return Kept::Broken;
+            return DialogueChange::Broken;
         }
-        if changed { Kept::Changed } else { Kept::Same }
+        if changed {
+            DialogueChange::Changed
+        } else {
+            DialogueChange::Same
+        }
     }
 }

@@ -4,5 +4,5 @@
 mod connection;
 mod desk_stream;
 
-pub use desk_stream::{DeskStream, Kept};
+pub use desk_stream::{DeskStream, DialogueChange};
 pub use sealed::ends::CallTrouble;

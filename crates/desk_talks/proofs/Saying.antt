@@ -10,13 +10,14 @@ use Rattle.client.specs.declared.fault.ClientFault.{ClientFault}
 use Rattle.client.specs.declared.fault.ClientFault.TheVariants as fault
 use Rattle.wire.specs.Spelling.{spelling}
 use Rattle.wire.specs.declared.frame.Frame.{Frame}
-use Rattle.wire.specs.declared.frame.What.{What}
-use Rattle.desk_talks.specs.Lines.{AsksOver, HearsAt, HearsOver, LineOf, Opens, after_heard}
-use Rattle.desk_talks.specs.Lines.{sent_by}
-use Rattle.desk_talks.specs.Talks.{Hears, TalkOf, asking, heard_of, question_after, said_of}
-use Rattle.desk_talks.specs.Talks.{sending}
-use Rattle.desk_talks.specs.declared.talk.Heard.{Heard}
-use Rattle.desk_talks.specs.declared.talk.Heard.TheVariants as heard
+use Rattle.wire.specs.declared.frame.FrameBody.{FrameBody}
+use Rattle.desk_talks.specs.KeptConnections.{AsksOver, HearsAt, HearsOver, KeptConnectionOf, Opens}
+use Rattle.desk_talks.specs.KeptConnections.{after_heard}
+use Rattle.desk_talks.specs.KeptConnections.{sent_by}
+use Rattle.desk_talks.specs.Exchanges.{Hears, ExchangeOf, asking, heard_of, question_after, said_of}
+use Rattle.desk_talks.specs.Exchanges.{sending}
+use Rattle.desk_talks.specs.declared.exchange.AnswerOutcome.{AnswerOutcome}
+use Rattle.desk_talks.specs.declared.exchange.AnswerOutcome.TheVariants as heard
 
 abbrev pub Waits : (Frame → Type 0) → Option Frame → Type 0
 Waits P None = Unit {0}
@@ -28,15 +29,15 @@ IsEnd P bytes =
     (bytes ≡ [])
     ⊎ ((question : Frame) × (sent : ℕ) × P question × (bytes ≡ drop sent (spelling question)))
 
-pub record Says (P : Frame → Type 0) (t : TalkOf) : Type 0 where
+pub record Says (P : Frame → Type 0) (t : ExchangeOf) : Type 0 where
   pub question : Waits P t.question
   pub unsent : IsEnd P t.unsent
 
-abbrev pub SaysOver : (Frame → Type 0) → Option TalkOf → Type 0
+abbrev pub SaysOver : (Frame → Type 0) → Option ExchangeOf → Type 0
 SaysOver P None = Unit {0}
 SaysOver P (Some t) = Says P t
 
-says_asking : (P : Frame → Type 0) (t : TalkOf) (question : Frame) → P question
+says_asking : (P : Frame → Type 0) (t : ExchangeOf) (question : Frame) → P question
     → Says P (asking t question)
 says_asking P t question p =
     record { question = p; unsent = inr (question, 0, p, refl) }
@@ -47,7 +48,8 @@ end_later P count bytes (inl none) = inl (ap (drop count) none ∙ drop-nil coun
 end_later P count bytes (inr (question, sent, p, is)) =
     inr (question, sent + count, p, ap (drop count) is ∙ drop-drop count sent (spelling question))
 
-says_sending : (P : Frame → Type 0) (t : TalkOf) (count : ℕ) → Says P t → Says P (sending t count)
+says_sending : (P : Frame → Type 0) (t : ExchangeOf) (count : ℕ) → Says P t
+    → Says P (sending t count)
 says_sending P t count s =
     record { question = s.question; unsent = end_later P count t.unsent s.unsent }
 
@@ -56,7 +58,7 @@ waits_after : (P : Frame → Type 0) (question : Option Frame) (frames : List Fr
 waits_after P question [] w = w
 waits_after P question (given ∷ more) w = tt
 
-says_hears : (P : Frame → Type 0) (told : Heard) (piece : List ℕ) (t after : TalkOf)
+says_hears : (P : Frame → Type 0) (told : AnswerOutcome) (piece : List ℕ) (t after : ExchangeOf)
     → Hears told piece t after → Says P t → Says P after
 says_hears P told piece t after (inl h) s = record {
   question =
@@ -71,17 +73,17 @@ says_hears P told piece t after (inr h) s = record {
 -- ---- answers
 
 -- a question of this property was answered so
-abbrev pub IsAnsweredBy : (Frame → Type 0) → What → Type 0
+abbrev pub IsAnsweredBy : (Frame → Type 0) → FrameBody → Type 0
 IsAnsweredBy P answer =
     (question : Frame) × (frame : Frame) × P question × (judged question frame ≡ Ok answer)
 
-said_as : (r : Result What ClientFault) (answer : What) → said_of r ≡ heard.Answer answer
+said_as : (r : Result FrameBody ClientFault) (answer : FrameBody) → said_of r ≡ heard.Answer answer
     → r ≡ Ok answer
 said_as (Ok given) answer h = cc
 said_as (Err (fault.Refused refusal)) answer h = absurd cc
 said_as (Err _) answer h = absurd cc
 
-answered_by : (P : Frame → Type 0) (answer : What) (question : Option Frame)
+answered_by : (P : Frame → Type 0) (answer : FrameBody) (question : Option Frame)
     (frames : List Frame) → Waits P question
     → heard_of question frames ≡ heard.Answer answer → IsAnsweredBy P answer
 answered_by P answer question [] w h = absurd cc
@@ -90,7 +92,7 @@ answered_by P answer (Some asked) (given ∷ []) w h =
     (asked, given, w, said_as (judged asked given) answer h)
 answered_by P answer (Some asked) (given ∷ next ∷ more) w h = absurd cc
 
-answered_in : (P : Frame → Type 0) (answer : What) (piece : List ℕ) (t after : TalkOf)
+answered_in : (P : Frame → Type 0) (answer : FrameBody) (piece : List ℕ) (t after : ExchangeOf)
     → Hears (heard.Answer answer) piece t after → Waits P t.question → IsAnsweredBy P answer
 answered_in P answer piece t after (inl h) w =
     answered_by P answer t.question h.frames w (sym h.heard_is)
@@ -98,35 +100,39 @@ answered_in P answer piece t after (inr h) w = absurd (let k = h.heard_is in cc)
 
 -- ---- over a connection
 
-pub asks_over : (P : Frame → Type 0) (now : ℕ) (question : Frame) (old new : LineOf) → P question
+pub asks_over : (P : Frame → Type 0) (now : ℕ) (question : Frame) (old new : KeptConnectionOf)
+    → P question
     → AsksOver true now question old new → SaysOver P new.talking
 asks_over P now question old new p (t, is, e) =
     subst (λ z. SaysOver P z.talking) (sym e) (says_asking P t question p)
 
-pub opens_over : (P : Frame → Type 0) (opened : Bool) (old new : LineOf) → Opens opened old new
+pub opens_over : (P : Frame → Type 0) (opened : Bool) (old new : KeptConnectionOf)
+    → Opens opened old new
     → SaysOver P new.talking
 opens_over P true old new e =
     subst (λ z. SaysOver P z.talking) (sym e) (record { question = tt; unsent = inl refl })
 opens_over P false old new e = subst (λ z. SaysOver P z.talking) (sym e) tt
 
-sent_at : (P : Frame → Type 0) (count : ℕ) (talking : Option TalkOf) → SaysOver P talking
+sent_at : (P : Frame → Type 0) (count : ℕ) (talking : Option ExchangeOf) → SaysOver P talking
     → SaysOver P (option_map (λ t. sending t count) talking)
 sent_at P count None s = s
 sent_at P count (Some t) s = says_sending P t count s
 
-pub sent_over : (P : Frame → Type 0) (count : ℕ) (l : LineOf) → SaysOver P l.talking
+pub sent_over : (P : Frame → Type 0) (count : ℕ) (l : KeptConnectionOf) → SaysOver P l.talking
     → SaysOver P (sent_by l count).talking
 sent_over P count l s = sent_at P count l.talking s
 
-after_over : (P : Frame → Type 0) (told : Heard) (l : LineOf) (t : TalkOf) → Says P t
+after_over : (P : Frame → Type 0) (told : AnswerOutcome) (l : KeptConnectionOf) (t : ExchangeOf)
+    → Says P t
     → SaysOver P (after_heard told l t).talking
 after_over P heard.Waits l t s = s
 after_over P (heard.Answer answer) l t s = s
 after_over P (heard.Refused refusal) l t s = s
 after_over P heard.NoAnswer l t s = tt
 
-hears_at : (P : Frame → Type 0) (talking : Option TalkOf) (told : Heard) (piece : List ℕ)
-    (old new : LineOf) → SaysOver P talking → SaysOver P old.talking
+hears_at : (P : Frame → Type 0) (talking : Option ExchangeOf) (told : AnswerOutcome)
+    (piece : List ℕ)
+    (old new : KeptConnectionOf) → SaysOver P talking → SaysOver P old.talking
     → HearsAt talking told piece old new → SaysOver P new.talking
 hears_at P None told piece old new s k (is, e) =
     subst (λ z. SaysOver P z.talking) (sym e) k
@@ -134,19 +140,22 @@ hears_at P (Some t) told piece old new s k (after, hears, e) =
     subst (λ z. SaysOver P z.talking) (sym e)
     (after_over P told old after (says_hears P told piece t after hears s))
 
-pub hears_over : (P : Frame → Type 0) (told : Heard) (piece : List ℕ) (old new : LineOf)
+pub hears_over : (P : Frame → Type 0) (told : AnswerOutcome) (piece : List ℕ)
+    (old new : KeptConnectionOf)
     → SaysOver P old.talking → HearsOver told piece old new → SaysOver P new.talking
 hears_over P told piece old new s h = hears_at P old.talking told piece old new s s h
 
-answered_at : (P : Frame → Type 0) (answer : What) (talking : Option TalkOf) (piece : List ℕ)
-    (old new : LineOf) → SaysOver P talking
+answered_at : (P : Frame → Type 0) (answer : FrameBody) (talking : Option ExchangeOf)
+    (piece : List ℕ)
+    (old new : KeptConnectionOf) → SaysOver P talking
     → HearsAt talking (heard.Answer answer) piece old new → IsAnsweredBy P answer
 answered_at P answer None piece old new s (is, e) = absurd cc
 answered_at P answer (Some t) piece old new s (after, hears, e) =
     answered_in P answer piece t after hears s.question
 
 -- what was heard as an answer answers a question that was asked
-pub answered_over : (P : Frame → Type 0) (answer : What) (piece : List ℕ) (old new : LineOf)
+pub answered_over : (P : Frame → Type 0) (answer : FrameBody) (piece : List ℕ)
+    (old new : KeptConnectionOf)
     → SaysOver P old.talking → HearsOver (heard.Answer answer) piece old new
     → IsAnsweredBy P answer
 answered_over P answer piece old new s h =
@@ -166,7 +175,7 @@ end_wider P Q more bytes (inr (question, sent, p, is)) =
     inr (question, sent, more question p, is)
 
 pub says_wider : (P Q : Frame → Type 0) → ((question : Frame) → P question → Q question)
-    → (talking : Option TalkOf) → SaysOver P talking → SaysOver Q talking
+    → (talking : Option ExchangeOf) → SaysOver P talking → SaysOver Q talking
 says_wider P Q more None s = tt
 says_wider P Q more (Some t) s = record {
   question = waits_wider P Q more t.question s.question;

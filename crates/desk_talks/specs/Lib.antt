@@ -1,3 +1,3 @@
 pub mod Dialogues
-pub mod Lines
-pub mod Talks
+pub mod KeptConnections
+pub mod Exchanges

@@ -5,7 +5,7 @@ ghost use Rattle.desk_talks.specs.Dialogues.{Act, Call, Hear, Lost, Opened, Sent
 
 /// What is to be done now.
 #[derive(Clone, Copy, PartialEq, Eq, Debug)]
-pub enum Wish {
+pub enum DialogueAction {
     /// Nothing, until something comes or some time is over.
     Rest,
     /// Open a connection to this desk, 1 to 5: call `opened` once it is open, or `lost`.
@@ -21,7 +21,7 @@ pub enum Wish {
 
 /// What came of bytes that a desk sent.
 #[derive(Clone, Copy, PartialEq, Eq, Debug)]
-pub enum Came {
+pub enum ReceiveOutcome {
     /// No answer is whole yet, or there is no connection.
     Nothing,
     /// The desk answered. Where nothing changed, the dialogue holds what it held.
@@ -47,7 +47,7 @@ pub trait Dialogue {
 
     /// What is to be done now, at this many milliseconds of a clock that doesn't go back. It counts
     /// as begun.
-    fn act(&mut self, now: u64) -> Wish
+    fn act(&mut self, now: u64) -> DialogueAction
         ensures held { held self.new ≡ held self.old }
         ensures leads { leads (Act result now) self.old self.new };
 
@@ -74,7 +74,7 @@ pub trait Dialogue {
         ensures leads { leads (Sent count) self.old self.new };
 
     /// Takes bytes that came from the desk over the connection.
-    fn hear(&mut self, now: u64, piece: &[u8]) -> Came
+    fn hear(&mut self, now: u64, piece: &[u8]) -> ReceiveOutcome
         ensures held { has_changed result ≡ false → held self.new ≡ held self.old }
         ensures leads { leads (Hear result now piece.now) self.old self.new };
 }

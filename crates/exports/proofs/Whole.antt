@@ -8,8 +8,8 @@ use Rattle.std.proofs.KnownBytes.{Keeps-refl}
 use Rattle.commands.specs.History.{History}
 use Rattle.exports.proofs.imports.Whole.{all_of}
 use Rattle.exports.specs.imports.Printing.{IsFront}
-use Rattle.exports.specs.declared.imports.reading.ReadFault.{ReadFault}
-use Rattle.exports.specs.declared.imports.reading.ReadFault.TheVariants as read
+use Rattle.exports.specs.declared.imports.reading.InputFault.{InputFault}
+use Rattle.exports.specs.declared.imports.reading.InputFault.TheVariants as read
 use Rattle.lines.specs.Lines.{is_within}
 use Rattle.wcif.specs.Files.{most_bytes}
 use Rattle.wcif_results.specs.Files.{ExportFails}
@@ -17,7 +17,7 @@ use Rattle.wcif_results.specs.declared.exporting.ExportFault.{ExportFault}
 use Rattle.wcif_results.specs.declared.exporting.ExportFault.TheVariants as file
 use Rattle.exports.specs.Files.{FailsExport, IsFilledLine, IsUnfilled, MakesLine, StillRuns}
 use Rattle.exports.specs.Files.{TakesNone}
-use Rattle.wcif_results.specs.declared.note.Note.{Note}
+use Rattle.wcif_results.specs.declared.note.ExportNote.{ExportNote}
 use Rattle.exports.specs.Logs.{IsMeetOf, IsNoMeet, LogFails, ReadsMeet, fault_of_read, is_whole}
 use Rattle.exports.specs.Logs.{opens_any}
 use Rattle.exports.specs.declared.fault.ExportsFault.{ExportsFault}
@@ -53,17 +53,9 @@ cut_off had bytes was meet front same is cut =
     let here = subst (λ z. IsMeetOf z meet) same is in
     (bytes, all_of had bytes front (short bytes here.within), here.within, cut)
 
-pub no_bytes : (had : Option (List ℕ)) (e : ReadFault) → LogFails had (fault_of_read e)
+pub no_bytes : (had : Option (List ℕ)) (e : InputFault) → LogFails had (fault_of_read e)
 no_bytes had read.Read = tt
 no_bytes had read.NoMemory = tt
-
-pub no_meet : (had : Option (List ℕ)) (bytes was : List ℕ) (fault : LogFault)
-    → IsFront had bytes → was ≡ bytes → IsNoMeet was fault → LogFails had fault
-no_meet had bytes was log.TooLong front same h =
-    (bytes, front, subst (λ z. is_within z ≡ false) same h)
-no_meet had bytes was log.CutOff front same h = absurd h
-no_meet had bytes was log.Read front same h = tt
-no_meet had bytes was log.NoMemory front same h = tt
 
 -- of the bytes that a reader was given
 pub same_meet : (bytes given : List ℕ) (meet : History) → bytes ≡ given → IsMeetOf given meet
@@ -76,7 +68,7 @@ same_fault bytes given fault is h = subst (λ z. IsNoMeet z fault) (sym is) h
 
 -- the file
 
-pub makes : (running : Bool) (notes : List Note) (had_file had : Option (List ℕ))
+pub makes : (running : Bool) (notes : List ExportNote) (had_file had : Option (List ℕ))
     (bytes was line : List ℕ) (meet : History)
     → IsFront had_file bytes → was ≡ bytes → ReadsMeet had meet
     → IsFilledLine running meet.accepted was line notes → MakesLine running had_file had line notes

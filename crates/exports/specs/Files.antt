@@ -6,7 +6,7 @@ use Rattle.lines.specs.Bytes.{AppendsPart, HasLeft}
 use Rattle.texts.specs.declared.command.Command.{Command}
 use Rattle.wcif_results.specs.Files.{ExportFails, Exports, HasNotes}
 use Rattle.wcif_results.specs.Notes.{any_runs}
-use Rattle.wcif_results.specs.declared.note.Note.{Note}
+use Rattle.wcif_results.specs.declared.note.ExportNote.{ExportNote}
 use Rattle.wcif_results.specs.declared.exporting.ExportFault.{ExportFault}
 use Rattle.exports.specs.Logs.{LogFails, ReadsMeet, opens_any}
 use Rattle.exports.specs.declared.fault.ExportsFault.{ExportsFault}
@@ -14,13 +14,13 @@ use Rattle.exports.specs.declared.fault.ExportsFault.TheVariants as fault
 
 -- the file with the results, and a line feed, and what is told of it: rounds that still run are in
 -- it only where that is asked for
-abbrev pub IsFilledLine : Bool → List Command → (bytes line : List ℕ) → List Note → Type 0
+abbrev pub IsFilledLine : Bool → List Command → (bytes line : List ℕ) → List ExportNote → Type 0
 IsFilledLine running cs bytes line notes =
     (text : List ℕ) × (opens_any cs ≡ true) × Exports cs bytes text × HasNotes cs bytes notes
     × ((any_runs notes && not running) ≡ false) × (line ≡ text ++ 10 ∷ [])
 
 -- there is a file with the results, rounds still run, and that is not asked for
-abbrev pub StillRuns : Bool → List Command → (bytes : List ℕ) → List Note → Type 0
+abbrev pub StillRuns : Bool → List Command → (bytes : List ℕ) → List ExportNote → Type 0
 StillRuns running cs bytes notes =
     (text : List ℕ) × Exports cs bytes text × HasNotes cs bytes notes
     × ((any_runs notes && not running) ≡ true)
@@ -36,13 +36,14 @@ IsUnfilled running cs bytes fault.Write = ⊥
 IsUnfilled running cs bytes fault.NoMemory = Unit {0}
 
 -- the line of the bytes that the one reader has and of the meet that the other has
-abbrev pub MakesLine : Bool → (file log : Option (List ℕ)) → (line : List ℕ) → List Note → Type 0
+abbrev pub MakesLine : Bool → (file log : Option (List ℕ)) → (line : List ℕ) → List ExportNote
+    → Type 0
 MakesLine running file log line notes =
     (bytes : List ℕ) × (meet : History) × HasLeft file bytes × ReadsMeet log meet
     × IsFilledLine running meet.accepted bytes line notes
 
 -- it was written
-abbrev pub PrintsExport : Bool → List Note → (file log old new : Option (List ℕ)) → Type 0
+abbrev pub PrintsExport : Bool → List ExportNote → (file log old new : Option (List ℕ)) → Type 0
 PrintsExport running notes file log old new =
     (line : List ℕ) × MakesLine running file log line notes × Appends old new line
 
@@ -53,7 +54,7 @@ TakesNone f file log =
     × (opens_any meet.accepted ≡ true) × ExportFails meet.accepted bytes f
 
 -- the log was read, and rounds of it still run
-abbrev pub Runs : Bool → (file log : Option (List ℕ)) → List Note → Type 0
+abbrev pub Runs : Bool → (file log : Option (List ℕ)) → List ExportNote → Type 0
 Runs running file log notes =
     (bytes : List ℕ) × (meet : History) × HasLeft file bytes × ReadsMeet log meet
     × StillRuns running meet.accepted bytes notes
@@ -68,6 +69,6 @@ FailsExport (fault.File f) running file log old new = TakesNone f file log × Ke
 FailsExport (fault.Running notes) running file log old new =
     Runs running file log notes.items × Keeps old new
 FailsExport fault.Write running file log old new =
-    (line : List ℕ) × (notes : List Note) × MakesLine running file log line notes
+    (line : List ℕ) × (notes : List ExportNote) × MakesLine running file log line notes
     × AppendsPart old new line
 FailsExport fault.NoMemory running file log old new = Keeps old new

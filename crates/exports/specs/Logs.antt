@@ -7,8 +7,8 @@ use Rattle.commands.specs.Accepted.{round_of}
 use Rattle.commands.specs.History.{History, history}
 use Rattle.formats.specs.Events.{all_events}
 use Rattle.exports.specs.imports.Printing.{IsFront}
-use Rattle.exports.specs.declared.imports.reading.ReadFault.{ReadFault}
-use Rattle.exports.specs.declared.imports.reading.ReadFault.TheVariants as read
+use Rattle.exports.specs.declared.imports.reading.InputFault.{InputFault}
+use Rattle.exports.specs.declared.imports.reading.InputFault.TheVariants as read
 use Rattle.lines.specs.Bytes.{HasLeft}
 use Rattle.lines.specs.Lines.{is_within, lines_of}
 use Rattle.lines.specs.declared.fault.RunFault.{RunFault}
@@ -60,7 +60,7 @@ fault_of_run run.Write = log.Read
 fault_of_run run.BadCount = log.Read
 fault_of_run (run.BadLine n) = log.Read
 
-abbrev pub fault_of_read : ReadFault → LogFault
+abbrev pub fault_of_read : InputFault → LogFault
 fault_of_read read.Read = log.Read
 fault_of_read read.NoMemory = log.NoMemory
 

@@ -2,7 +2,7 @@
 -- the one does not fit the other, 4 where a device failed, 5 where memory ran out (the project's
 -- own).
 use Rattle.std.specs.Prelude.{ℕ, ◌==◌, if◌then◌else◌, List, length}
-use Rattle.wcif_results.specs.declared.note.Note.{Note}
+use Rattle.wcif_results.specs.declared.note.ExportNote.{ExportNote}
 use Rattle.wcif_results.specs.declared.exporting.ExportFault.TheVariants as file
 use Rattle.exports.specs.declared.fault.ExportsFault.{ExportsFault}
 use Rattle.exports.specs.declared.fault.ExportsFault.TheVariants as exports
@@ -18,7 +18,7 @@ log_status log.Read = 4
 log_status log.NoMemory = 5
 
 -- 1 where something is told of what was printed
-abbrev pub notes_status : List Note → ℕ
+abbrev pub notes_status : List ExportNote → ℕ
 notes_status ns = if length ns == 0 then 0 else 1
 
 abbrev pub export_status : ExportsFault → ℕ

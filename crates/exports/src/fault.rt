@@ -8,7 +8,7 @@ ghost use Rattle.exports.specs.Statuses.{results_status};
 use crate::logs::LogFault;
 use std::alloc::AllocError;
 use std::io::Write;
-use wcif_results::{ExportFault, Note};
+use wcif_results::{ExportFault, ExportNote};
 
 /// Why a competition's file is not printed with the results of a log.
 #[derive(Drop)]
@@ -22,7 +22,7 @@ pub enum ExportsFault {
     /// The file does not take the results.
     File(ExportFault),
     /// Rounds still run: what is said of the file.
-    Running(Vec<Note>),
+    Running(Vec<ExportNote>),
     /// A write failed.
     Write,
     /// Memory ran out.
@@ -118,7 +118,7 @@ fn tell_file<F: Write>(faults: &mut F, fault: &ExportFault) {
 /// Writes what is said of a file that was printed with the results of a log, a line for each thing,
 /// and returns the status: 1 where something is said, else 0. Where a line cannot be written, the
 /// status alone says it.
-pub fn tell_notes<F: Write>(faults: &mut F, notes: &[Note]) -> u8
+pub fn tell_notes<F: Write>(faults: &mut F, notes: &[ExportNote]) -> u8
     ensures status { result ≡ notes_status notes.now }
     ensures quiet { result ≡ 0 → Keeps (F.contents faults.old) (F.contents faults.new) }
 {

@@ -4,13 +4,13 @@ ghost use Rattle.std.specs.Prelude.{IfErr, IfOk, None};
 ghost use Rattle.exports.specs.Files.{FailsExport, IsFilledLine, IsUnfilled, PrintsExport};
 
 use crate::fault::ExportsFault;
-use crate::imports::{ReadFault, read_bytes};
+use crate::imports::{InputFault, read_bytes};
 use crate::logs::{opens_any, read_log};
 use lines::write_text;
 use std::alloc::Global;
 use std::fs::File;
 use std::io::{ErrorKind, Read, Write};
-use wcif_results::{ExportFault, Exported, NamedMeet, Note, any_runs, export};
+use wcif_results::{ExportFault, ExportNote, ExportedFile, NamedMeet, any_runs, export};
 
 /// The file with the results of a meet, and a line feed. Rounds that still run are in it only where
 /// `running` says so.
@@ -19,7 +19,7 @@ fn filled_line(
     bytes: &[u8],
     meet: &NamedMeet,
     running: bool,
-) -> Result<Exported, ExportsFault>
+) -> Result<ExportedFile, ExportsFault>
     ensures ok { IfOk result (λ made. IsFilledLine running meet.now.accepted bytes.now
         made.text.items made.notes.items) }
     ensures err { IfErr result (IsUnfilled running meet.now.accepted bytes.now) }
@@ -27,7 +27,7 @@ fn filled_line(
     if !opens_any(meet.meet()) {
         return Err(ExportsFault::NoRound);
     }
-    let Exported { text, notes } = match export(alloc, bytes, meet) {
+    let ExportedFile { text, notes } = match export(alloc, bytes, meet) {
         Ok(made) => made,
         Err(ExportFault::NoMemory) => return Err(ExportsFault::NoMemory),
         Err(fault) => return Err(ExportsFault::File(fault)),
@@ -38,7 +38,7 @@ fn filled_line(
     }
     let mut line = text;
     line.extend_from_slice(b"\n")?;
-    Ok(Exported { text: line, notes })
+    Ok(ExportedFile { text: line, notes })
 }
 
 /// Reads a competition's file in the WCA Competition Interchange Format and a desk's log, and
@@ -62,7 +62,7 @@ pub fn print_export<R: Read + Drop, L: Read, W: Write>(
     running: bool,
     log: &mut L,
     writer: &mut W,
-) -> Result<Vec<Note>, ExportsFault>
+) -> Result<Vec<ExportNote>, ExportsFault>
     ensures ok { IfOk result (λ notes. PrintsExport running notes.items (R.remaining file)
         (L.remaining log.old) (W.contents writer.old) (W.contents writer.new)) }
     ensures err { IfErr result (λ f. FailsExport f running (R.remaining file)
@@ -70,15 +70,15 @@ pub fn print_export<R: Read + Drop, L: Read, W: Write>(
 {
     let bytes = match read_bytes(alloc, file) {
         Ok(bytes) => bytes,
-        Err(ReadFault::Read) => return Err(ExportsFault::ReadFile),
-        Err(ReadFault::NoMemory) => return Err(ExportsFault::NoMemory),
+        Err(InputFault::Read) => return Err(ExportsFault::ReadFile),
+        Err(InputFault::NoMemory) => return Err(ExportsFault::NoMemory),
     };
     let meet = match read_log(alloc, log) {
         Ok(meet) => meet,
         Err(fault) => return Err(ExportsFault::Log(fault)),
     };
     let made = filled_line(alloc, &bytes, &meet, running)?;
-    let Exported { text, notes } = made;
+    let ExportedFile { text, notes } = made;
     match write_text(writer, &text) {
         Ok(()) => Ok(notes),
         Err(_) => Err(ExportsFault::Write),
@@ -97,7 +97,7 @@ pub fn print_filled<L: Read, W: Write>(
     running: bool,
     log: &mut L,
     writer: &mut W,
-) -> Result<Vec<Note>, ExportsFault>
+) -> Result<Vec<ExportNote>, ExportsFault>
     ensures ok { IfOk result (λ notes. PrintsExport running notes.items None
         (L.remaining log.old) (W.contents writer.old) (W.contents writer.new)) }
     ensures err { IfErr result (λ f. FailsExport f running None (L.remaining log.old)

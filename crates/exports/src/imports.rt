@@ -6,4 +6,4 @@ mod reading;
 
 pub use fault::{ImportsFault, tell_import};
 pub use printing::{print_file, print_import};
-pub use reading::{ReadFault, read_bytes};
+pub use reading::{InputFault, read_bytes};

@@ -7,7 +7,7 @@ ghost use Rattle.exports.specs.Logs.{is_whole, opens_any};
 ghost use Rattle.exports.specs.declared.logs.LogFault.TheVariants as log_fault;
 ghost use Rattle.exports.specs.model.Applying.{AppliesAll, AppliesNotAll};
 
-use crate::imports::{ReadFault, read_bytes};
+use crate::imports::{InputFault, read_bytes};
 use commands::Meet;
 use formats::Event;
 use lines::{LineReader, RunFault};
@@ -52,15 +52,15 @@ impl From<RunFault> for LogFault {
     }
 }
 
-impl From<ReadFault> for LogFault {
+impl From<InputFault> for LogFault {
     ghost use Rattle.exports.specs.Logs.{fault_of_read};
 
     ghost from_gives = { λ read fault. fault ≡ fault_of_read read };
 
-    fn from(fault: ReadFault) -> LogFault {
+    fn from(fault: InputFault) -> LogFault {
         match fault {
-            ReadFault::Read => LogFault::Read,
-            ReadFault::NoMemory => LogFault::NoMemory,
+            InputFault::Read => LogFault::Read,
+            InputFault::NoMemory => LogFault::NoMemory,
         }
     }
 }

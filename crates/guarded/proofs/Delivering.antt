@@ -7,14 +7,14 @@ use Rattle.answers.specs.declared.desk.Desk.{Ghosts as DeskOf}
 use Rattle.seal.specs.declared.channel.Channel.{Channel}
 use Rattle.seal.specs.Records.{preface_of, records}
 use Rattle.sealed.specs.declared.callers.Caller.{Caller}
-use Rattle.sealed.specs.declared.callers.Caller.TheVariants.{Anyone, Passer}
+use Rattle.sealed.specs.declared.callers.Caller.TheVariants.{Anyone, Visitor}
 use Rattle.sealed.specs.declared.callers.Caller.TheVariants as caller
-use Rattle.sealed.specs.declared.callers.Doors.{Doors}
-use Rattle.sealed.specs.declared.callers.Doors.TheVariants.{Open, Locked}
+use Rattle.sealed.specs.declared.callers.Access.{Access}
+use Rattle.sealed.specs.declared.callers.Access.TheVariants.{Open, Locked}
 use Rattle.sealed.specs.declared.callers.Holder.TheVariants.{Hall, Entry}
-use Rattle.sealed.specs.declared.callers.Locks.{Locks}
+use Rattle.sealed.specs.declared.callers.DeskKeys.{DeskKeys}
 use Rattle.sealed.specs.Admitting.{Admits, IsSealed, comes_under}
-use Rattle.sealed.specs.Calls.{CalledOf, caller_of}
+use Rattle.sealed.specs.ServerSeals.{ServerSealOf, caller_of}
 use Rattle.sealed.specs.Fronts.{IsPrefaced}
 use Rattle.sealed.specs.Trials.{Hands}
 use Rattle.sealed.proofs.Admitted.{admits}
@@ -33,10 +33,10 @@ use Rattle.serving.specs.Permissions.{permitted}
 use Rattle.serving.specs.TurnLaw.{Began, Turn, begun_in, received}
 use Rattle.wire.specs.declared.standing.Difference.{Difference}
 use Rattle.wire.specs.declared.values.Version.{Version}
-use Rattle.guarded.specs.Guarding.{Guarding}
-use Rattle.guarded.specs.GuardTurns.{Follow, Place, with_talk, within}
-use Rattle.guarded.specs.GuardTurns as GuardTurns
-use Rattle.guarded.specs.GuardLaw.{DeliversUnderHall, IsHallKey, IsUnderHall, delivers}
+use Rattle.guarded.specs.LockedConnections.{LockedConnectionOf}
+use Rattle.guarded.specs.LockedTurns.{Follow, Place, with_talk, within}
+use Rattle.guarded.specs.LockedTurns as GuardTurns
+use Rattle.guarded.specs.LockedLaw.{DeliversUnderHall, IsHallKey, IsUnderHall, delivers}
 use Rattle.guarded.specs.Permitting.{permission_of}
 use Rattle.guarded.proofs.Holding.{BeginsAt, begins_at, holds_first, turns_hold}
 
@@ -103,7 +103,7 @@ delivers_alike differs r h = subst (λ (b : Bool). IsTrue b) (delivers_still dif
 -- ---- what is let in under the hall's keys
 
 -- what is let in under one of the hall's keys
-under_key : (locks : Locks) (server front handed : List ℕ) (earlier : List Begun) (one : Begun)
+under_key : (locks : DeskKeys) (server front handed : List ℕ) (earlier : List Begun) (one : Begun)
     (key client stream : List ℕ) → IsHallKey locks key → IsPrefaced front client stream
     → Hands (comes_under client server key) stream handed → BeginsAt handed earlier one
     → IsUnderHall locks server front earlier one
@@ -131,7 +131,7 @@ second_key None client server e is = absurd cc
 second_key (Some key) client server e is = (key, refl, cc)
 
 -- and where it was the hall's
-under_second : (old : Bool) (locks : Locks) (server front handed : List ℕ) (earlier : List Begun)
+under_second : (old : Bool) (locks : DeskKeys) (server front handed : List ℕ) (earlier : List Begun)
     (one : Begun) (r : Request) → locks.old ≡ old
     → IsTrue (delivers (permitted (if old then permission.All else permission.Entries) r))
     → IsSealed locks server front handed (Some Entry) → BeginsAt handed earlier one
@@ -144,7 +144,7 @@ under_second true locks server front handed earlier one r is may sealed at =
     under_key locks server front handed earlier one found.0 sealed.client sealed.stream
     (inr (is, found.1)) sealed.prefaced hands at
 
-pub under_hall : (who : Option Caller) (locks : Locks) (server front handed : List ℕ)
+pub under_hall : (who : Option Caller) (locks : DeskKeys) (server front handed : List ℕ)
     (earlier : List Begun) (one : Begun) (r : Request)
     → IsTrue (delivers (permitted (permission_of (Locked locks) who) r))
     → Admits (Locked locks) server front handed who → BeginsAt handed earlier one
@@ -152,24 +152,25 @@ pub under_hall : (who : Option Caller) (locks : Locks) (server front handed : Li
 under_hall None locks server front handed earlier one r may h at = absurd (no_sheets r may)
 under_hall (Some Anyone) locks server front handed earlier one r may h at =
     let bad : Locked locks ≡ Open = h.0 in absurd cc
-under_hall (Some Passer) locks server front handed earlier one r may h at =
+under_hall (Some Visitor) locks server front handed earlier one r may h at =
     absurd (no_sheets r may)
 under_hall (Some (caller.Holder Entry)) locks server front handed earlier one r may h at =
     let two : Locked locks ≡ Locked h.0 = h.1 in
     let same : h.0 ≡ locks = cc in
     let sealed =
-    subst (λ (l : Locks). IsSealed l server front handed (Some Entry)) same h.2 in
+    subst (λ (l : DeskKeys). IsSealed l server front handed (Some Entry)) same h.2 in
     under_second locks.old locks server front handed earlier one r refl may sealed at
 under_hall (Some (caller.Holder Hall)) locks server front handed earlier one r may h at =
     let two : Locked locks ≡ Locked h.0 = h.1 in
     let same : h.0 ≡ locks = cc in
     let sealed =
-    subst (λ (l : Locks). IsSealed l server front handed (Some Hall)) same h.2 in
+    subst (λ (l : DeskKeys). IsSealed l server front handed (Some Hall)) same h.2 in
     under_key locks server front handed earlier one locks.hall sealed.client sealed.stream
     (inl refl) sealed.prefaced sealed.hands.1 at
 
 -- more came behind
-pub under_more : (locks : Locks) (server front later : List ℕ) (earlier : List Begun) (one : Begun)
+pub under_more : (locks : DeskKeys) (server front later : List ℕ) (earlier : List Begun)
+    (one : Begun)
     → IsUnderHall locks server front earlier one
     → IsUnderHall locks server (front ++ later) earlier one
 under_more locks server front later earlier one h =
@@ -193,9 +194,10 @@ under_more locks server front later earlier one h =
 -- ---- the turns up to a frame
 
 follow_parts : {V : Type 0} (d : DeskOf V) (wire : Version)
-    (a b : Place (speaking d.handles wire)) (earlier later : List Turn) (t : Turn)
+    (a b : Place (speaking d.handles d.settles wire)) (earlier later : List Turn) (t : Turn)
     → Follow a (earlier ++ t ∷ later) b
-    → (m : Place (speaking d.handles wire)) × (n : Place (speaking d.handles wire))
+    → (m : Place (speaking d.handles d.settles wire))
+    × (n : Place (speaking d.handles d.settles wire))
     × Follow a earlier m × GuardTurns.Turns t m n
 follow_parts d wire a b [] later t h = (a, h.0, refl, h.1)
 follow_parts d wire a b (e ∷ earlier) later t h =
@@ -204,7 +206,7 @@ follow_parts d wire a b (e ∷ earlier) later t h =
 
 pub delivers_under_hall : {V : Type 0} (d : DeskOf V) → DeliversUnderHall d
 delivers_under_hall d home wire locks server earlier later one a b is follow may =
-    let doors : Doors = Locked locks in
+    let doors : Access = Locked locks in
     let p = follow_parts d wire a b earlier later (Began one) follow in
     let m = p.0 in
     let turn = p.3 in
@@ -219,15 +221,15 @@ delivers_under_hall d home wire locks server earlier later one a b is follow may
     sym (k.parts ∙ ap (λ (s : List ℕ). k.front ++ s) now.1 ∙ append-nil k.front) in
     let at =
     begins_at d home wire (within a) (within m) (with_talk p.1 turn.1) h.inner one
-    (ap (λ (g : Guarding). g.talk) is) h.follow turn.2 in
+    (ap (λ (g : LockedConnectionOf). g.talk) is) h.follow turn.2 in
     let who_may : one.may ≡ permission_of doors who =
-    turn.3 ∙ ap (λ (e : CalledOf). permission_of e.doors (caller_of e)) now.0
-    ∙ ap (λ (o : Doors). permission_of o who) k.doors_are in
+    turn.3 ∙ ap (λ (e : ServerSealOf). permission_of e.doors (caller_of e)) now.0
+    ∙ ap (λ (o : Access). permission_of o who) k.doors_are in
     let allowed =
     subst (λ (q : Permission). IsTrue (delivers (permitted q (request home one.frame)))) who_may
     (delivers_alike one.differs (permitted one.may (request home one.frame)) may) in
     let admitted =
-    subst (λ (o : Doors). Admits o server k.front handed who) k.doors_are
+    subst (λ (o : Access). Admits o server k.front handed who) k.doors_are
     (subst (λ (s : List ℕ). Admits c.doors s k.front handed who) k.server_is
     (admits c k.front handed k.stands)) in
     let under =

@@ -30,8 +30,3 @@ prefaced_short came random stream is short =
     short_less : (came : List ℕ) → IsShort came → 20 ≤ length came → ⊥
     short_less came (inl h) twenty = absurd (omega (arith, h, twenty))
     short_less came (inr h) twenty = absurd (omega (arith, h.1, twenty))
-
-pub unsealed_short : (came : List ℕ) → IsUnsealed came → IsShort came → ⊥
-unsealed_short came unsealed (inl h) =
-    let there = unsealed.there in absurd (omega (arith, h, there))
-unsealed_short came unsealed (inr h) = unsealed.other h.0

@@ -5,33 +5,33 @@ use Rattle.std.specs.Prelude.{option_map}
 use Rattle.std.proofs.lemmas.List.{append-nil}
 use Rattle.seal.specs.Records.{preface_of}
 use Rattle.sealed.specs.declared.callers.Caller.{Caller}
-use Rattle.sealed.specs.declared.callers.Caller.TheVariants.{Anyone, Passer}
+use Rattle.sealed.specs.declared.callers.Caller.TheVariants.{Anyone, Visitor}
 use Rattle.sealed.specs.declared.callers.Caller.TheVariants as caller
-use Rattle.sealed.specs.declared.callers.Doors.{Doors}
-use Rattle.sealed.specs.declared.callers.Doors.TheVariants.{Open, Locked}
+use Rattle.sealed.specs.declared.callers.Access.{Access}
+use Rattle.sealed.specs.declared.callers.Access.TheVariants.{Open, Locked}
 use Rattle.sealed.specs.declared.callers.Holder.{Holder}
-use Rattle.sealed.specs.declared.callers.Locks.{Locks}
-use Rattle.sealed.specs.declared.callers.Refusal.{Refusal}
-use Rattle.sealed.specs.declared.callers.Refusal.TheVariants.{Unsealed, NoMemory}
-use Rattle.sealed.specs.Calls.{CalledOf, IsSameDesk, Stands, StandsAt, StandsPassing}
-use Rattle.sealed.specs.Calls.{StandsReading, StandsTrying, caller_by, caller_of, held_by}
-use Rattle.sealed.specs.Calls.{is_over, is_sealed, is_tried, over_by}
+use Rattle.sealed.specs.declared.callers.DeskKeys.{DeskKeys}
+use Rattle.sealed.specs.declared.callers.StreamRefusal.{StreamRefusal}
+use Rattle.sealed.specs.declared.callers.StreamRefusal.TheVariants.{Unsealed, NoMemory}
+use Rattle.sealed.specs.ServerSeals.{ServerSealOf, IsSameDesk, Stands, StandsAt, StandsPassing}
+use Rattle.sealed.specs.ServerSeals.{StandsReading, StandsTrying, caller_by, caller_of, held_by}
+use Rattle.sealed.specs.ServerSeals.{is_over, is_sealed, is_tried, over_by}
 use Rattle.sealed.specs.Fronts.{IsPrefaced, IsUnsealed}
 use Rattle.sealed.specs.Sent.{HasSent, SentBy, SentPlain}
 use Rattle.sealed.specs.Trials.{TrialOf}
 use Rattle.sealed.proofs.Fronting.{prefaced_more, unsealed_more}
-use Rattle.guarded.specs.Guarding.{greeting_if, greets}
-use Rattle.guarded.specs.GuardLaw.{IsGreeting}
+use Rattle.guarded.specs.LockedConnections.{greeting_if, greets}
+use Rattle.guarded.specs.LockedLaw.{IsGreeting}
 use Rattle.guarded.proofs.Fronts.{prefaced_short, prefaced_unsealed}
 
 -- what was sent first so far
-abbrev pub opening_by : Option Refusal → Option TrialOf → List ℕ → List ℕ
+abbrev pub opening_by : Option StreamRefusal → Option TrialOf → List ℕ → List ℕ
 opening_by None None server = []
 opening_by None (Some t) server = preface_of server
 opening_by (Some Unsealed) t server = preface_of server
 opening_by (Some NoMemory) t server = []
 
-abbrev pub opening_of : CalledOf → List ℕ
+abbrev pub opening_of : ServerSealOf → List ℕ
 opening_of c = opening_by c.refusal c.trial c.random
 
 -- ---- it is what the law says
@@ -41,20 +41,20 @@ greeting_tried : (o : Option Holder) (server front : List ℕ)
 greeting_tried None server front = inr refl
 greeting_tried (Some key) server front = refl
 
-greeting_passing : (p : Option Caller) (c : CalledOf) (front handed : List ℕ)
+greeting_passing : (p : Option Caller) (c : ServerSealOf) (front handed : List ℕ)
     → StandsPassing c p front handed → IsGreeting c.random front p []
 greeting_passing (Some Anyone) c front handed h = refl
-greeting_passing (Some Passer) c front handed h = refl
+greeting_passing (Some Visitor) c front handed h = refl
 greeting_passing (Some (caller.Holder key)) c front handed h = absurd h
 greeting_passing None c front handed h = inl (h.2, refl)
 
-greeting_reading : (t : Option TrialOf) (c : CalledOf) (front handed : List ℕ)
+greeting_reading : (t : Option TrialOf) (c : ServerSealOf) (front handed : List ℕ)
     → StandsReading c t front handed
     → IsGreeting c.random front (caller_by t c.passing) (opening_by None t c.random)
 greeting_reading None c front handed h = greeting_passing c.passing c front handed h
 greeting_reading (Some t) c front handed h = greeting_tried t.holder c.random front
 
-greeting_at : (r : Option Refusal) (c : CalledOf) (front handed : List ℕ)
+greeting_at : (r : Option StreamRefusal) (c : ServerSealOf) (front handed : List ℕ)
     → StandsAt r c front handed
     → IsGreeting c.random front (caller_of c) (opening_by r c.trial c.random)
 greeting_at None c front handed h = greeting_reading c.trial c front handed h
@@ -63,30 +63,32 @@ greeting_at (Some Unsealed) c front handed h =
     (sym h.nobody) (inr refl)
 greeting_at (Some NoMemory) c front handed h = absurd h
 
-pub greeting_is : (c : CalledOf) (front handed : List ℕ) → Stands c front handed
+pub greeting_is : (c : ServerSealOf) (front handed : List ℕ) → Stands c front handed
     → IsGreeting c.random front (caller_of c) (opening_of c)
 greeting_is c front handed h = greeting_at c.refusal c front handed h
 
 -- ---- as a piece comes
 
 -- what is sent first is said of this side after a piece, before which so much was sent first
-abbrev Follows : Option Refusal → Option TrialOf → Bool → CalledOf → List ℕ → List ℕ → Type 0
+abbrev Follows : Option StreamRefusal → Option TrialOf → Bool → ServerSealOf → List ℕ → List ℕ
+    → Type 0
 Follows r t was c first body =
     opening_by r t c.random ++ body
     ≡ (first ++ body) ++ greeting_if (greets r was (is_tried t)) c.random
 
 -- a sealed stream stays one
-no_passing : (p : Option Caller) (c : CalledOf) (locks : Locks) (came handed client stream : List ℕ)
+no_passing : (p : Option Caller) (c : ServerSealOf) (locks : DeskKeys)
+    (came handed client stream : List ℕ)
     → c.doors ≡ Locked locks → IsPrefaced came client stream → StandsPassing c p came handed → ⊥
 no_passing (Some Anyone) c locks came handed client stream doors is h =
     let bad : Open ≡ Locked locks = sym h.0 ∙ doors in absurd cc
-no_passing (Some Passer) c locks came handed client stream doors is h =
+no_passing (Some Visitor) c locks came handed client stream doors is h =
     prefaced_unsealed came client stream is h.3
 no_passing (Some (caller.Holder key)) c locks came handed client stream doors is h = absurd h
 no_passing None c locks came handed client stream doors is h =
     prefaced_short came client stream is h.2
 
-tried_reading : (t : Option TrialOf) (c : CalledOf) (locks : Locks)
+tried_reading : (t : Option TrialOf) (c : ServerSealOf) (locks : DeskKeys)
     (server came handed client stream body : List ℕ) → c.doors ≡ Locked locks
     → IsPrefaced came client stream → c.random ≡ server → StandsReading c t came handed
     → Follows None t true c (preface_of server) body
@@ -95,7 +97,7 @@ tried_reading None c locks server came handed client stream body doors is same h
 tried_reading (Some t) c locks server came handed client stream body doors is same h =
     ap (λ (s : List ℕ). preface_of s ++ body) same ∙ sym (append-nil (preface_of server ++ body))
 
-tried_at : (r : Option Refusal) (c : CalledOf) (locks : Locks)
+tried_at : (r : Option StreamRefusal) (c : ServerSealOf) (locks : DeskKeys)
     (server came handed client stream body : List ℕ) → c.doors ≡ Locked locks
     → IsPrefaced came client stream → c.random ≡ server → StandsAt r c came handed
     → Follows r c.trial true c (preface_of server) body
@@ -106,57 +108,60 @@ tried_at (Some Unsealed) c locks server came handed client stream body doors is 
 tried_at (Some NoMemory) c locks server came handed client stream body doors is same h = absurd h
 
 -- so does one that is let in without a key
-data IsLet (doors : Doors) (came : List ℕ) : Type 0 where
+data IsLet (doors : Access) (came : List ℕ) : Type 0 where
   LetAll : doors ≡ Open → IsLet doors came
-  LetSee : (locks : Locks) → doors ≡ Locked locks → locks.sheets ≡ true → IsUnsealed came
+  LetSee : (locks : DeskKeys) → doors ≡ Locked locks → locks.sheets ≡ true → IsUnsealed came
       → IsLet doors came
 
-let_is : (who : Caller) (c d : CalledOf) (came handed piece : List ℕ) → d.doors ≡ c.doors
+let_is : (who : Caller) (c d : ServerSealOf) (came handed piece : List ℕ) → d.doors ≡ c.doors
     → StandsPassing c (Some who) came handed → IsLet d.doors (came ++ piece)
 let_is Anyone c d came handed piece same h = LetAll (same ∙ h.0)
-let_is Passer c d came handed piece same h =
+let_is Visitor c d came handed piece same h =
     LetSee h.0 (same ∙ h.1) h.2 (unsealed_more came piece h.3)
 let_is (caller.Holder key) c d came handed piece same h = absurd h
 
-let_tried : (c : CalledOf) (came handed : List ℕ) (t : TrialOf) → IsLet c.doors came
+let_tried : (c : ServerSealOf) (came handed : List ℕ) (t : TrialOf) → IsLet c.doors came
     → StandsTrying c t came handed → ⊥
 let_tried c came handed t (LetAll doors) h =
     let bad : Open ≡ Locked h.locks = sym doors ∙ h.doors in absurd cc
 let_tried c came handed t (LetSee locks doors shown unsealed) h =
     prefaced_unsealed came h.client h.stream h.prefaced unsealed
 
-let_refused : (c : CalledOf) (came handed : List ℕ) → IsLet c.doors came
+let_refused : (c : ServerSealOf) (came handed : List ℕ) → IsLet c.doors came
     → StandsAt (Some Unsealed) c came handed → ⊥
 let_refused c came handed (LetAll doors) h =
     let bad : Open ≡ Locked h.locks = sym doors ∙ h.doors in absurd cc
 let_refused c came handed (LetSee locks doors shown unsealed) h =
     let two : Locked locks ≡ Locked h.locks = sym doors ∙ h.doors in
     let one : locks ≡ h.locks = cc in
-    let bad : true ≡ false = sym shown ∙ ap (λ (l : Locks). l.sheets) one ∙ h.shut in absurd cc
+    let bad : true ≡ false = sym shown ∙ ap (λ (l : DeskKeys). l.sheets) one ∙ h.shut in absurd cc
 
-let_reading : (t : Option TrialOf) (c : CalledOf) (came handed body : List ℕ)
+let_reading : (t : Option TrialOf) (c : ServerSealOf) (came handed body : List ℕ)
     → IsLet c.doors came → StandsReading c t came handed → Follows None t false c [] body
 let_reading None c came handed body is h = sym (append-nil body)
 let_reading (Some t) c came handed body is h = absurd (let_tried c came handed t is h)
 
-let_at : (r : Option Refusal) (c : CalledOf) (came handed body : List ℕ) → IsLet c.doors came
+let_at : (r : Option StreamRefusal) (c : ServerSealOf) (came handed body : List ℕ)
+    → IsLet c.doors came
     → StandsAt r c came handed → Follows r c.trial false c [] body
 let_at None c came handed body is h = let_reading c.trial c came handed body is h
 let_at (Some Unsealed) c came handed body is h = absurd (let_refused c came handed is h)
 let_at (Some NoMemory) c came handed body is h = absurd h
 
 -- and of one of which nothing was known nothing was sent
-first_reading : (t : Option TrialOf) (c : CalledOf) → Follows None t false c [] []
+first_reading : (t : Option TrialOf) (c : ServerSealOf) → Follows None t false c [] []
 first_reading None c = refl
 first_reading (Some t) c = append-nil (preface_of c.random)
 
-first_at : (r : Option Refusal) (c : CalledOf) (came handed : List ℕ) → StandsAt r c came handed
+first_at : (r : Option StreamRefusal) (c : ServerSealOf) (came handed : List ℕ)
+    → StandsAt r c came handed
     → Follows r c.trial false c [] []
 first_at None c came handed h = first_reading c.trial c
 first_at (Some Unsealed) c came handed h = append-nil (preface_of c.random)
 first_at (Some NoMemory) c came handed h = absurd h
 
-from_passing : (p : Option Caller) (c d : CalledOf) (front handed piece later given body : List ℕ)
+from_passing : (p : Option Caller) (c d : ServerSealOf)
+    (front handed piece later given body : List ℕ)
     → IsSameDesk c d → StandsPassing c p front handed → SentPlain p given body
     → Stands d (front ++ piece) later → Follows d.refusal d.trial false d [] body
 from_passing None c d front handed piece later given body same h sent stands =
@@ -166,7 +171,8 @@ from_passing (Some who) c d front handed piece later given body same h sent stan
     let_at d.refusal d (front ++ piece) later body
     (let_is who c d front handed piece same.doors h) stands
 
-from_reading : (t : Option TrialOf) (c d : CalledOf) (front handed piece later given body : List ℕ)
+from_reading : (t : Option TrialOf) (c d : ServerSealOf)
+    (front handed piece later given body : List ℕ)
     → IsSameDesk c d → StandsReading c t front handed → SentBy t c given body
     → Stands d (front ++ piece) later
     → Follows d.refusal d.trial (is_tried t) d (opening_by None t c.random) body
@@ -177,7 +183,8 @@ from_reading (Some t) c d front handed piece later given body same h sent stands
     (same.doors ∙ h.doors) (prefaced_more front h.client h.stream piece h.prefaced) same.random
     stands
 
-from_at : (r : Option Refusal) (c d : CalledOf) (front handed piece later given body : List ℕ)
+from_at : (r : Option StreamRefusal) (c d : ServerSealOf)
+    (front handed piece later given body : List ℕ)
     → over_by r c.trial ≡ false → IsSameDesk c d → StandsAt r c front handed
     → SentBy c.trial c given body → Stands d (front ++ piece) later
     → Follows d.refusal d.trial (is_tried c.trial) d (opening_by r c.trial c.random) body
@@ -187,7 +194,7 @@ from_at (Some why) c d front handed piece later given body hears same h sent sta
     let bad : true ≡ false = hears in absurd cc
 
 -- The desk's preface is sent with a piece, where it was not before.
-pub greeted : (c d : CalledOf) (front handed piece later given body : List ℕ)
+pub greeted : (c d : ServerSealOf) (front handed piece later given body : List ℕ)
     → is_over c ≡ false → IsSameDesk c d → Stands c front handed → HasSent c given body
     → Stands d (front ++ piece) later
     → opening_of d ++ body

@@ -1,9 +1,9 @@
 -- The turns of a guarded connection serve what the doors admit.
 use Rattle.std.proofs.Common.{◌≡◌, sym, ap, subst, ◌∙◌, ℕ, List, []}
 use Rattle.answers.specs.declared.desk.Desk.{Ghosts as DeskOf}
-use Rattle.sealed.specs.declared.callers.Doors.{Doors}
+use Rattle.sealed.specs.declared.callers.Access.{Access}
 use Rattle.sealed.specs.Admitting.{Admits}
-use Rattle.sealed.specs.Calls.{CalledOf, caller_of}
+use Rattle.sealed.specs.ServerSeals.{ServerSealOf, caller_of}
 use Rattle.sealed.specs.Sent.{IsSent}
 use Rattle.sealed.proofs.Admitted.{admits}
 use Rattle.sealed.proofs.Sending.{sends_what_is_given}
@@ -13,15 +13,15 @@ use Rattle.serving.specs.TurnLaw.{AreServed, begun_in, handed_out, received}
 use Rattle.serving.proofs.TurnLaws.{turns_serve}
 use Rattle.store.specs.declared.home.Home.{Home}
 use Rattle.wire.specs.declared.values.Version.{Version}
-use Rattle.guarded.specs.Guarding.{Guarding, fresh_guard}
-use Rattle.guarded.specs.GuardTurns.{Place, within}
-use Rattle.guarded.specs.GuardLaw.{GuardsServe, IsGreeting, IsGuarded, IsGuardedStream}
+use Rattle.guarded.specs.LockedConnections.{LockedConnectionOf, fresh_locked_connection}
+use Rattle.guarded.specs.LockedTurns.{Place, within}
+use Rattle.guarded.specs.LockedLaw.{GuardsServe, IsGreeting, IsGuarded, IsGuardedStream}
 use Rattle.guarded.proofs.Greeting.{greeting_is, opening_of}
 use Rattle.guarded.proofs.Holding.{Holds, holds_first, turns_hold}
 use Rattle.guarded.proofs.Keeping.{Keeps}
 
 -- what came over a stream, and what was sent
-pub stream_of : (doors : Doors) (server : List ℕ) (g : Guarding)
+pub stream_of : (doors : Access) (server : List ℕ) (g : LockedConnectionOf)
     (came handed answers sent : List ℕ) (begun : List Begun)
     → Keeps doors server g came handed answers sent begun
     → IsGuardedStream doors server g came sent handed answers begun
@@ -37,10 +37,10 @@ stream_of doors server g came handed answers sent begun k =
         later = k.later;
         parts = k.parts;
         whole = λ fed.
-            let w = k.whole fed in (w.1, ap (λ (e : CalledOf). caller_of e) (sym w.0));
+            let w = k.whole fed in (w.1, ap (λ (e : ServerSealOf). caller_of e) (sym w.0));
       };
       admits =
-          subst (λ (o : Doors). Admits o server k.front handed who) k.doors_are
+          subst (λ (o : Access). Admits o server k.front handed who) k.doors_are
           (subst (λ (s : List ℕ). Admits c.doors s k.front handed who) k.server_is
           (admits c k.front handed k.stands));
       parts = k.sends;
@@ -48,21 +48,22 @@ stream_of doors server g came handed answers sent begun k =
           subst (λ (s : List ℕ). IsGreeting s k.front who (opening_of c)) k.server_is
           (greeting_is c k.front handed k.stands);
       sends =
-          subst (λ (o : Doors). IsSent o server k.front who answers k.body) k.doors_are
+          subst (λ (o : Access). IsSent o server k.front who answers k.body) k.doors_are
           (subst (λ (s : List ℕ). IsSent c.doors s k.front who answers k.body) k.server_is
           (sends_what_is_given c k.front handed answers k.body k.stands k.given));
       allowed = k.allowed;
     }
 
-guarded_of : {V : Type 0} (d : DeskOf V) (home : Home) (wire : Version) (doors : Doors)
-    (server : List ℕ) (a b : Place (speaking d.handles wire)) (came sent : List ℕ)
-    (begun : List Begun) → a.guard ≡ fresh_guard doors server home wire
+guarded_of : {V : Type 0} (d : DeskOf V) (home : Home) (wire : Version) (doors : Access)
+    (server : List ℕ) (a b : Place (speaking d.handles d.settles wire)) (came sent : List ℕ)
+    (begun : List Begun) → a.guard ≡ fresh_locked_connection doors server home wire
     → Holds doors server a b came sent begun → IsGuarded home doors server a b came sent begun
 guarded_of d home wire doors server a b came sent begun is h =
     let handed = received h.inner in
     let answers = handed_out h.inner in
     let all =
-    turns_serve d home wire h.inner (within a) (within b) (ap (λ (g : Guarding). g.talk) is)
+    turns_serve d home wire h.inner (within a) (within b)
+    (ap (λ (g : LockedConnectionOf). g.talk) is)
     h.follow in
     record {
       handed = handed;

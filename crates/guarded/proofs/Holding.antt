@@ -4,7 +4,7 @@ use Rattle.std.proofs.Common.{append_assoc}
 use Rattle.std.proofs.lemmas.List.{append-nil}
 use Rattle.std.specs.List.{flat_map}
 use Rattle.answers.specs.declared.desk.Desk.{Ghosts as DeskOf}
-use Rattle.sealed.specs.declared.callers.Doors.{Doors}
+use Rattle.sealed.specs.declared.callers.Access.{Access}
 use Rattle.serving.specs.Connection.{AreBegun, Begun, frames_of}
 use Rattle.serving.specs.Making.{Way, speaking}
 use Rattle.serving.specs.Turns as Turns
@@ -17,22 +17,22 @@ use Rattle.store.specs.declared.home.Home.{Home}
 use Rattle.wire.specs.declared.frame.Frame.{Frame}
 use Rattle.wire.specs.declared.values.Version.{Version}
 use Rattle.wire.specs.Spelling.{spelling}
-use Rattle.guarded.specs.Guarding.{fresh_guard}
-use Rattle.guarded.specs.GuardTurns.{Follow, Place, within}
+use Rattle.guarded.specs.LockedConnections.{fresh_locked_connection}
+use Rattle.guarded.specs.LockedTurns.{Follow, Place, within}
 use Rattle.guarded.proofs.Keeping.{Keeps, keeps_as, keeps_first, turn_goes}
 use Rattle.guarded.proofs.Lists.{begun_in-both, follow_both, handed_out-both, received-both}
 
 -- The connection within took these turns, in which these frames were begun, and what holds of the
 -- guarded one goes on.
-pub record Holds {V : Type 0} {way : Way V} (doors : Doors) (server : List ℕ) (a b : Place way)
+pub record Holds {V : Type 0} {way : Way V} (doors : Access) (server : List ℕ) (a b : Place way)
     (came sent : List ℕ) (begun : List Begun) : Type 0 where
   pub inner : List Turn
   pub follow : TurnLaw.Follow (within a) inner (within b)
   pub begins : begun_in inner ≡ begun
   pub keeps : Keeps doors server b.guard came (received inner) (handed_out inner) sent begun
 
-pub holds_first : {V : Type 0} {way : Way V} (home : Home) (wire : Version) (doors : Doors)
-    (server : List ℕ) (a : Place way) → a.guard ≡ fresh_guard doors server home wire
+pub holds_first : {V : Type 0} {way : Way V} (home : Home) (wire : Version) (doors : Access)
+    (server : List ℕ) (a : Place way) → a.guard ≡ fresh_locked_connection doors server home wire
     → Holds doors server a a [] [] []
 holds_first home wire doors server a is = record {
   inner = [];
@@ -44,7 +44,7 @@ holds_first home wire doors server a is = record {
 -- ---- many turns
 
 -- the connection within took these turns, and what holds goes on
-pub record GoesAll {V : Type 0} {way : Way V} (doors : Doors) (server : List ℕ)
+pub record GoesAll {V : Type 0} {way : Way V} (doors : Access) (server : List ℕ)
     (turns : List Turn) (a b : Place way) (inner : List Turn) : Type 0 where
   pub follow : TurnLaw.Follow (within a) inner (within b)
   pub begins : begun_in inner ≡ begun_in turns
@@ -53,7 +53,7 @@ pub record GoesAll {V : Type 0} {way : Way V} (doors : Doors) (server : List ℕ
       → Keeps doors server b.guard (came ++ received turns) (handed ++ received inner)
       (answers ++ handed_out inner) (sent ++ handed_out turns) (begun ++ begun_in turns)
 
-pub turns_go : {V : Type 0} {way : Way V} (doors : Doors) (server : List ℕ) (turns : List Turn)
+pub turns_go : {V : Type 0} {way : Way V} (doors : Access) (server : List ℕ) (turns : List Turn)
     (a b : Place way) → Follow a turns b
     → (inner : List Turn) × GoesAll doors server turns a b inner
 turns_go {V} {way} doors server [] a b same = (
@@ -101,7 +101,7 @@ turns_go doors server (t ∷ ts) a b k =
       },
     )
 
-pub turns_hold : {V : Type 0} {way : Way V} (doors : Doors) (server : List ℕ)
+pub turns_hold : {V : Type 0} {way : Way V} (doors : Access) (server : List ℕ)
     (start a b : Place way) (turns : List Turn) (came sent : List ℕ) (begun : List Begun)
     → Holds doors server start a came sent begun → Follow a turns b
     → Holds doors server start b (came ++ received turns) (sent ++ handed_out turns)
@@ -143,7 +143,7 @@ last_bytes begun one more =
     ∙ append_assoc front (spelling one.frame) more
 
 pub begins_at : {V : Type 0} (d : DeskOf V) (home : Home) (wire : Version)
-    (a m n : TurnLaw.Place (speaking d.handles wire)) (inner : List Turn) (one : Begun)
+    (a m n : TurnLaw.Place (speaking d.handles d.settles wire)) (inner : List Turn) (one : Begun)
     → a.talk ≡ Turns.new_talk home wire → TurnLaw.Follow a inner m
     → TurnLaw.Turns (Began one) m n → BeginsAt (received inner) (begun_in inner) one
 begins_at d home wire a m n inner one is follow turn =

@@ -3,8 +3,8 @@ use Rattle.std.proofs.Common.{◌≡◌, refl, sym, ap, subst, ◌∙◌, ℕ, L
 use Rattle.std.proofs.Common.{Some}
 use Rattle.std.proofs.lemmas.List.{append_assoc}
 use Rattle.std.specs.List.{flat_map, AllByRecursion}
-use Rattle.serving.specs.declared.ends.End.{End}
-use Rattle.serving.specs.declared.ends.End.TheVariants as end
+use Rattle.serving.specs.declared.ends.ConnectionEnd.{ConnectionEnd}
+use Rattle.serving.specs.declared.ends.ConnectionEnd.TheVariants as end
 use Rattle.serving.specs.Turns.{Talk, ReadsTo}
 use Rattle.serving.proofs.Pieces.{front_none}
 use Rattle.serving.proofs.TurnLaws.{keeps_nothing, not_begun}
@@ -44,7 +44,7 @@ none_held : (old : Talk) (more : List ℕ) → IsIdle old → more ≡ [] → ol
 none_held old more h none = ap (λ (z : Reader). z.held ++ more) h.stream ∙ none
 
 -- nothing more was let in
-pub idle_came : (e : Option End) (more : List ℕ) (old new : Talk) → IsIdle old → more ≡ []
+pub idle_came : (e : Option ConnectionEnd) (more : List ℕ) (old new : Talk) → IsIdle old → more ≡ []
     → ReadsTo e more old new → IsIdle new
 idle_came None more old new h none r =
     let whole : flat_map spelling new.waiting ++ r.rest ≡ []

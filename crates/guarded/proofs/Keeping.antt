@@ -5,15 +5,16 @@ use Rattle.std.proofs.lemmas.List.{append-nil}
 use Rattle.std.proofs.Math.Seq.{drop-length}
 use Rattle.std.specs.Prelude.{IsSome, option_map}
 use Rattle.sealed.specs.declared.callers.Caller.{Caller}
-use Rattle.sealed.specs.declared.callers.Doors.{Doors}
-use Rattle.sealed.specs.declared.callers.Doors.TheVariants.{Open, Locked}
+use Rattle.sealed.specs.declared.callers.Access.{Access}
+use Rattle.sealed.specs.declared.callers.Access.TheVariants.{Open, Locked}
 use Rattle.sealed.specs.declared.callers.Holder.{Holder}
 use Rattle.sealed.specs.declared.callers.Holder.TheVariants.{Hall, Entry}
-use Rattle.sealed.specs.declared.callers.Refusal.{Refusal}
-use Rattle.sealed.specs.declared.callers.Refusal.TheVariants.{Unsealed, NoMemory}
+use Rattle.sealed.specs.declared.callers.StreamRefusal.{StreamRefusal}
+use Rattle.sealed.specs.declared.callers.StreamRefusal.TheVariants.{Unsealed, NoMemory}
 use Rattle.sealed.specs.Admitting.{Admits}
-use Rattle.sealed.specs.Calls.{CalledOf, IsSameDesk, SendsBy, SendsPlain, Stands, caller_by}
-use Rattle.sealed.specs.Calls.{caller_of, fresh_called, held_by, is_sealed}
+use Rattle.sealed.specs.ServerSeals.{ServerSealOf, IsSameDesk, SendsBy, SendsPlain, Stands}
+use Rattle.sealed.specs.ServerSeals.{caller_by}
+use Rattle.sealed.specs.ServerSeals.{caller_of, fresh_server_seal, held_by, is_sealed}
 use Rattle.sealed.specs.Sent.{HasSent}
 use Rattle.sealed.specs.Trials.{SealsAs, SealsEntry, TrialOf}
 use Rattle.sealed.specs.Tunnels.{TunnelOf}
@@ -29,11 +30,12 @@ use Rattle.serving.specs.TurnLaw as TurnLaw
 use Rattle.store.specs.declared.home.Home.{Home}
 use Rattle.wire.specs.declared.frame.Frame.{Frame}
 use Rattle.wire.specs.declared.values.Version.{Version}
-use Rattle.guarded.specs.Guarding.{Guarding, IsFree, LetsIn, Loses, RunsOut, Seals, Starves}
-use Rattle.guarded.specs.Guarding.{WantsRead, fresh_guard, greeting_if, greets}
-use Rattle.guarded.specs.GuardTurns.{IsQuiet, Place, with_talk, within}
-use Rattle.guarded.specs.GuardTurns as GuardTurns
-use Rattle.guarded.specs.GuardLaw.{AreAllowed, IsAllowed}
+use Rattle.guarded.specs.LockedConnections.{LockedConnectionOf, IsFree, LetsIn, Loses, RunsOut}
+use Rattle.guarded.specs.LockedConnections.{Seals, Starves}
+use Rattle.guarded.specs.LockedConnections.{WantsRead, fresh_locked_connection, greeting_if, greets}
+use Rattle.guarded.specs.LockedTurns.{IsQuiet, Place, with_talk, within}
+use Rattle.guarded.specs.LockedTurns as GuardTurns
+use Rattle.guarded.specs.LockedLaw.{AreAllowed, IsAllowed}
 use Rattle.guarded.specs.Permitting.{permission_of}
 use Rattle.guarded.proofs.Greeting.{greeted, opening_by, opening_of}
 use Rattle.guarded.proofs.Idling.{IsIdle, first_none, idle_came, second_none}
@@ -41,9 +43,9 @@ use Rattle.guarded.proofs.Idling.{IsIdle, first_none, idle_came, second_none}
 -- What holds after some turns, in which these bytes came over the stream, these were let in, these
 -- answers were taken of the connection within, and these bytes were taken of what is sent: the
 -- desk's side as it was before memory was refused, and what it read and sent.
-pub record Keeps (doors : Doors) (server : List ℕ) (g : Guarding)
+pub record Keeps (doors : Access) (server : List ℕ) (g : LockedConnectionOf)
     (came handed answers sent : List ℕ) (begun : List Begun) : Type 0 where
-  pub side : CalledOf
+  pub side : ServerSealOf
   pub doors_are : side.doors ≡ doors
   pub server_is : side.random ≡ server
   pub front : List ℕ
@@ -59,20 +61,21 @@ pub record Keeps (doors : Doors) (server : List ℕ) (g : Guarding)
 
 -- ---- before the first turn
 
-first_stands : (doors : Doors) (server : List ℕ) → Stands (fresh_called doors server) [] []
+first_stands : (doors : Access) (server : List ℕ) → Stands (fresh_server_seal doors server) [] []
 first_stands Open server = (refl, refl)
 first_stands (Locked locks) server = (locks, refl, inl (omega arith), refl, refl)
 
-first_sent : (doors : Doors) (server : List ℕ) → HasSent (fresh_called doors server) [] []
+first_sent : (doors : Access) (server : List ℕ) → HasSent (fresh_server_seal doors server) [] []
 first_sent Open server = refl
 first_sent (Locked locks) server = (refl, refl)
 
-pub keeps_first : (home : Home) (wire : Version) (doors : Doors) (server : List ℕ) (g : Guarding)
-    → g ≡ fresh_guard doors server home wire → Keeps doors server g [] [] [] [] []
+pub keeps_first : (home : Home) (wire : Version) (doors : Access) (server : List ℕ)
+    (g : LockedConnectionOf)
+    → g ≡ fresh_locked_connection doors server home wire → Keeps doors server g [] [] [] [] []
 keeps_first home wire doors server g is =
-    subst (λ (z : Guarding). Keeps doors server z [] [] [] [] []) (sym is)
+    subst (λ (z : LockedConnectionOf). Keeps doors server z [] [] [] [] []) (sym is)
     (record {
-      side = fresh_called doors server;
+      side = fresh_server_seal doors server;
       doors_are = refl;
       server_is = refl;
       front = [];
@@ -90,7 +93,7 @@ keeps_first home wire doors server g is =
 -- ---- turns of the connection within
 
 -- the connection within took these turns, and what holds goes on
-pub record Goes {V : Type 0} {way : Way V} (doors : Doors) (server : List ℕ) (t : Turn)
+pub record Goes {V : Type 0} {way : Way V} (doors : Access) (server : List ℕ) (t : Turn)
     (a b : Place way) (inner : List Turn) : Type 0 where
   pub follow : TurnLaw.Follow (within a) inner (within b)
   pub begins : begun_in inner ≡ begun_at t
@@ -99,7 +102,7 @@ pub record Goes {V : Type 0} {way : Way V} (doors : Doors) (server : List ℕ) (
       → Keeps doors server b.guard (came ++ came_in t) (handed ++ received inner)
       (answers ++ handed_out inner) (sent ++ taken_in t) (begun ++ begun_at t)
 
-abbrev pub GoesSome : {V : Type 0} → {way : Way V} → Doors → List ℕ → Turn → Place way → Place way
+abbrev pub GoesSome : {V : Type 0} → {way : Way V} → Access → List ℕ → Turn → Place way → Place way
     → Type 0
 GoesSome doors server t a b = (inner : List Turn) × Goes doors server t a b inner
 
@@ -115,7 +118,7 @@ no_truth : (b : Bool) → b ≡ true → b ≡ false → ⊥
 no_truth b is other = let bad : true ≡ false = sym is ∙ other in absurd cc
 
 -- what holds, of lists that are the same
-pub keeps_as : (doors : Doors) (server : List ℕ) (g : Guarding)
+pub keeps_as : (doors : Access) (server : List ℕ) (g : LockedConnectionOf)
     (came handed answers sent came1 handed1 answers1 sent1 : List ℕ) (begun begun1 : List Begun)
     → came ≡ came1 → handed ≡ handed1 → answers ≡ answers1 → sent ≡ sent1 → begun ≡ begun1
     → Keeps doors server g came handed answers sent begun
@@ -131,7 +134,7 @@ keeps_as doors server g came handed answers sent came1 handed1 answers1 sent1 be
 -- ---- nothing was let in, served or answered
 
 -- this came, and this was taken of what is sent
-still : (doors : Doors) (server : List ℕ) (g new : Guarding)
+still : (doors : Access) (server : List ℕ) (g new : LockedConnectionOf)
     (came handed answers sent more taken : List ℕ) (begun : List Begun)
     → Keeps doors server g came handed answers sent begun → new.talk ≡ g.talk
     → (sent ++ taken) ++ new.output ≡ sent ++ g.output
@@ -157,7 +160,7 @@ still doors server g new came handed answers sent more taken begun h talk out fe
 }
 
 -- no turn was taken of the connection within
-goes_still : {V : Type 0} {way : Way V} (doors : Doors) (server : List ℕ) (t : Turn)
+goes_still : {V : Type 0} {way : Way V} (doors : Access) (server : List ℕ) (t : Turn)
     (a b : Place way) → b.guard.talk ≡ a.guard.talk → IsQuiet a b → begun_at t ≡ []
     → ((sent : List ℕ) → (sent ++ taken_in t) ++ b.guard.output ≡ sent ++ a.guard.output)
     → (b.guard.starved ≡ false
@@ -178,7 +181,7 @@ goes_still doors server t a b talk quiet none out fed = (
   },
 )
 
-goes_starved : {V : Type 0} {way : Way V} (doors : Doors) (server piece : List ℕ) (a b : Place way)
+goes_starved : {V : Type 0} {way : Way V} (doors : Access) (server piece : List ℕ) (a b : Place way)
     → Starves a.guard b.guard → IsQuiet a b → GoesSome doors server (Came piece) a b
 goes_starved doors server piece a b starves quiet =
     goes_still doors server (Came piece) a b starves.talk quiet refl
@@ -188,30 +191,30 @@ goes_starved doors server piece a b starves quiet =
     (λ no. absurd (no_truth b.guard.starved starves.starved no))
 
 -- nothing changes but what is still to be sent
-goes_taken : {V : Type 0} {way : Way V} (doors : Doors) (server : List ℕ) (t : Turn)
+goes_taken : {V : Type 0} {way : Way V} (doors : Access) (server : List ℕ) (t : Turn)
     (a b : Place way) → b.guard ≡ record a.guard { output = b.guard.output } → IsQuiet a b
     → begun_at t ≡ [] → came_in t ≡ [] → a.guard.output ≡ taken_in t ++ b.guard.output
     → GoesSome doors server t a b
 goes_taken doors server t a b is quiet none nothing parts =
-    goes_still doors server t a b (ap (λ (g : Guarding). g.talk) is) quiet none
+    goes_still doors server t a b (ap (λ (g : LockedConnectionOf). g.talk) is) quiet none
     (λ sent.
     append_assoc sent (taken_in t) b.guard.output ∙ ap (λ (s : List ℕ). sent ++ s) (sym parts))
     (λ fed. (
-      sym (ap (λ (g : Guarding). g.starved) is) ∙ fed,
-      ap (λ (g : Guarding). g.called) is,
+      sym (ap (λ (g : LockedConnectionOf). g.starved) is) ∙ fed,
+      ap (λ (g : LockedConnectionOf). g.called) is,
       nothing,
     ))
 
 -- ---- a piece came
 
 -- whoever was known to call does so still
-allowed_still : (doors : Doors) (who now : Option Caller) (begun : List Begun)
+allowed_still : (doors : Access) (who now : Option Caller) (begun : List Begun)
     → (IsSome who → now ≡ who) → AreAllowed doors who begun → AreAllowed doors now begun
 allowed_still doors who now [] same h = tt
 allowed_still doors who now (one ∷ begun) same h =
     subst (λ (w : Option Caller). AreAllowed doors w (one ∷ begun)) (sym (same h.0.known)) h
 
-came_keeps : (doors : Doors) (server : List ℕ) (g new : Guarding)
+came_keeps : (doors : Access) (server : List ℕ) (g new : LockedConnectionOf)
     (came handed answers sent piece more : List ℕ) (begun : List Begun) → WantsRead g
     → LetsIn piece more g new → Keeps doors server g came handed answers sent begun
     → Keeps doors server new (came ++ piece) (handed ++ more) answers sent begun
@@ -219,17 +222,17 @@ came_keeps doors server g new came handed answers sent piece more begun wants le
     let now = h.whole wants.fed in
     let c = g.called in
     let d = new.called in
-    let was = subst (λ (e : CalledOf). Stands e h.front handed) (sym now.0) h.stands in
-    let given = subst (λ (e : CalledOf). HasSent e answers h.body) (sym now.0) h.given in
+    let was = subst (λ (e : ServerSealOf). Stands e h.front handed) (sym now.0) h.stands in
+    let given = subst (λ (e : ServerSealOf). HasSent e answers h.body) (sym now.0) h.given in
     let stands = lets.receives h.front handed was in
     let first = greeting_if (greets d.refusal (is_sealed c) (is_sealed d)) d.random in
     let empty : sent ≡ opening_of c ++ h.body =
     sym (append-nil sent) ∙ ap (λ (s : List ℕ). sent ++ s) (sym wants.taken) ∙ h.sends
-    ∙ ap (λ (e : CalledOf). opening_of e ++ h.body) (sym now.0) in
+    ∙ ap (λ (e : ServerSealOf). opening_of e ++ h.body) (sym now.0) in
     record {
       side = d;
-      doors_are = lets.same.doors ∙ ap (λ (e : CalledOf). e.doors) now.0 ∙ h.doors_are;
-      server_is = lets.same.random ∙ ap (λ (e : CalledOf). e.random) now.0 ∙ h.server_is;
+      doors_are = lets.same.doors ∙ ap (λ (e : ServerSealOf). e.doors) now.0 ∙ h.doors_are;
+      server_is = lets.same.random ∙ ap (λ (e : ServerSealOf). e.random) now.0 ∙ h.server_is;
       front = h.front ++ piece;
       later = [];
       parts =
@@ -246,7 +249,8 @@ came_keeps doors server g new came handed answers sent piece more begun wants le
           lets.same was given stands);
       allowed =
           allowed_still doors (caller_of c) (caller_of d) begun lets.stays
-          (subst (λ (e : CalledOf). AreAllowed doors (caller_of e) begun) (sym now.0) h.allowed);
+          (subst (λ (e : ServerSealOf). AreAllowed doors (caller_of e) begun) (sym now.0)
+          h.allowed);
       whole = λ _. (refl, refl);
       idle = λ _. λ none.
           idle_came new.talk.end more g.talk new.talk
@@ -254,7 +258,7 @@ came_keeps doors server g new came handed answers sent piece more begun wants le
           lets.talk.1;
     }
 
-goes_came : {V : Type 0} {way : Way V} (doors : Doors) (server piece more : List ℕ)
+goes_came : {V : Type 0} {way : Way V} (doors : Access) (server piece more : List ℕ)
     (a b : Place way) → WantsRead a.guard → LetsIn piece more a.guard b.guard → IsQuiet a b
     → GoesSome doors server (Came piece) a b
 goes_came doors server piece more a b wants lets quiet =
@@ -277,22 +281,22 @@ goes_came doors server piece more a b wants lets quiet =
 -- ---- a frame was begun
 
 -- what is sent first, and which desk it is, are not changed by what is sent
-record StaysSo (c d : CalledOf) : Type 0 where
+record StaysSo (c d : ServerSealOf) : Type 0 where
   opening : opening_of d ≡ opening_of c
   desk : IsSameDesk c d
   caller : caller_of d ≡ caller_of c
 
-stays_same : (c d : CalledOf) → d ≡ c → StaysSo c d
+stays_same : (c d : ServerSealOf) → d ≡ c → StaysSo c d
 stays_same c d is =
-    subst (λ (e : CalledOf). StaysSo c e) (sym is)
+    subst (λ (e : ServerSealOf). StaysSo c e) (sym is)
     (record { opening = refl; desk = record { doors = refl; random = refl }; caller = refl })
 
-stays_plain : (p : Option Caller) (bytes sent : List ℕ) (c d : CalledOf)
+stays_plain : (p : Option Caller) (bytes sent : List ℕ) (c d : ServerSealOf)
     → SendsPlain p bytes c d sent → StaysSo c d
 stays_plain None bytes sent c d h = stays_same c d h.1
 stays_plain (Some who) bytes sent c d h = stays_same c d h.1
 
-opening_tried : (r : Option Refusal) (t u : TrialOf) (server : List ℕ)
+opening_tried : (r : Option StreamRefusal) (t u : TrialOf) (server : List ℕ)
     → opening_by r (Some u) server ≡ opening_by r (Some t) server
 opening_tried None t u server = refl
 opening_tried (Some Unsealed) t u server = refl
@@ -310,11 +314,11 @@ same_holder None bytes sent t u h = ap (λ (z : TrialOf). z.holder) h.1
 same_holder (Some Hall) bytes sent t u h = ap (λ (z : TrialOf). z.holder) h.2
 same_holder (Some Entry) bytes sent t u h = entry_holder t.entry bytes sent t u h
 
-stays_by : (o : Option TrialOf) (c d : CalledOf) (bytes sent : List ℕ) → c.trial ≡ o
+stays_by : (o : Option TrialOf) (c d : ServerSealOf) (bytes sent : List ℕ) → c.trial ≡ o
     → SendsBy o bytes c d sent → StaysSo c d
 stays_by None c d bytes sent is h = stays_plain c.passing bytes sent c d h
 stays_by (Some t) c d bytes sent is h =
-    subst (λ (e : CalledOf). StaysSo c e) (sym h.2)
+    subst (λ (e : ServerSealOf). StaysSo c e) (sym h.2)
     (record {
       opening =
           opening_tried c.refusal t h.0 c.random
@@ -327,7 +331,7 @@ stays_by (Some t) c d bytes sent is h =
     })
 
 -- something was let in, so somebody is
-let_somebody : (who : Option Caller) (doors : Doors) (server front handed : List ℕ)
+let_somebody : (who : Option Caller) (doors : Access) (server front handed : List ℕ)
     → Admits doors server front handed who → (handed ≡ [] → ⊥) → IsSome who
 let_somebody None doors server front handed h some = absurd (some h.2)
 let_somebody (Some who) doors server front handed h some = refl
@@ -338,7 +342,8 @@ not_idle talk served frame next idle =
     let bad : [] ≡ frame ∷ served.waiting = sym idle.waiting ∙ next.next in absurd cc
 
 -- this frame is begun as one of whoever calls
-one_allowed : (doors : Doors) (g : Guarding) (side : CalledOf) (served : Talk) (one : Begun)
+one_allowed : (doors : Access) (g : LockedConnectionOf) (side : ServerSealOf) (served : Talk)
+    (one : Begun)
     (front handed : List ℕ) → g.called ≡ side → side.doors ≡ doors
     → Turns.BeginsNext g.talk served one.frame → (handed ≡ [] → IsIdle g.talk)
     → one.may ≡ permission_of g.called.doors (caller_of g.called) → Stands side front handed
@@ -349,17 +354,18 @@ one_allowed doors g side served one front handed is are next idle may stands = r
       (admits side front handed stands)
       (λ (none : handed ≡ []). not_idle g.talk served one.frame next (idle none));
   may =
-      may ∙ ap (λ (e : CalledOf). permission_of e.doors (caller_of e)) is
-      ∙ ap (λ (d : Doors). permission_of d (caller_of side)) are;
+      may ∙ ap (λ (e : ServerSealOf). permission_of e.doors (caller_of e)) is
+      ∙ ap (λ (d : Access). permission_of d (caller_of side)) are;
 }
 
-all_and_one : (doors : Doors) (who : Option Caller) (begun : List Begun) (one : Begun)
+all_and_one : (doors : Access) (who : Option Caller) (begun : List Begun) (one : Begun)
     → AreAllowed doors who begun → IsAllowed doors who one
     → AreAllowed doors who (begun ++ one ∷ [])
 all_and_one doors who [] one h last = (last, tt)
 all_and_one doors who (b ∷ begun) one h last = (h.0, all_and_one doors who begun one h.1 last)
 
-allowed_more : (doors : Doors) (g : Guarding) (side : CalledOf) (served : Talk) (one : Begun)
+allowed_more : (doors : Access) (g : LockedConnectionOf) (side : ServerSealOf) (served : Talk)
+    (one : Begun)
     (front handed : List ℕ) (begun : List Begun) → g.called ≡ side → side.doors ≡ doors
     → Turns.BeginsNext g.talk served one.frame → (handed ≡ [] → IsIdle g.talk)
     → one.may ≡ permission_of g.called.doors (caller_of g.called) → Stands side front handed
@@ -370,7 +376,8 @@ allowed_more doors g side served one front handed begun is are next idle may sta
     (one_allowed doors g side served one front handed is are next idle may stands)
 
 -- its answer was lost
-lost_keeps : (doors : Doors) (server : List ℕ) (g new : Guarding) (served : Talk) (one : Begun)
+lost_keeps : (doors : Access) (server : List ℕ) (g new : LockedConnectionOf) (served : Talk)
+    (one : Begun)
     (came handed answers sent : List ℕ) (begun : List Begun) → IsFree g
     → Turns.BeginsNext g.talk served one.frame
     → one.may ≡ permission_of g.called.doors (caller_of g.called)
@@ -396,7 +403,8 @@ lost_keeps doors server g new served one came handed answers sent begun free nex
     }
 
 -- or it was sealed
-sealed_keeps : (doors : Doors) (server : List ℕ) (g new : Guarding) (served : Talk) (one : Begun)
+sealed_keeps : (doors : Access) (server : List ℕ) (g new : LockedConnectionOf) (served : Talk)
+    (one : Begun)
     (came handed answers sent : List ℕ) (begun : List Begun) → IsFree g
     → Turns.BeginsNext g.talk served one.frame
     → one.may ≡ permission_of g.called.doors (caller_of g.called)
@@ -407,8 +415,8 @@ sealed_keeps doors server g new served one came handed answers sent begun free n
     let c = g.called in
     let e = new.called in
     let out = new.output in
-    let was = subst (λ (z : CalledOf). Stands z h.front handed) (sym now.0) h.stands in
-    let given = subst (λ (z : CalledOf). HasSent z answers h.body) (sym now.0) h.given in
+    let was = subst (λ (z : ServerSealOf). Stands z h.front handed) (sym now.0) h.stands in
+    let given = subst (λ (z : ServerSealOf). HasSent z answers h.body) (sym now.0) h.given in
     let full = λ (none : handed ≡ []). not_idle g.talk served one.frame next (h.idle free.fed none)
     in
     let some =
@@ -416,11 +424,11 @@ sealed_keeps doors server g new served one came handed answers sent begun free n
     let same = stays_by c.trial c e served.pending out refl seals.sends in
     let empty : sent ≡ opening_of c ++ h.body =
     sym (append-nil sent) ∙ ap (λ (s : List ℕ). sent ++ s) (sym free.taken) ∙ h.sends
-    ∙ ap (λ (z : CalledOf). opening_of z ++ h.body) (sym now.0) in
+    ∙ ap (λ (z : ServerSealOf). opening_of z ++ h.body) (sym now.0) in
     record {
       side = e;
-      doors_are = same.desk.doors ∙ ap (λ (z : CalledOf). z.doors) now.0 ∙ h.doors_are;
-      server_is = same.desk.random ∙ ap (λ (z : CalledOf). z.random) now.0 ∙ h.server_is;
+      doors_are = same.desk.doors ∙ ap (λ (z : ServerSealOf). z.doors) now.0 ∙ h.doors_are;
+      server_is = same.desk.random ∙ ap (λ (z : ServerSealOf). z.random) now.0 ∙ h.server_is;
       front = h.front;
       later = [];
       parts = h.parts ∙ ap (λ (s : List ℕ). h.front ++ s) now.1;
@@ -434,14 +442,14 @@ sealed_keeps doors server g new served one came handed answers sent begun free n
           ∙ append_assoc (opening_of e) h.body out;
       allowed =
           subst (λ (w : Option Caller). AreAllowed doors w (begun ++ one ∷ []))
-          (ap (λ (z : CalledOf). caller_of z) (sym now.0) ∙ sym same.caller)
+          (ap (λ (z : ServerSealOf). caller_of z) (sym now.0) ∙ sym same.caller)
           (allowed_more doors g h.side served one h.front handed begun now.0 h.doors_are next
           (h.idle free.fed) may h.stands h.allowed);
       whole = λ _. (refl, refl);
       idle = λ _. λ none. absurd (full none);
     }
 
-goes_lost : {V : Type 0} {way : Way V} (doors : Doors) (server : List ℕ) (one : Begun)
+goes_lost : {V : Type 0} {way : Way V} (doors : Access) (server : List ℕ) (one : Begun)
     (served : Talk) (a b : Place way) → IsFree a.guard
     → TurnLaw.Turns (Began one) (within a) (with_talk b served)
     → one.may ≡ permission_of a.guard.called.doors (caller_of a.guard.called)
@@ -476,7 +484,7 @@ answer_taken b served is =
       record { seen = refl; outside = refl },
     )
 
-goes_sealed : {V : Type 0} {way : Way V} (doors : Doors) (server : List ℕ) (one : Begun)
+goes_sealed : {V : Type 0} {way : Way V} (doors : Access) (server : List ℕ) (one : Begun)
     (served : Talk) (a b : Place way) → IsFree a.guard
     → TurnLaw.Turns (Began one) (within a) (with_talk b served)
     → one.may ≡ permission_of a.guard.called.doors (caller_of a.guard.called)
@@ -501,7 +509,7 @@ goes_sealed doors server one served a b free turn may seals = (
 
 -- ---- no frame was begun
 
-ran_keeps : (doors : Doors) (server : List ℕ) (g new : Guarding)
+ran_keeps : (doors : Access) (server : List ℕ) (g new : LockedConnectionOf)
     (came handed answers sent : List ℕ) (begun : List Begun) → RunsOut g new
     → Keeps doors server g came handed answers sent begun
     → Keeps doors server new came handed answers sent begun
@@ -517,9 +525,9 @@ ran_keeps doors server g new came handed answers sent begun runs h =
       stands = h.stands;
       body = h.body;
       given = h.given;
-      sends = ap (λ (z : Guarding). sent ++ z.output) runs.same ∙ h.sends;
+      sends = ap (λ (z : LockedConnectionOf). sent ++ z.output) runs.same ∙ h.sends;
       allowed = h.allowed;
-      whole = λ _. (ap (λ (z : Guarding). z.called) runs.same ∙ now.0, now.1);
+      whole = λ _. (ap (λ (z : LockedConnectionOf). z.called) runs.same ∙ now.0, now.1);
       idle = λ _. λ none.
           let was = h.idle runs.free.fed none in
           record {
@@ -528,7 +536,7 @@ ran_keeps doors server g new came handed answers sent begun runs h =
           };
     }
 
-goes_out : {V : Type 0} {way : Way V} (doors : Doors) (server : List ℕ) (a b : Place way)
+goes_out : {V : Type 0} {way : Way V} (doors : Access) (server : List ℕ) (a b : Place way)
     → RunsOut a.guard b.guard → IsQuiet a b → GoesSome doors server Rested a b
 goes_out doors server a b runs quiet =
     let still : TurnLaw.IsQuiet (within a) (within b) =
@@ -548,12 +556,13 @@ goes_out doors server a b runs quiet =
 
 -- ---- each turn
 
-same_output : (a b : Guarding) → b ≡ a → b ≡ record a { output = b.output }
+same_output : (a b : LockedConnectionOf) → b ≡ a → b ≡ record a { output = b.output }
 same_output a b is =
-    is ∙ ap (λ (s : List ℕ). record a { output = s }) (ap (λ (g : Guarding). g.output) (sym is))
+    is ∙ ap (λ (s : List ℕ). record a { output = s })
+    (ap (λ (g : LockedConnectionOf). g.output) (sym is))
 
 -- The connection within takes some turns, and what holds goes on.
-pub turn_goes : {V : Type 0} {way : Way V} (doors : Doors) (server : List ℕ) (t : Turn)
+pub turn_goes : {V : Type 0} {way : Way V} (doors : Access) (server : List ℕ) (t : Turn)
     (a b : Place way) → GuardTurns.Turns t a b → GoesSome doors server t a b
 turn_goes doors server (Came piece) a b (wants, inl starves, quiet) =
     goes_starved doors server piece a b starves quiet
@@ -565,10 +574,10 @@ turn_goes doors server (Began one) a b (free, served, turn, may, inr seals) =
     goes_sealed doors server one served a b free turn may seals
 turn_goes doors server Rested a b (inl rests, quiet) =
     goes_taken doors server Rested a b (same_output a.guard b.guard rests.1) quiet refl refl
-    (ap (λ (g : Guarding). g.output) (sym rests.1))
+    (ap (λ (g : LockedConnectionOf). g.output) (sym rests.1))
 turn_goes doors server Rested a b (inr runs, quiet) = goes_out doors server a b runs quiet
 turn_goes doors server (Took bytes) a b k =
     let out : b.guard.output ≡ drop (length bytes) a.guard.output =
-    ap (λ (g : Guarding). g.output) k.1 in
+    ap (λ (g : LockedConnectionOf). g.output) k.1 in
     goes_taken doors server (Took bytes) a b
     (k.1 ∙ ap (λ (s : List ℕ). record a.guard { output = s }) (sym out)) k.2 refl refl k.0

@@ -1,4 +1,3 @@
-pub mod Answering
 pub mod Lists
 pub mod Fronts
 pub mod Greeting

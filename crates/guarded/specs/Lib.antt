@@ -1,4 +1,4 @@
 pub mod Permitting
-pub mod Guarding
-pub mod GuardTurns
-pub mod GuardLaw
+pub mod LockedConnections
+pub mod LockedTurns
+pub mod LockedLaw

@@ -1,6 +1,6 @@
 //! What follows of the turns of a guarded connection, in any order.
 
-ghost use Rattle.guarded.specs.GuardLaw.{DeliversUnderHall, GuardsServe};
+ghost use Rattle.guarded.specs.LockedLaw.{DeliversUnderHall, GuardsServe};
 
 use answers::Desk;
 

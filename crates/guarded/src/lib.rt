@@ -5,10 +5,10 @@
 //! the calls of a `serving::Connection`, over the bytes of the stream itself.
 #![tactic(auto)]
 
-mod guard;
 pub mod laws;
+mod locked_connection;
 mod permitting;
 
-pub use guard::Guard;
+pub use locked_connection::LockedConnection;
 pub use permitting::permission_of;
-pub use sealed::{Caller, Doors, Holder, Locks, NoMemory};
+pub use sealed::{Access, Caller, DeskKeys, Holder, NoMemory};

@@ -1,20 +1,19 @@
 -- The logs of a hall as they are written, entry after entry and desk after desk.
-use Rattle.std.proofs.Common.{◌≡◌, ℕ, ◌+◌, ◌-◌, ◌<◌, ◌≤◌, suc, List, [], ◌++◌, length, get_or, ◌⊎◌}
-use Rattle.std.proofs.Common.{inl, inr, flat_map, Option, None, Some, refl, sym, ap, ◌∙◌}
-use Rattle.std.proofs.Common.{append_assoc, append-nil, subst, arith}
+use Rattle.std.proofs.Common.{◌≡◌, ℕ, ◌+◌, ◌-◌, ◌≤◌, suc, List, ◌++◌}
+use Rattle.std.proofs.Common.{flat_map, Option, Some, refl, sym, ap, ◌∙◌}
+use Rattle.std.proofs.Common.{append_assoc, subst, arith}
 use Rattle.std.specs.Prelude.{slice_get}
-use Rattle.std.proofs.lemmas.Option.{slice_get_cases}
 use Rattle.std.specs.List.{range_with_len}
 use Rattle.std.specs.Io.KnownBytes.{Appends}
-use Rattle.std.proofs.KnownBytes.{Appends-trans, Appends-nil}
+use Rattle.std.proofs.KnownBytes.{Appends-trans}
 use Rattle.acceptor.specs.declared.entry.Entry.{Entry}
 use Rattle.learner.specs.declared.event.WorldEvent.{WorldEvent}
 use Rattle.learner.specs.Worlds.{log_of}
 use Rattle.lines.specs.Bytes.{Writes, AppendsPart}
-use Rattle.lines.proofs.Inputs.{part_front, part_after, waits_more, all_out, part_out, still_waits}
+use Rattle.lines.proofs.Inputs.{part_front, part_after, waits_more, part_out}
 use Rattle.hall.specs.Texts.{entry_text, log_text}
 use Rattle.hall.specs.Halls.{logs_text}
-use Rattle.hall.proofs.Printed.{entries_text, entries_next, entries_end}
+use Rattle.hall.proofs.Printed.{entries_text, entries_next}
 
 -- ---- one log
 
@@ -25,15 +24,6 @@ pub record Logged (d : ℕ) (entries : List Entry) (pos : ℕ) (old new : Option
   pub front : List ℕ
   pub written : Writes old new text front out
   pub whole : text ++ entries_text d pos entries ≡ log_text d entries
-
-pub log_begins : (d : ℕ) (entries : List Entry) (old : Option (List ℕ)) (out : List ℕ) → out ≡ []
-    → Logged d entries 0 old old out
-log_begins d entries old out none = record {
-  text = [];
-  front = [];
-  written = record { parts = sym none; written = Appends-nil old };
-  whole = refl;
-}
 
 pub log_more : (d : ℕ) (entries : List Entry) (pos : ℕ) (x : Entry)
     (old mid new : Option (List ℕ)) (out out' out'' : List ℕ)
@@ -57,20 +47,6 @@ log_more d entries pos x old mid new out out' out'' a is said w =
           ∙ a.whole;
     }
 
--- in front of the end there is an entry
-pub log_gap : (d : ℕ) (entries : List Entry) (pos : ℕ) (old new : Option (List ℕ))
-    (out : List ℕ)
-    → slice_get entries pos ≡ None → pos < length entries
-    → Logged d entries (pos + 1) old new out
-log_gap d entries pos old new out none there = step (slice_get_cases entries pos).1
-  where
-    step : ((x : Entry) × (pos < length entries) × (slice_get entries pos ≡ Some x)
-        × (get_or entries pos x ≡ x))
-        ⊎ ((length entries ≤ pos) × (slice_get entries pos ≡ None))
-        → Logged d entries (pos + 1) old new out
-    step (inl h) = absurd (let bad : None ≡ Some h.0 = sym none ∙ h.2 in cc)
-    step (inr h) = absurd (omega (arith, h.0, there))
-
 -- a part of what is printed so far is a part of the log's text
 log_part : (d : ℕ) (entries : List Entry) (pos : ℕ) (old mid new : Option (List ℕ))
     (out : List ℕ) (a : Logged d entries pos old mid out) → AppendsPart old new a.text
@@ -88,25 +64,6 @@ log_unwritten d entries pos old mid new out a part =
     log_part d entries pos old mid new out a
     (part_out old mid new a.text a.front out a.written part)
 
--- what waits was not written
-pub log_forgotten : (d : ℕ) (entries : List Entry) (pos : ℕ) (old new : Option (List ℕ))
-    (out : List ℕ)
-    → Logged d entries pos old new out → AppendsPart old new (log_text d entries)
-log_forgotten d entries pos old new out a =
-    log_part d entries pos old new new out a (still_waits old new a.text a.front out a.written)
-
--- all entries were printed
-pub log_ends : (d : ℕ) (entries : List Entry) (pos : ℕ) (old mid new : Option (List ℕ))
-    (out : List ℕ)
-    → Logged d entries pos old mid out → length entries ≤ pos → Appends mid new out
-    → Appends old new (log_text d entries)
-log_ends d entries pos old mid new out a past last =
-    let text : a.text ≡ log_text d entries =
-    sym (append-nil a.text)
-    ∙ ap (λ t. a.text ++ t) (sym (entries_end d pos entries past))
-    ∙ a.whole in
-    subst (Appends old new) text (all_out old mid new a.text a.front out a.written last)
-
 -- ---- the logs of all desks
 
 -- the logs from desk d on
@@ -120,16 +77,6 @@ pub record Logs (n : ℕ) (events : List WorldEvent) (d : ℕ) (old new : Option
     pub text : List ℕ
     pub written : Appends old new text
     pub whole : text ++ logs_from n events d ≡ logs_text n events
-
-pub logs_begin : (n : ℕ) (events : List WorldEvent) (old : Option (List ℕ))
-    → Logs n events 1 old old
-logs_begin n events old = record {
-  text = [];
-  written = Appends-nil old;
-  whole =
-      ap (λ k. flat_map (λ d. log_text d (log_of n events d)) (range_with_len 1 k))
-      (omega arith);
-}
 
 logs_next : (n : ℕ) (events : List WorldEvent) (d : ℕ) → d ≤ n
     → logs_from n events d ≡ log_text d (log_of n events d) ++ logs_from n events (d + 1)
@@ -160,15 +107,3 @@ logs_cut n events d old mid new a there part =
     ∙ a.whole)
     (part_front old new (a.text ++ log_text d (log_of n events d)) (logs_from n events (d + 1))
     (part_after old mid new a.text (log_text d (log_of n events d)) a.written part))
-
--- the logs of all desks were written
-pub logs_end : (n : ℕ) (events : List WorldEvent) (d : ℕ) (old new : Option (List ℕ))
-    → Logs n events d old new → n < d → Appends old new (logs_text n events)
-logs_end n events d old new a past =
-    let none : n + 1 - d ≡ 0 = omega arith in
-    subst (Appends old new)
-    (sym (append-nil a.text)
-    ∙ ap (λ k. a.text ++ flat_map (λ d. log_text d (log_of n events d)) (range_with_len d k))
-    (sym none)
-    ∙ a.whole)
-    a.written

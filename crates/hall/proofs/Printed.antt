@@ -1,10 +1,9 @@
 -- What is printed for the entries of a log, from one to the next.
-use Rattle.std.proofs.Common.{◌≡◌, ℕ, ◌+◌, ◌≤◌, List, [], ◌++◌, length, drop, get_or, flat_map}
-use Rattle.std.proofs.Common.{Some, suc, refl, ap, ◌∙◌, drop-cons, arith}
+use Rattle.std.proofs.Common.{◌≡◌, ℕ, ◌+◌, List, ◌++◌, drop, get_or, flat_map}
+use Rattle.std.proofs.Common.{Some, suc, ap, ◌∙◌, drop-cons, arith}
 use Rattle.std.specs.Prelude.{slice_get}
 use Rattle.std.proofs.lemmas.Option.{slice_get_within, get_or_from_slice_get}
 use Rattle.std.specs.List.{enumerate_from}
-use Rattle.std.proofs.lemmas.List.{drop_all}
 use Rattle.acceptor.specs.declared.entry.Entry.{Entry}
 use Rattle.hall.specs.Texts.{entry_text}
 
@@ -24,7 +23,3 @@ entries_next d pos entries x is =
     ++ flat_map (λ e. entry_text d e.0 e.1) (enumerate_from (pos + 1) (drop k entries))) next
     ∙ ap (λ e. entry_text d pos e ++ entries_text d (pos + 1) entries)
     (get_or_from_slice_get entries pos x x is)
-
-pub entries_end : (d pos : ℕ) (entries : List Entry) → length entries ≤ pos
-    → entries_text d pos entries ≡ []
-entries_end d pos entries past = rw (drop_all pos entries past) refl

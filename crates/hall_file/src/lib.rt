@@ -22,5 +22,5 @@ pub use folder::key_path;
 pub use hall_file::HallFile;
 pub use laws::{says_one_hall, says_or_is_refused};
 pub use making::hall_of_addresses;
-pub use opening::{OpenFault, read_hall_at};
+pub use opening::{HallOpenFault, read_hall_at};
 pub use printing::print_hall;

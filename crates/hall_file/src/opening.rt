@@ -14,7 +14,7 @@ use thiserror::Error;
 
 /// Why the file at a path gives no hall. Its text is one line for people.
 #[derive(Debug, Drop, Error)]
-pub enum OpenFault<'p> {
+pub enum HallOpenFault<'p> {
     /// The file cannot be opened, or a read fails.
     #[error("{path}: cannot be read")]
     CannotRead { path: &'p str },
@@ -40,7 +40,7 @@ fn read_file<R: Files + AllocGlobal>(rt: &R, path: &str) -> io::Result<Vec<u8>> 
 pub fn read_hall_at<'p, R: Files + AllocGlobal>(
     rt: &R,
     path: &'p str,
-) -> Result<HallFile, OpenFault<'p>>
+) -> Result<HallFile, HallOpenFault<'p>>
     ensures ok { IfOk result (λ file. (bytes : List ℕ) × Says bytes file) }
     ensures err { IfErr result (IsOfPath path.now) }
 {
@@ -48,12 +48,12 @@ pub fn read_hall_at<'p, R: Files + AllocGlobal>(
         Ok(bytes) => bytes,
         Err(error) if error.kind() == ErrorKind::OutOfMemory => {
             let fault = HallFault::NoMemory;
-            return Err(OpenFault::Refused { path, fault });
+            return Err(HallOpenFault::Refused { path, fault });
         }
-        Err(_) => return Err(OpenFault::CannotRead { path }),
+        Err(_) => return Err(HallOpenFault::CannotRead { path }),
     };
     match read_hall(rt.alloc(), &bytes) {
         Ok(file) => Ok(file),
-        Err(fault) => Err(OpenFault::Refused { path, fault }),
+        Err(fault) => Err(HallOpenFault::Refused { path, fault }),
     }
 }

@@ -4,7 +4,7 @@ use wire::Version;
 
 /// Where the store of a desk comes from.
 #[derive(Clone, Copy, Debug, PartialEq, Eq)]
-pub enum Making {
+pub enum StoreOrigin {
     /// The store in the file is opened, and where there is none it is made.
     AsNeeded,
     /// The store in the file is opened, and none is made.
@@ -24,7 +24,7 @@ pub struct Service<'a> {
     pub store: &'a str,
     /// Whether that store is opened or made. A hall's file says `Open` or `New`, and then the
     /// addresses have to be found as well, each of another desk.
-    pub making: Making,
+    pub making: StoreOrigin,
     /// How many seconds a client may be silent, and take nothing of what is sent to it.
     pub patience: u32,
     /// How many connections are served; without it, as many as come.

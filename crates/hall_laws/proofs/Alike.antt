@@ -84,7 +84,7 @@ hall_decideds_stand k law stops chosen one_chosen n h ss i d from pos e f is our
 
 -- ---- a frame of entries
 
--- the entry that is there is the one that is told, where one does
+-- the entry that is there is the one that is reported, where one is
 not_other : (e : Entry) (there : Option Entry) → ((f : Entry) → there ≡ Some f → f ≡ e)
     → is_other e there ≡ false
 not_other e None h = refl

@@ -20,7 +20,7 @@ use Rattle.serving.specs.Asking.{ours, request}
 use Rattle.serving.specs.Serving.{framed, what_of}
 use Rattle.serving.specs.Telling.{run_frame, entries_said}
 use Rattle.serving.specs.declared.request.Request.{Request}
-use Rattle.serving.specs.declared.request.Run.{Run}
+use Rattle.serving.specs.declared.request.DecidedRun.{DecidedRun}
 
 -- a frame is read where its spelling is
 abbrev pub ReadWhereSpelled : Type 0
@@ -50,7 +50,7 @@ message_given home version m same =
     let to : (m.to == home.desk) ≡ true = grind (arith, nat_tests, same) in
     pick _ _ _ _ _ hall to (by_body m.from m.to m.body)
 
-pub run_given : (home : Home) (version : Version) (run : Run) → run.to ≡ home.desk
+pub run_given : (home : Home) (version : Version) (run : DecidedRun) → run.to ≡ home.desk
     → delivers (request home (run_frame version home.hall run))
     ≡ decided_each run.from run.to run.pos (entries_said version run.entries)
 run_given home version run same =

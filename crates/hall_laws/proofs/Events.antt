@@ -15,7 +15,7 @@ use Rattle.serving.specs.Serving.{from_own, to_others, push_all, waits, deliver,
 use Rattle.serving.specs.Serving.{grew, start_if_grown, decided, learn, learn_all, begun}
 use Rattle.serving.specs.declared.request.Request.{Request}
 use Rattle.serving.specs.declared.request.Request.TheVariants.{Learned}
-use Rattle.serving.specs.declared.request.Run.{Run}
+use Rattle.serving.specs.declared.request.DecidedRun.{DecidedRun}
 use Rattle.store.specs.declared.home.Home.{Home}
 use Rattle.hall_laws.specs.Arriving.{decided_each}
 use Rattle.hall_laws.specs.Pushing.{asks_for, AreGiven}
@@ -190,7 +190,8 @@ down_not_grown : (before : ℕ) (x : Seen) → x.is_down ≡ true → grew befor
 down_not_grown before x down =
     ap (λ z. not z && nat_lt before (length x.desk.log) && nat_lt 0 (length x.desk.queue)) down
 
-pub learns_nothing : (home : Home) (run : Run) (x : Seen) (fates : List Fate) → run.entries ≡ []
+pub learns_nothing : (home : Home) (run : DecidedRun) (x : Seen) (fates : List Fate)
+    → run.entries ≡ []
     → (learn_all home run (begun x fates)).done ≡ []
 unfolding learn_all learn
 learns_nothing home run x fates none =
@@ -208,7 +209,7 @@ learns_nothing home run x fates none =
 
 -- ---- a frame of several entries
 
--- behind a desk that is down and has nothing waiting, nothing is done
+-- after a desk that is down and has nothing waiting, nothing is done
 nothing_after : (home : Home) (before k : ℕ) (s : Service) → s.seen.is_down ≡ true
     → s.waiting ≡ [] → (start_if_grown home before (settle_by home k s)).done ≡ s.done
 nothing_after home before k s down none =
@@ -218,7 +219,7 @@ nothing_after home before k s down none =
     (ap (λ z. grew before z) quiet.1 ∙ down_not_grown before s.seen down))
     ∙ quiet.0
 
-learnt_given : (home : Home) (run : Run) (a b : Service) → Follows a b
+learnt_given : (home : Home) (run : DecidedRun) (a b : Service) → Follows a b
     → Begins (asks_for (Learned run)) a → (a.seen.is_down ≡ true → b.done ≡ a.done)
     → AreGiven (Learned run) b.done b.seen.is_down
 learnt_given home run a b h g same = go a.seen.is_down refl
@@ -248,7 +249,7 @@ learnt_given home run a b h g same = go a.seen.is_down refl
               let short = ap (λ z. length z) none in omega arith;
         })
 
-pub all_learnt : (home : Home) (run : Run) (x : Seen) (fates : List Fate)
+pub all_learnt : (home : Home) (run : DecidedRun) (x : Seen) (fates : List Fate)
     → Follows (learn home run.from run.to run.pos run.entries (begun x fates))
     (learn_all home run (begun x fates))
     → AreGiven (Learned run) (learn_all home run (begun x fates)).done

@@ -14,7 +14,7 @@ use Rattle.serving.specs.Serving.{call, in_front, from_own, to_others, push_all,
 use Rattle.serving.specs.Serving.{settle_by, settle, grew, start_if_grown, take as take_event}
 use Rattle.serving.specs.Serving.{learn, learn_all, hand_out, answer_out, tell, entered_by, enter}
 use Rattle.serving.specs.Telling.{run_of}
-use Rattle.serving.specs.declared.request.Run.{Run}
+use Rattle.serving.specs.declared.request.DecidedRun.{DecidedRun}
 use Rattle.store.specs.declared.home.Home.{Home}
 use Rattle.hall_laws.proofs.Acts.{Fits, reply_fits}
 
@@ -123,7 +123,7 @@ follows_answer : (home : Home) (s : Service) → Follows s (answer_out home s)
 unfolding answer_out
 follows_answer home s = go (run_of home.desk s.waiting)
   where
-    go : (o : Option Run) → Follows s (hand_out home o s)
+    go : (o : Option DecidedRun) → Follows s (hand_out home o s)
     go None = follows_settle home s.left s
     go (Some run) = record { more = Answered run ∷ []; done = refl; down = λ h. h }
 
@@ -137,7 +137,7 @@ follows_tell home m s =
     (follows_answer home first)
     (follows_start home (length s.seen.desk.log) called)
 
-pub follows_learn : (home : Home) (run : Run) (s : Service)
+pub follows_learn : (home : Home) (run : DecidedRun) (s : Service)
     → Follows (learn home run.from run.to run.pos run.entries s) (learn_all home run s)
 unfolding learn_all
 follows_learn home run s =

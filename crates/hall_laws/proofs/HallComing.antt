@@ -1,4 +1,4 @@
--- A hall goes on with frames that come to its desks.
+-- A hall continues with frames that come to its desks.
 use Rattle.std.proofs.Common.{◌≡◌, refl, sym, ap, subst, ◌∙◌, ℕ, Bool, true, false, ◌&&◌}
 use Rattle.std.proofs.Common.{◌==◌, if◌then◌else◌, List, [], ◌∷◌, Option, None, Some, arith}
 use Rattle.std.proofs.lemmas.Bool.Decides.{nat_tests}
@@ -17,8 +17,8 @@ use Rattle.serving.specs.Serving.{Act, framed, what_of}
 use Rattle.serving.specs.Telling.{entries_said, run_frame}
 use Rattle.serving.specs.Turns.{new_talk}
 use Rattle.serving.specs.TurnLaw.{Came, Began}
-use Rattle.serving.specs.declared.ends.Close.{Close}
-use Rattle.serving.specs.declared.ends.Close.TheVariants as close
+use Rattle.serving.specs.declared.ends.FrameEnd.{FrameEnd}
+use Rattle.serving.specs.declared.ends.FrameEnd.TheVariants as close
 use Rattle.serving.specs.declared.request.Request.{Request}
 use Rattle.connections.specs.Connections.{TurnOf}
 use Rattle.store.specs.declared.home.Home.{Home}
@@ -137,9 +137,9 @@ abbrev StaysUp : Request → Type 0
 StaysUp r = (s : Seen) → s.is_down ≡ false → closes s r ≡ None
 
 stays : (b : Bool) → b ≡ false
-    → (let end : Option Close = if b then Some close.Down else None in end) ≡ None
+    → (let end : Option FrameEnd = if b then Some close.Down else None in end) ≡ None
 stays b up =
-    ap (λ (t : Bool). let end : Option Close = if t then Some close.Down else None in end) up
+    ap (λ (t : Bool). let end : Option FrameEnd = if t then Some close.Down else None in end) up
 
 message_stays : (from to : ℕ) (b : Body) → StaysUp (ours from to (what_of b))
 message_stays from to (Prepare b pos) s up = stays s.is_down up

@@ -12,15 +12,15 @@ use Rattle.serving.specs.Serving.{Act, answer_out, call, enter, framed, learn, l
 use Rattle.serving.specs.Serving.{settle_by, start_if_grown, take as take_event, tell}
 use Rattle.serving.specs.TurnLaw.{Began, Came}
 use Rattle.serving.specs.Turns.{Talk}
-use Rattle.serving.specs.declared.ends.End.{End}
-use Rattle.serving.specs.declared.ends.End.TheVariants as end
+use Rattle.serving.specs.declared.ends.ConnectionEnd.{ConnectionEnd}
+use Rattle.serving.specs.declared.ends.ConnectionEnd.TheVariants as end
 use Rattle.serving.specs.declared.request.Request.{Request}
 use Rattle.serving.specs.declared.request.Request.TheVariants.{Copied}
 use Rattle.connections.specs.Connections.{TurnOf}
 use Rattle.store.specs.declared.home.Home.{Home}
 use Rattle.wire.specs.Ranges.{IsFrame}
 use Rattle.wire.specs.Spelling.{spelling}
-use Rattle.wire.specs.declared.frame.What.TheVariants as what
+use Rattle.wire.specs.declared.frame.FrameBody.TheVariants as what
 use Rattle.wire.specs.declared.values.Version.TheVariants.{Two, Three}
 use Rattle.hall_laws.specs.Copied.{CopiesOneEntry, given, log_frame}
 use Rattle.hall_laws.specs.Copying.{AnswersCopy}

@@ -22,7 +22,7 @@ use Rattle.serving.specs.Permissions.{reads}
 use Rattle.serving.specs.Serving.{answer, first_fate}
 use Rattle.store.specs.declared.home.Home.{Home}
 use Rattle.store.specs.declared.keeper.Keeper.{Ghosts}
-use Rattle.wire.specs.declared.frame.What.TheVariants as what
+use Rattle.wire.specs.declared.frame.FrameBody.TheVariants as what
 use Rattle.wire.specs.declared.values.ClientRefusal.TheVariants as refusal
 use Rattle.hall_laws.specs.Copying.{AnswersCopy, HallCopiesAreOfLogs, HallLogsGrow, Given}
 use Rattle.hall_laws.specs.Copying.{collected, AreCollected, AreOf, BeginsALog, HallCopiesBeginALog}
@@ -225,7 +225,7 @@ abbrev Begin : {K : Type 0} → Hall K → List (HallStep K) → List Given → 
     → Type 0
 Begin h ss given es log = IsPrefix es log ⊎ BeginsALog h ss given es
 
--- what begins a log goes on to begin it, or another one's
+-- what begins a log still begins it later, or another one's
 begins_on : {K : Type 0} (k : Ghosts K) → HallLogsAgree k → (n : ℕ) (h : Hall K)
     (ss : List (HallStep K)) → IsHallRun k n h ss → (held : List Entry) (given : List Given)
     (i d : ℕ) → IsDesk n d → IsPrefix held (hall_log h ss i d)

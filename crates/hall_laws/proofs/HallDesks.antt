@@ -26,11 +26,11 @@ use Rattle.serving.specs.Making.{Call, Lead, Way, Makes, calls_of}
 use Rattle.serving.specs.Serving.{Act}
 use Rattle.serving.specs.Turns.{Talk, LeavesAt, Rests}
 use Rattle.serving.specs.TurnLaw.{Place, Turn, Came, Began, Rested, Took, Turns, sides_in, IsQuiet}
-use Rattle.serving.specs.declared.ends.End.{End}
-use Rattle.serving.specs.declared.ends.End.TheVariants as end
+use Rattle.serving.specs.declared.ends.ConnectionEnd.{ConnectionEnd}
+use Rattle.serving.specs.declared.ends.ConnectionEnd.TheVariants as end
 use Rattle.store.specs.declared.home.Home.{Home}
 use Rattle.store.specs.declared.keeper.Keeper.{Ghosts}
-use Rattle.wire.specs.declared.frame.What.TheVariants as what
+use Rattle.wire.specs.declared.frame.FrameBody.TheVariants as what
 use Rattle.hall_laws.specs.HallRuns.{AreDoneFor, AreDone, TurnWasSent, IsSameStore, IsTakenIn}
 use Rattle.hall_laws.specs.Served.{handed_out, all_handed_out, IsSentTo, AreSentTo, StandsFor}
 use Rattle.hall_laws.specs.Stops.{Happening, Answered, Stopped, real_run, with_desk}
@@ -145,7 +145,7 @@ calls_named k (c ∷ cs) x y lead =
 -- ---- its turns
 
 -- what was done is a front part of what the frame comes to
-record Front {V : Type 0} (way : Way V) (home : Home) (a b : Sides way) (one : Begun)
+pub record Front {V : Type 0} (way : Way V) (home : Home) (a b : Sides way) (one : Begun)
     (acts : List Act) : Type 0 where
   pub rest : List Act
   pub parts : (serve_frame home a.seen one).acts ≡ acts ++ rest
@@ -160,7 +160,8 @@ whole_front way home a b one acts made is = record {
   made = subst (λ z. Makes home.hall a.outside b.outside z) (sym is) made;
 }
 
-done_front : {V : Type 0} (way : Way V) (e : Option End) (home : Home) (a b : Sides way)
+pub done_front : {V : Type 0} (way : Way V) (e : Option ConnectionEnd) (home : Home)
+    (a b : Sides way)
     (one : Begun) (count : ℕ) (acts : List Act) → LeavesAt e home a b one count
     → AreDoneFor e home a b one acts → Front way home a b one acts
 done_front way None home a b one count acts l is = whole_front way home a b one acts l.0.made is
@@ -273,7 +274,8 @@ stops_in k n d w event x keeper y h s holds may honest first =
 
 pub reopens : {K : Type 0} (k : Ghosts K) (n d : ℕ) (w : World) (x : NodeValue K) (keeper : K)
     (y : NodeValue K)
-    → StandsFor k n d w x → Kept k n d w.sent x → IsSameStore k x.keeper keeper → Opens k keeper y
+    → StandsFor k n d w x → Kept k n d w.sent x → IsSameStore k x.keeper keeper y.desk
+    → Opens k keeper y
     → k.is_honest y.keeper → Reopens n d w y
 reopens k n d w x keeper y h kept same opens honest = go kept
   where
@@ -287,7 +289,7 @@ reopens k n d w x keeper y h kept same opens honest = go kept
     was = same.honest (opens.honest honest)
 
     may : k.may_hold x.keeper s log
-    may = same.held s log (opens.loaded honest)
+    may = same.held
 
     go : Kept k n d w.sent x → Reopens n d w y
     go (inl holds) =

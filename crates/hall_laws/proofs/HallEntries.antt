@@ -24,10 +24,10 @@ use Rattle.serving.specs.declared.request.Request.TheVariants.{Heard, Lagging, L
 use Rattle.serving.specs.declared.request.Request.TheVariants.{Asked, Printed, Ticked, Stopped}
 use Rattle.serving.specs.declared.request.Request.TheVariants.{Inspected, Copied, Strange, Ignored}
 use Rattle.serving.specs.declared.request.Request.TheVariants.{Denied, Withheld}
-use Rattle.serving.specs.declared.request.Run.{Run}
+use Rattle.serving.specs.declared.request.DecidedRun.{DecidedRun}
 use Rattle.store.specs.declared.home.Home.{Home}
-use Rattle.wire.specs.declared.frame.What.{What}
-use Rattle.wire.specs.declared.frame.What.TheVariants as what
+use Rattle.wire.specs.declared.frame.FrameBody.{FrameBody}
+use Rattle.wire.specs.declared.frame.FrameBody.TheVariants as what
 use Rattle.hall_laws.specs.HallRuns.{IsTakenIn}
 use Rattle.hall_laws.proofs.Allowed.{entered_as_asked, entered_where}
 use Rattle.hall_laws.proofs.OwnMessages.{calls_both, no_calls, calls_of_pushes}
@@ -146,7 +146,7 @@ only_learn asks home from to pos (e ∷ es) s h =
     go true later = kept
     go false later = later called kept
 
-only_hand_out : (asks : Entry → Type 0) (home : Home) (o : Option Run) (s : Service)
+only_hand_out : (asks : Entry → Type 0) (home : Home) (o : Option DecidedRun) (s : Service)
     → TakesOnly asks s.done → TakesOnly asks (hand_out home o s).done
 only_hand_out asks home None s h = only_settle asks home s.left s h
 only_hand_out asks home (Some run) s h = only_quiet asks s.done (Answered run ∷ []) refl h
@@ -199,17 +199,18 @@ entered_only home x fates Denied = λ e none. absurd none
 entered_only home x fates Withheld = λ e none. absurd none
 
 -- a frame that enters an entry is a Submit of it
-ours_enter : (from to : ℕ) (w : What) (e : Entry) → ours from to w ≡ Entered e → w ≡ what.Submit e
+ours_enter : (from to : ℕ) (w : FrameBody) (e : Entry) → ours from to w ≡ Entered e
+    → w ≡ what.Submit e
 ours_enter from to (what.Submit f) e is =
     let same : Entered f ≡ Entered e = is in
     let entry : f ≡ e = cc in ap (λ z. what.Submit z) entry
 ours_enter from to _ e is = absurd cc
 
-strange_enter : (w : What) (e : Entry) → strange w ≡ Entered e → w ≡ what.Submit e
+strange_enter : (w : FrameBody) (e : Entry) → strange w ≡ Entered e → w ≡ what.Submit e
 strange_enter (what.Submit f) e is = absurd (let two : Strange ≡ Entered e = is in cc)
 strange_enter _ e is = absurd cc
 
-enters_by : (b : Bool) (from to : ℕ) (w : What) (e : Entry)
+enters_by : (b : Bool) (from to : ℕ) (w : FrameBody) (e : Entry)
     → (if b then ours from to w else strange w) ≡ Entered e → w ≡ what.Submit e
 enters_by true from to w e is = ours_enter from to w e is
 enters_by false from to w e is = strange_enter w e is

@@ -12,6 +12,7 @@ use Rattle.learner.specs.Steps.{IsDesk, step}
 use Rattle.learner.specs.declared.event.DeskEvent.{DeskEvent}
 use Rattle.learner.specs.declared.event.DeskEvent.TheVariants.{Tick, Deliver}
 use Rattle.replica.specs.Handles.{Handles, Takes, FitInFrames}
+use Rattle.replica.specs.Settles.{Settles}
 use Rattle.replica.specs.Lengths.{nothing_told, told_by}
 use Rattle.replica.specs.Nodes.{NodeValue}
 use Rattle.replica.specs.Stores.{HoldsDesk}
@@ -77,6 +78,7 @@ still {K} k keeper d event ms home holds steps told range fits = record {
   uncounted = λ no. refl;
   stored = λ up. holds;
   left = λ up down. absurd (let two : false ≡ true = down in cc);
+  finds = λ honest s log found. inl found;
   honest = λ is. is;
   home = refl;
 }
@@ -89,11 +91,12 @@ still {K} k keeper d event ms home holds steps told range fits = record {
 abbrev pub talk_of : Home → List Frame → ℕ → List ℕ → Talk
 talk_of home waiting frames pending = talk_with home Two waiting frames pending
 
-abbrev pub place_in : {K : Type 0} → (k : Ghosts K) → K → Talk → Place (speaking (Handles k) Two)
+abbrev pub place_in : {K : Type 0} → (k : Ghosts K) → K → Talk
+    → Place (speaking (Handles k) (Settles k) Two)
 place_in k keeper talk = record {
   talk = talk;
   seen = seen_of (first_node keeper);
-  outside = outside_of (speaking (Handles k) Two) (first_node keeper) None;
+  outside = outside_of (speaking (Handles k) (Settles k) Two) (first_node keeper) None;
 }
 
 abbrev pub as_begun : Frame → Begun
@@ -322,8 +325,9 @@ small_run_taken {K} k keeper own = record {
         (with_station w d (station (keeper d) d (talk_of (third_home d) (f ∷ []) 0 [])) [])
     bytes_come d f w ours is new =
         let now = talk_of (third_home d) (f ∷ []) 0 [] in
-        let way = speaking (Handles k) Two in
-        let outside = outside_of (speaking (Handles k) Two) (first_node (keeper d)) None in
+        let way = speaking (Handles k) (Settles k) Two in
+        let outside = outside_of (speaking (Handles k) (Settles k) Two)
+        (first_node (keeper d)) None in
         takes_turn k 3 d w (first_of (Came (spelling f))) (station (keeper d) d now) [] ours
         (sym (ap (λ z. z.wire) new))
         (subst

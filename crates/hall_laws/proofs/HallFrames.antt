@@ -6,6 +6,7 @@ use Rattle.std.proofs.lemmas.List.{append-nil}
 use Rattle.answers.specs.Seen.{Seen}
 use Rattle.learner.specs.Steps.{IsDesk}
 use Rattle.replica.specs.Handles.{Handles}
+use Rattle.replica.specs.Settles.{Settles}
 use Rattle.serving.specs.Asking.{request}
 use Rattle.serving.specs.Connection.{Begun, answer_bytes, close_of, serve_frame}
 use Rattle.serving.specs.Making.{Makes, Outside, Way, outside_of, speaking}
@@ -134,8 +135,8 @@ pub came_at : {K : Type 0} (k : Ghosts K) (x : Station K) (number : ℕ) (f : Fr
     (desk_with x x.talks number (talk_with (home_at k x) x.wire (f ∷ []) 0 [])))
 came_at k x number f is new =
     let waits = talk_with (home_at k x) x.wire (f ∷ []) 0 [] in
-    let way = speaking (Handles k) x.wire in
-    let outside = outside_of (speaking (Handles k) x.wire) x.node x.handed in
+    let way = speaking (Handles k) (Settles k) x.wire in
+    let outside = outside_of (speaking (Handles k) (Settles k) x.wire) x.node x.handed in
     record {
       turn =
           turn_of way (Came (spelling f)) (seen_of x.node) (seen_of x.node) outside outside
@@ -176,9 +177,9 @@ begun_at k x y number f stays served =
     let waits = talk_with (home_at k x) x.wire (f ∷ []) 0 [] in
     let past =
     talk_with (home_at k x) x.wire [] 1 (answer_to (home_at k x) (seen_of x.node) f) in
-    let way = speaking (Handles k) x.wire in
-    let before = outside_of (speaking (Handles k) x.wire) x.node x.handed in
-    let after = outside_of (speaking (Handles k) x.wire) y.node y.handed in
+    let way = speaking (Handles k) (Settles k) x.wire in
+    let before = outside_of (speaking (Handles k) (Settles k) x.wire) x.node x.handed in
+    let after = outside_of (speaking (Handles k) (Settles k) x.wire) y.node y.handed in
     record {
       turn =
           turn_of way (Began (as_it_goes f)) (seen_of x.node) (seen_of y.node) before after
@@ -215,9 +216,10 @@ done_at k x y number f =
     let waits = talk_with (home_at k x) x.wire (f ∷ []) 0 [] in
     let past =
     talk_with (home_at k x) x.wire [] 1 (answer_to (home_at k x) (seen_of x.node) f) in
-    done_of (speaking (Handles k) x.wire) (as_it_goes f) (seen_of x.node) (seen_of y.node)
-    (outside_of (speaking (Handles k) x.wire) x.node x.handed)
-    (outside_of (speaking (Handles k) x.wire) y.node y.handed)
+    done_of (speaking (Handles k) (Settles k) x.wire) (as_it_goes f) (seen_of x.node)
+    (seen_of y.node)
+    (outside_of (speaking (Handles k) (Settles k) x.wire) x.node x.handed)
+    (outside_of (speaking (Handles k) (Settles k) x.wire) y.node y.handed)
     (talks_with x.talks number waits number) (talks_with x.talks number past number) waits past
     (acts_for k x (request (home_at k x) f)) (talk_here x.talks number waits)
     (talk_here x.talks number past) (served_acts k x f)

@@ -1,4 +1,4 @@
--- At every moment of a hall's runs each desk has connections that had no turn, and a run goes on
+-- At every moment of a hall's runs each desk has connections that had no turn, and a run continues
 -- with further steps.
 use Rattle.std.proofs.Common.{◌≡◌, ◌≢◌, refl, sym, ap, subst, ◌∙◌, ℕ, suc, ◌+◌, ◌≤◌, Bool}
 use Rattle.std.proofs.Common.{true, false, eqb, List, [], ◌∷◌, ◌++◌, arith}
@@ -10,7 +10,7 @@ use Rattle.store.specs.declared.home.Home.{Home}
 use Rattle.store.specs.declared.keeper.Keeper.{Ghosts}
 use Rattle.wire.specs.declared.values.Version.{Version}
 use Rattle.hall_laws.specs.HallRuns.{Station, Hall, home_at, HallEvent, TurnAt, TickedAt, OpenedAt}
-use Rattle.hall_laws.specs.HallRuns.{CutAt, acts_of, desk_of, OnlyAt, HallGoes}
+use Rattle.hall_laws.specs.HallRuns.{CutAt, SettledAt, acts_of, desk_of, OnlyAt, HallGoes}
 use Rattle.hall_laws.specs.HallRuns.{HallStep, AreSteps, IsHallRun, hall_after}
 use Rattle.hall_laws.specs.Stops.{CallsAreHappenings, real_run}
 use Rattle.hall_laws.proofs.HallRuns.{first_matches}
@@ -55,6 +55,8 @@ free_here k n (TurnAt d t acts) h g step home free =
     (λ j more. step.turn.others j (not_before j t.number more)) step.wire home free
 free_here k n (TickedAt d one acts) h g step home free =
     free_later k (h.desks d) (g.desks d) 0 (λ j more. step.talks j) step.wire home free
+free_here k n (SettledAt d) h g step home free =
+    free_later k (h.desks d) (g.desks d) 0 (λ j more. step.talks j) step.wire home free
 free_here k n (OpenedAt d) h g step home free = (0, λ j more. step.opened.talks j)
 free_here k n (CutAt d one acts) h g step home free = (0, λ j more. step.opened.talks j)
 
@@ -62,6 +64,7 @@ pub only_of : {K : Type 0} (k : Ghosts K) (n : ℕ) (event : HallEvent) (h g : H
     → HallGoes k n event h g → OnlyAt (desk_of event) (acts_of event) h g
 only_of k n (TurnAt d t acts) h g step = step.only
 only_of k n (TickedAt d one acts) h g step = step.only
+only_of k n (SettledAt d) h g step = step.only
 only_of k n (OpenedAt d) h g step = step.only
 only_of k n (CutAt d one acts) h g step = step.only
 

@@ -1,4 +1,4 @@
--- A hall goes on with Ticks of its desks.
+-- A hall continues with Ticks of its desks.
 use Rattle.std.proofs.Common.{◌≡◌, refl, sym, ap, subst, ◌∙◌, ℕ, ◌&&◌, ◌==◌, Bool, true, map}
 use Rattle.std.proofs.Common.{if◌then◌else◌, List, [], ◌∷◌, ◌++◌, arith}
 use Rattle.std.proofs.lemmas.Bool.Decides.{nat_tests}
@@ -19,7 +19,7 @@ use Rattle.hall_laws.specs.HallRuns.{HallGoes, HallStep, AreSteps, IsHallRun, ha
 use Rattle.hall_laws.proofs.HallFree.{after_both, run_more}
 use Rattle.hall_laws.proofs.HallTurns.{with_station, station_here, only_here, ticks_itself}
 
--- ---- a run that goes on with steps
+-- ---- a run that continues with steps
 
 pub goes_on : {K : Type 0} (k : Ghosts K) (n d : ℕ) (h : Hall K) (ss more : List (HallStep K))
     (events : List HallEvent) (acts : List Act) (y : Station K) (g : Hall K)

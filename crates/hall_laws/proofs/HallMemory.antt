@@ -108,7 +108,7 @@ never_enters from to (Nack b pos promised) e is = absurd cc
 never_enters from to (Behind len) e is = absurd cc
 never_enters from to (Decided pos f) e is = absurd cc
 
--- nobody is told what other desks are handed any more
+-- what other desks are handed is no longer recorded
 pub hands_none : (o : Option (List Push)) (more : List Push) → Hands o None more
 hands_none None more = tt
 hands_none (Some xs) more = tt

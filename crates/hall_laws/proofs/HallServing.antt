@@ -1,4 +1,4 @@
--- A hall goes on by turns as the protocol's turns do: so its desks decide what is queued.
+-- A hall continues by turns as the protocol's turns do: so its desks decide what is queued.
 use Rattle.serving.specs.Asking.{request}
 use Rattle.wire.specs.Ranges.{IsFrame}
 use Rattle.std.proofs.Common.{◌≡◌, inl, inr, refl, sym, ap, subst, ◌∙◌, ℕ, zero, suc, ◌<◌}

@@ -10,21 +10,22 @@ use Rattle.serving.specs.Asking.{request}
 use Rattle.serving.specs.Permissions.{reads}
 use Rattle.std.specs.Io.KnownBytes.{Appends}
 use Rattle.replica.specs.Handles.{Handles}
+use Rattle.replica.specs.Settles.{Settles}
 use Rattle.serving.specs.Connection.{asked, Begun, Sides, answer_bytes, answer_frame}
 use Rattle.serving.specs.Differing.{withheld}
 use Rattle.serving.specs.Connection.{framed_answer, serve_frame}
 use Rattle.serving.specs.Making.{Way, speaking}
 use Rattle.serving.specs.Turns.{LeavesAt}
 use Rattle.serving.specs.TurnLaw.{Began, sides_in}
-use Rattle.serving.specs.declared.ends.End.{End}
-use Rattle.serving.specs.declared.ends.End.TheVariants as end
+use Rattle.serving.specs.declared.ends.ConnectionEnd.{ConnectionEnd}
+use Rattle.serving.specs.declared.ends.ConnectionEnd.TheVariants as end
 use Rattle.connections.specs.Connections.{TurnOf, place_of}
 use Rattle.serving.specs.Serving.{answer}
 use Rattle.store.specs.declared.home.Home.{Home}
 use Rattle.store.specs.declared.keeper.Keeper.{Ghosts}
 use Rattle.wire.specs.declared.frame.Frame.{Frame}
-use Rattle.wire.specs.declared.frame.What.{What}
-use Rattle.wire.specs.declared.frame.What.TheVariants as what
+use Rattle.wire.specs.declared.frame.FrameBody.{FrameBody}
+use Rattle.wire.specs.declared.frame.FrameBody.TheVariants as what
 use Rattle.wire.specs.declared.values.SheetStyle.{SheetStyle as Style}
 use Rattle.wire.specs.declared.values.SheetStyle.TheVariants as layout
 use Rattle.wire.specs.declared.values.Version.{Version}
@@ -38,7 +39,7 @@ use Rattle.hall_laws.proofs.HallRuns.{hall_comes}
 use Rattle.hall_laws.specs.Served.{SheetsAreOfTheLog}
 
 -- a frame that was served whole
-whole_answer : {V : Type 0} (way : Way V) (e : Option End) (home : Home) (a b : Sides way)
+whole_answer : {V : Type 0} (way : Way V) (e : Option ConnectionEnd) (home : Home) (a b : Sides way)
     (one : Begun) (count : ℕ) → LeavesAt e home a b one count → e ≢ Some end.NoMemory
     → Appends a.written b.written (answer_bytes (serve_frame home a.seen one).answers)
 whole_answer way None home a b one count l whole = l.0.answered
@@ -64,7 +65,8 @@ hall_answers_wait {K} k law n h ss at d number one step is serves =
     let a = place_of (connections k x.wire x) number in
     let b = place_of (connections k x.wire y) number in
     let answered =
-    whole_answer (speaking (Handles k) x.wire) b.talk.end a.talk.home (sides_in a a.talk.pending)
+    whole_answer (speaking (Handles k) (Settles k) x.wire) b.talk.end a.talk.home
+    (sides_in a a.talk.pending)
     (sides_in b b.talk.pending) one b.talk.frames turn.turn.turn.1 serves.whole in
     subst
     (λ (home : Home).
@@ -75,20 +77,20 @@ hall_answers_wait {K} k law n h ss at d number one step is serves =
     (λ z. z ++ answer_bytes (serve_frame a.talk.home (seen_of x.node) one).answers)
     turn.turn.turn.0.free.taken)
 
--- every version tells it alike
-abbrev pub IsPlain : What → Type 0
+-- every version spells it alike
+abbrev pub IsPlain : FrameBody → Type 0
 IsPlain (what.Told id s) = ⊥
 IsPlain (what.Refused r) = ⊥
 IsPlain (what.Standing s) = ⊥
 IsPlain _ = Unit {0}
 
-plain_said : (version : Version) (u w : What) → IsPlain w → said_in version u ≡ w → u ≡ w
+plain_said : (version : Version) (u w : FrameBody) → IsPlain w → said_in version u ≡ w → u ≡ w
 plain_said version (what.Told id s) w plain h = absurd (subst IsPlain (sym h) plain)
 plain_said version (what.Refused r) w plain h = absurd (subst IsPlain (sym h) plain)
 plain_said version (what.Standing s) w plain h = absurd (subst IsPlain (sym h) plain)
 plain_said version u w plain h = h
 
-pub framed_is : (version : Version) (home : Home) (o : Option What) (w : What) → IsPlain w
+pub framed_is : (version : Version) (home : Home) (o : Option FrameBody) (w : FrameBody) → IsPlain w
     → framed_answer version home o ≡ answer_frame version home w ∷ [] → o ≡ Some w
 framed_is version home None w plain h =
     absurd (let none : [] ≡ answer_frame version home w ∷ [] = h in cc)

@@ -15,6 +15,7 @@ use Rattle.learner.specs.declared.event.DeskEvent.TheVariants.{Submit, Start, Ti
 use Rattle.learner.proofs.Contents.{messages_append, message_at}
 use Rattle.learner.proofs.InRange.{step_in_range}
 use Rattle.replica.specs.Handles.{Handles, Takes, IsInFrame}
+use Rattle.replica.specs.Settles.{Settles}
 use Rattle.replica.specs.Nodes.{NodeValue}
 use Rattle.replica.specs.declared.roles.fault.NodeFault.{NodeFault}
 use Rattle.replica.specs.declared.roles.fault.NodeFault.TheVariants.{Down}
@@ -181,10 +182,10 @@ sound_turn hall n d t acts h g w m step up taken s =
     y : Station Memory
     y = g.desks d
 
-    a : Place (speaking (Handles memory) x.wire)
+    a : Place (speaking (Handles memory) (Settles memory) x.wire)
     a = place_of (connections memory x.wire x) t.number
 
-    b : Place (speaking (Handles memory) x.wire)
+    b : Place (speaking (Handles memory) (Settles memory) x.wire)
     b = place_of (connections memory x.wire y) t.number
 
     own : SoundAt (home_of hall n d) x.node

@@ -120,7 +120,7 @@ entry_grown : (home : Home) (x : Seen) (e : Entry) (s : Service)
 entry_grown home x e s (Ok ms) same grown = has_start home s
 entry_grown home x e s (Err why) same grown = absurd (not_grown x s.seen (same why refl) grown)
 
--- a call that was refused takes nothing
+-- a call that was refused adds nothing
 none_taken : (e : Entry) (why : NodeFault)
     → IsTakenIn e (calls_of (Called (Submit e) (Err why) ∷ [])) → ⊥
 none_taken e why (inl is) = let two = is.1 in cc

@@ -10,6 +10,7 @@ use Rattle.learner.specs.Ranges.{AreInRange}
 use Rattle.learner.specs.Steps.{IsDesk, step}
 use Rattle.learner.specs.Worlds.{World, put}
 use Rattle.replica.specs.Handles.{Handles}
+use Rattle.replica.specs.Settles.{Settles}
 use Rattle.replica.specs.Nodes.{NodeValue}
 use Rattle.replica.specs.Stores.{HoldsStep}
 use Rattle.serving.specs.Connection.{asked, Begun, serve_frame}
@@ -20,8 +21,8 @@ use Rattle.connections.specs.Connections.{TurnOf, place_of}
 use Rattle.store.specs.declared.home.Home.{Home}
 use Rattle.store.specs.declared.keeper.Keeper.{Ghosts}
 use Rattle.hall_laws.specs.HallRuns.{Station, Hall, home_at, seen_of, connections, HallEvent}
-use Rattle.hall_laws.specs.HallRuns.{TurnAt, TickedAt, OpenedAt, CutAt, acts_of, OnlyAt}
-use Rattle.hall_laws.specs.HallRuns.{TurnWasSent, TakesTurn, TicksItself}
+use Rattle.hall_laws.specs.HallRuns.{TurnAt, TickedAt, SettledAt, OpenedAt, CutAt, acts_of, OnlyAt}
+use Rattle.hall_laws.specs.HallRuns.{TurnWasSent, TakesTurn, TicksItself, SettlesAt}
 use Rattle.hall_laws.specs.HallRuns.{IsOpened, IsSameStore, OpensAgain, StopsInSave, IsCut}
 use Rattle.hall_laws.specs.HallRuns.{HallGoes}
 use Rattle.hall_laws.specs.HallRuns.{IsTakenIn, Enters, desk_of}
@@ -35,6 +36,7 @@ use Rattle.hall_laws.proofs.HallEntries.{frame_enters, tick_takes_none}
 use Rattle.hall_laws.proofs.OwnMessages.{front_sent, one_frame, sent_later, calls_both}
 use Rattle.hall_laws.proofs.Putting.{put_here}
 use Rattle.hall_laws.proofs.Running.{HasSubmit, submit_in, CallsCome, calls_come, run_both}
+use Rattle.hall_laws.proofs.Running.{same_world}
 use Rattle.hall_laws.proofs.Running.{with_both}
 
 -- ---- a hall and its world
@@ -177,10 +179,10 @@ turn_comes {K} k law n d t acts h g w m step =
     own : MatchesAt k n d w x
     own = m.here d step.ours
 
-    a : Place (speaking (Handles k) x.wire)
+    a : Place (speaking (Handles k) (Settles k) x.wire)
     a = place_of (connections k x.wire x) t.number
 
-    b : Place (speaking (Handles k) x.wire)
+    b : Place (speaking (Handles k) (Settles k) x.wire)
     b = place_of (connections k x.wire y) t.number
 
     does : Does t.turn a b acts w.sent
@@ -256,6 +258,30 @@ tick_comes {K} k law n d one acts h g w m step =
     talks j =
         ap (λ z. z.home) (step.talks j) ∙ own.talks j
         ∙ sym (home_after k (calls_of acts) x.node y.node lead)
+
+-- ---- a settling
+
+settling_comes : {K : Type 0} (k : Ghosts K) (n d : ℕ) (h g : Hall K) (w : World)
+    → Matches k n h w → SettlesAt k n d h g → StepComes k n (SettledAt d) g w
+settling_comes k n d h g w m step =
+    let x = h.desks d in
+    let y = g.desks d in
+    let own = m.here d step.ours in
+    comes k n (SettledAt d) h g w [] m step.only
+    (record {
+      stands =
+          record {
+            ours = own.stands.ours;
+            desks = ap (λ u. u.desks) step.settles.home ∙ own.stands.desks;
+            desk = ap (λ u. u.desk) step.settles.home ∙ own.stands.desk;
+            known = sym (put_here w.desks d y.node.desk);
+          };
+      kept = inl (step.settles.stored step.settles.down);
+      talks = λ j.
+          ap (λ z. z.home) (step.talks j) ∙ own.talks j ∙ sym step.settles.home;
+    })
+    (same_world w d y.node.desk (step.settles.desk ∙ own.stands.known))
+    (λ e has. absurd has) tt
 
 -- ---- an opening
 
@@ -376,7 +402,7 @@ cut_comes {K} k law n d one acts h g w m cut =
         (cut.opened.opens.loaded cut.opened.honest)
         (cut.opened.opens.honest cut.opened.honest) cut.opened.opens.first
 
-    by_store : (IsSameStore k z.keeper cut.keeper ⊎ StopsInSave k z cut.keeper cut.rest)
+    by_store : (IsSameStore k z.keeper cut.keeper y.node.desk ⊎ StopsInSave k z cut.keeper cut.rest)
         → Reopens n d between y.node
     by_store (inl same) =
         reopens k n d between z cut.keeper y.node stands
@@ -387,7 +413,7 @@ cut_comes {K} k law n d one acts h g w m cut =
     again : Reopens n d between y.node
     again = by_store cut.store
 
-    home_by : (IsSameStore k z.keeper cut.keeper ⊎ StopsInSave k z cut.keeper cut.rest)
+    home_by : (IsSameStore k z.keeper cut.keeper y.node.desk ⊎ StopsInSave k z cut.keeper cut.rest)
         → k.home_of cut.keeper ≡ k.home_of z.keeper
     home_by (inl same) = same.home
     home_by (inr stop) = stop.home
@@ -424,5 +450,6 @@ pub step_comes : {K : Type 0} (k : Ghosts K) → CallsAreHappenings k → (n : �
     → Matches k n h w → HallGoes k n event h g → StepComes k n event g w
 step_comes k law n (TurnAt d t acts) h g w m step = turn_comes k law n d t acts h g w m step
 step_comes k law n (TickedAt d one acts) h g w m step = tick_comes k law n d one acts h g w m step
+step_comes k law n (SettledAt d) h g w m step = settling_comes k n d h g w m step
 step_comes k law n (OpenedAt d) h g w m step = opening_comes k n d h g w m step
 step_comes k law n (CutAt d one acts) h g w m step = cut_comes k law n d one acts h g w m step

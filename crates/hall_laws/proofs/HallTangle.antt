@@ -291,6 +291,7 @@ is_opened = record {
         same = λ honest s log keeps. (sym keeps.0, sym keeps.1);
         stored = λ honest.
             record { holds = (refl, refl); only = λ t more may. may; whole = λ never. never };
+        settled = tt;
         honest = λ honest. honest;
         home = refl;
       };

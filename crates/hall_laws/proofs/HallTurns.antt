@@ -1,27 +1,28 @@
 -- Each turn of a desk is an event of its hall.
-use Rattle.std.proofs.Common.{◌≡◌, refl, sym, ap, subst, ◌∙◌, ℕ, Bool}
+use Rattle.std.proofs.Common.{◌≡◌, refl, sym, ap, subst, ◌∙◌, ℕ, Bool, true}
 use Rattle.std.proofs.Common.{if◌then◌else◌, eqb, List, [], ◌++◌, Option, None, Some}
 use Rattle.std.proofs.lemmas.Bool.{eq-eqb, ne_eqb}
 use Rattle.learner.specs.Steps.{IsDesk}
 use Rattle.replica.specs.Handles.{Handles}
+use Rattle.replica.specs.Settles.{Settles}
 use Rattle.serving.specs.Connection.{Begun, Sides, serve_frame}
 use Rattle.serving.specs.Making.{Makes, Way, speaking}
 use Rattle.serving.specs.Serving.{Act}
 use Rattle.serving.specs.Turns.{LeavesAt}
 use Rattle.serving.specs.TurnLaw.{Place, Turn, Came, Began, Rested, Took, Turns, sides_in}
-use Rattle.serving.specs.declared.ends.End.{End}
-use Rattle.serving.specs.declared.ends.End.TheVariants as end
+use Rattle.serving.specs.declared.ends.ConnectionEnd.{ConnectionEnd}
+use Rattle.serving.specs.declared.ends.ConnectionEnd.TheVariants as end
 use Rattle.connections.specs.Connections.{TurnOf, Goes, place_of}
 use Rattle.store.specs.declared.home.Home.{Home}
 use Rattle.store.specs.declared.keeper.Keeper.{Ghosts}
 use Rattle.hall_laws.specs.HallRuns.{Station, Hall, home_at, connections, OnlyAt}
 use Rattle.hall_laws.specs.HallRuns.{AreDoneFor, AreDone}
 use Rattle.hall_laws.specs.HallRuns.{TakesTurn, TurnsAreEvents, TurnWasSent, seen_of, beside}
-use Rattle.hall_laws.specs.HallRuns.{IsTick, TicksItself, OwnTicksAreEvents}
+use Rattle.hall_laws.specs.HallRuns.{IsTick, TicksItself, OwnTicksAreEvents, SettlingsAreEvents}
 use Rattle.hall_laws.specs.OwnMessages.{sent_after}
 
 -- what was done for a frame
-frame_done : {V : Type 0} (way : Way V) (e : Option End) (home : Home) (a b : Sides way)
+frame_done : {V : Type 0} (way : Way V) (e : Option ConnectionEnd) (home : Home) (a b : Sides way)
     (one : Begun) (count : ℕ) → LeavesAt e home a b one count
     → (acts : List Act) × AreDoneFor e home a b one acts
 frame_done way None home a b one count l = ((serve_frame home a.seen one).acts, refl)
@@ -96,7 +97,8 @@ pub turns_are_events : {K : Type 0} (k : Ghosts K) → TurnsAreEvents k
 turns_are_events {K} k n d h t y ours wire goes was =
     let x = h.desks d in
     let done =
-    turn_done (speaking (Handles k) x.wire) t.turn (place_of (connections k x.wire x) t.number)
+    turn_done (speaking (Handles k) (Settles k) x.wire) t.turn
+    (place_of (connections k x.wire x) t.number)
     (place_of (connections k x.wire y) t.number) goes.turn in (
       done.0,
       with_station h d y done.0,
@@ -138,3 +140,20 @@ own_ticks_are_events k n d h one acts rest y ours wire talks asked parts made = 
   station_here h d y acts,
   ticks_itself k n d h one acts rest y ours wire talks asked parts made,
 )
+
+-- ---- settlings
+
+pub settlings_are_events : {K : Type 0} (k : Ghosts K) → SettlingsAreEvents k
+settlings_are_events {K} k n d h y ours wire talks settles =
+    let here = station_here h d y [] in (
+      with_station h d y [],
+      here,
+      record {
+        ours = ours;
+        settles =
+            subst (λ (z : Station K). Settles k (h.desks d).node true z.node) (sym here) settles;
+        talks = λ j. ap (λ (z : Station K). z.talks j) here ∙ talks j;
+        wire = ap (λ (z : Station K). z.wire) here ∙ wire;
+        only = only_here h d y [];
+      },
+    )

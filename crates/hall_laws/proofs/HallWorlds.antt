@@ -1,4 +1,4 @@
--- A hall that goes on comes to the world in which its desk has served.
+-- A hall that continues comes to the world in which its desk has served.
 use Rattle.std.proofs.Common.{◌≡◌, sym, ap, subst, ◌∙◌, ℕ, Bool, true, false, eqb, refl}
 use Rattle.std.proofs.Common.{[], ◌++◌}
 use Rattle.std.proofs.lemmas.Bool.{eqb-true, eqb-false}

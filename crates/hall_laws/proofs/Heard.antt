@@ -9,8 +9,8 @@ use Rattle.acceptor.specs.declared.entry.Entry.{Entry}
 use Rattle.mirror.proofs.Overlaps.{other_entry, same_entry}
 use Rattle.serving.specs.Differing.{hears, is_other, other_from, shorter, what_differs}
 use Rattle.wire.specs.declared.frame.Frame.{Frame}
-use Rattle.wire.specs.declared.frame.What.{What}
-use Rattle.wire.specs.declared.frame.What.TheVariants as what
+use Rattle.wire.specs.declared.frame.FrameBody.{FrameBody}
+use Rattle.wire.specs.declared.frame.FrameBody.TheVariants as what
 use Rattle.wire.specs.declared.standing.Difference.{Difference}
 use Rattle.wire.specs.declared.standing.Difference.TheVariants.{OtherEntry, Shorter}
 use Rattle.hall_laws.specs.Differing.{DifferencesAreFound, DifferencesAreHeard, TellsOther}
@@ -36,7 +36,7 @@ is_other_there told there other = go (is_same_entry there told) refl
     go false h = refl
     go true h = absurd (other (same_entry there told h))
 
--- one of the entries that are told from a position on is another one than is there
+-- one of the entries that are reported from a position on is another one than is there
 abbrev IsOtherAt : ℕ → ℕ → List Entry → List Entry → Difference → Type 0
 IsOtherAt desk pos es log d =
     (index : ℕ) × (told : Entry) × (there : Entry)
@@ -135,7 +135,7 @@ shorter_found desk len known below = go (nat_lt len (slice_index known (desk - 1
 abbrev Heard : List Entry → List ℕ → Frame → Difference → Type 0
 Heard log known f d = TellsOther log f d ⊎ TellsShorter known f d
 
-what_heard : (log : List Entry) (known : List ℕ) (f : Frame) (d : Difference) (w : What)
+what_heard : (log : List Entry) (known : List ℕ) (f : Frame) (d : Difference) (w : FrameBody)
     → f.what ≡ w → what_differs f.from w log known ≡ Some d → Heard log known f d
 what_heard log known f d (what.Decided pos es) body is =
     let other = other_heard f.from pos es log d is in
@@ -192,8 +192,8 @@ differences_are_found home may log known f d heard tells =
   where
     go : Heard log known f d → IsSome (what_differs f.from f.what log known)
     go (inl t) =
-        subst (λ (w : What). IsSome (what_differs f.from w log known)) (sym t.body)
+        subst (λ (w : FrameBody). IsSome (what_differs f.from w log known)) (sym t.body)
         (other_found f.from t.first t.index t.entries log t.told t.there t.has t.stands t.other)
     go (inr t) =
-        subst (λ (w : What). IsSome (what_differs f.from w log known)) (sym t.body)
+        subst (λ (w : FrameBody). IsSome (what_differs f.from w log known)) (sym t.body)
         (shorter_found f.from t.len known t.below)

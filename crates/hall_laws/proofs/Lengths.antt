@@ -28,7 +28,7 @@ use Rattle.hall_laws.proofs.Saying.{AllSay, Says, StepSays, step_says, tells_no_
 
 -- ---- lists of messages
 
--- what was told is no more than the log of the desk that told it
+-- what was reported is no more than the log of the desk that reported it
 abbrev pub AreTold : (ℕ → Desk) → List Message → Type 0
 AreTold desks [] = Unit {0}
 AreTold desks (m ∷ ms) =
@@ -51,7 +51,7 @@ none_both : (m : Message) (xs ys : List Message) → NoneIsLess m xs → NoneIsL
 none_both m [] ys h k = k
 none_both m (x ∷ xs) ys h k = (h.0, none_both m xs ys h.1 k)
 
--- what desk d of n sends with a log of this length is no less than what it told by then
+-- what desk d of n sends with a log of this length is no less than what it reported by then
 new_none : (n d top : ℕ) (m : Message) (ms : List Message)
     → (m.from ≡ d → length_told m.body ≤ top) → AllSay top ms → AreInRange n d ms
     → NoneIsLess m ms
@@ -230,7 +230,7 @@ run_grows stay n w (x ∷ hs) ranged h =
     run_grows stay n (goes_on n w x) hs (λ i. ranged (suc i))
     (going_grows stay n w x (ranged 0) h)
 
--- so it is behind any happenings
+-- so it is after any happenings
 pub real_grown : StepsStayInRange → StopsMakeARun → DesksAreInRange → (n : ℕ)
     (hs : List Happening) → IsGrown (real_run n new_world hs)
 real_grown stay stops range n hs =

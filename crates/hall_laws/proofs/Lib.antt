@@ -16,6 +16,8 @@ pub mod Pushes
 pub mod HallDesks
 pub mod HallSteps
 pub mod HallRuns
+pub mod Lost
+pub mod Losses
 pub mod HallSheets
 pub mod HallTurns
 pub mod HallEntries

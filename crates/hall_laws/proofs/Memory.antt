@@ -1,7 +1,7 @@
 -- What a desk over a keeper that never fails does at a call.
 use Rattle.std.proofs.Common.{◌≡◌, refl, sym, ap, subst, ◌∙◌, ℕ, zero, suc, Bool, true, false}
 use Rattle.std.proofs.Common.{if◌then◌else◌, List, [], ◌∷◌, Option, Some, None, Result, Ok}
-use Rattle.std.proofs.Common.{Err, arith}
+use Rattle.std.proofs.Common.{Err, inl, inr, arith}
 use Rattle.std.specs.Prelude.{⊤}
 use Rattle.acceptor.specs.declared.message.Message.{Message}
 use Rattle.acceptor.specs.declared.message.Body.{Body}
@@ -160,6 +160,7 @@ takes x event r is ours range holds works = record {
   uncounted = λ no. refl;
   stored = λ up honest. record { holds = (refl, refl); only = λ t more may. may; whole = λ no. no };
   left = λ up down. absurd (let two : false ≡ true = down in cc);
+  finds = λ honest s log found. inr (tt, found);
   honest = λ honest. honest;
   home = refl;
 }
@@ -198,6 +199,7 @@ refuses x event why is works = record {
         whole = λ no. no;
       };
   left = λ up down. absurd (let two : false ≡ true = sym works.up ∙ down in cc);
+  finds = λ honest s log found. inl found;
   honest = λ honest. honest;
   home = refl;
 }

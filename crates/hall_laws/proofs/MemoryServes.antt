@@ -28,7 +28,7 @@ use Rattle.serving.specs.Serving.{to_others, push_all, waits, deliver, settle_by
 use Rattle.serving.specs.Serving.{start_if_grown, take as take_event, decided, learn, learn_all}
 use Rattle.serving.specs.Serving.{hand_out, answer_out, tell, entered_by, enter}
 use Rattle.serving.specs.Telling.{run_of}
-use Rattle.serving.specs.declared.request.Run.{Run}
+use Rattle.serving.specs.declared.request.DecidedRun.{DecidedRun}
 use Rattle.store.specs.declared.home.Home.{Home}
 use Rattle.hall_laws.specs.HallRuns.{seen_of}
 use Rattle.hall_laws.specs.Memory.{Memory, memory}
@@ -269,7 +269,7 @@ led_tell home ours a m s fine l =
     was : Led home a first
     was = led_call home ours a s (Deliver m) fine l
 
-    go : (o : Option Run) → Led home a (hand_out home o first)
+    go : (o : Option DecidedRun) → Led home a (hand_out home o first)
     go None = led_settle home ours a first.left first was
     go (Some run) = led_quiet home a first [] first.left (Answered run ∷ []) refl tt was
 

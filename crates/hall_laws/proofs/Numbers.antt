@@ -28,7 +28,7 @@ use Rattle.proposer.specs.Proposing.{tick_idle, wants_ballot, was_heard}
 use Rattle.proposer.specs.declared.fault.Refusal.{Refusal}
 use Rattle.proposer.specs.declared.fault.Refusal.TheVariants.{BallotsSpent}
 use Rattle.proposer.specs.declared.plan.Plan.{Plan}
-use Rattle.proposer.specs.declared.role.Heard.{Heard}
+use Rattle.proposer.specs.declared.role.PromisingDesk.{PromisingDesk}
 use Rattle.proposer.specs.declared.role.Role.{Role}
 use Rattle.proposer.specs.declared.role.Role.TheVariants.{Idle, Gathering, Proposing, Leading}
 
@@ -136,7 +136,7 @@ propose_low n d p b pos (Some e) low = record { seen = low; change = tt }
 promise_low : (n d : ℕ) (p : Passing) (role : Role) (from : ℕ) (b : Ballot) (pos : ℕ)
     (vote : Option Report) → IsLow p.seen → PlanIsLow (promise_by_role n d p role from b pos vote)
 promise_low n d p (Gathering own at heard) from b pos vote low =
-    let more : List Heard = record { desk = from; vote = vote } ∷ heard in
+    let more : List PromisingDesk = record { desk = from; vote = vote } ∷ heard in
     pick (is_same own b) _ _
     (pick (at == pos) _ _
     (pick (was_heard heard from) _ _ (says p [] low)

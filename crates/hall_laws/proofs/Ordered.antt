@@ -30,8 +30,8 @@ use Rattle.store.specs.declared.home.Home.{Home}
 use Rattle.store.specs.declared.keeper.Keeper.{Ghosts}
 use Rattle.wire.specs.Ranges.{IsBody, IsCount, IsFrame}
 use Rattle.wire.specs.declared.frame.Frame.{Frame}
-use Rattle.wire.specs.declared.frame.What.{What}
-use Rattle.wire.specs.declared.frame.What.TheVariants as what
+use Rattle.wire.specs.declared.frame.FrameBody.{FrameBody}
+use Rattle.wire.specs.declared.frame.FrameBody.TheVariants as what
 use Rattle.wire.specs.declared.standing.Difference.TheVariants.{Shorter}
 use Rattle.wire.specs.declared.values.Version.{Version}
 use Rattle.wire.specs.declared.values.Version.TheVariants.{One, Two, Three, Four, Five}
@@ -41,7 +41,7 @@ use Rattle.hall_laws.specs.Differing.{HallLengthsGrow, HallNeverDiffers}
 use Rattle.hall_laws.specs.Differing.{HallRunsAgree, IsBrought, IsGiven, IsHeardIn, WasHeard}
 use Rattle.hall_laws.specs.Differing.{WereSentInOrder, known_behind}
 use Rattle.hall_laws.specs.HallRuns.{AreSteps, CutAt, Hall, HallEvent, HallGoes, HallStep}
-use Rattle.hall_laws.specs.HallRuns.{OnlyAt, OpenedAt, Station, TickedAt, TurnAt}
+use Rattle.hall_laws.specs.HallRuns.{OnlyAt, OpenedAt, SettledAt, Station, TickedAt, TurnAt}
 use Rattle.hall_laws.specs.HallRuns.{TurnWasSent, acts_of, connections, desk_of, hall_after}
 use Rattle.hall_laws.specs.HallRuns.{hall_log, home_at}
 use Rattle.hall_laws.specs.OwnMessages.{WereSentTo}
@@ -96,9 +96,9 @@ nothing_bounded p top = go (p - 1)
     go (suc (suc (suc (suc zero)))) = omega arith
     go (suc (suc (suc (suc (suc j))))) = omega arith
 
--- ---- what a node was told
+-- ---- what a node heard
 
--- what desk p said in these tells no more
+-- no message of desk p among these reports a longer log
 abbrev HeardAtMost : ℕ → ℕ → List Call → Type 0
 HeardAtMost p top calls =
     (m : Message) → IsHeardIn m calls → m.from ≡ p → length_told m.body ≤ top
@@ -144,7 +144,7 @@ calls_bounded k p top (c ∷ cs) x y some lead h heard =
 
 -- ---- in a hall
 
--- what desk d was told of desk p
+-- what desk d heard of desk p
 abbrev ToldAtMost : {K : Type 0} → ℕ → ℕ → ℕ → Hall K → Type 0
 ToldAtMost d p top h = Bounded p top (h.desks d).node.told
 
@@ -182,6 +182,11 @@ step_bounded k n d p top (TickedAt e one acts) h g w some m step told heard =
     (λ same.
     calls_bounded k p top (calls_of acts) (h.desks e).node (g.desks e).node some step.made.calls
     (subst (λ (j : ℕ). ToldAtMost j p top h) (sym same) told) (heard same))
+step_bounded k n d p top (SettledAt e) h g w some m step told heard =
+    at_desk_or_not d e p top [] h g step.only told
+    (λ same.
+    subst (λ (known : List ℕ). Bounded p top known) (sym step.settles.told)
+    (subst (λ (j : ℕ). ToldAtMost j p top h) (sym same) told))
 step_bounded k n d p top (OpenedAt e) h g w some m step told heard =
     at_desk_or_not d e p top [] h g step.only told
     (λ same.
@@ -225,11 +230,11 @@ steps_bounded {K} k law n d p top (suc j) h w (s ∷ ss) some m steps told heard
 -- ---- on a connection
 
 -- what is asked by a frame for this desk
-asks : (home : Home) (f : Frame) (w : What) → is_ours home f ≡ true → f.what ≡ w
+asks : (home : Home) (f : Frame) (w : FrameBody) → is_ours home f ≡ true → f.what ≡ w
     → request home f ≡ ours f.from f.to w
 asks home f w here is =
     ap (λ (t : Bool). if t then ours f.from f.to f.what else strange f.what) here
-    ∙ ap (λ (z : What). ours f.from f.to z) is
+    ∙ ap (λ (z : FrameBody). ours f.from f.to z) is
 
 some_entries : (v : Version) (n : ℕ) → IsCount v n → 1 ≤ n
 some_entries One n h = omega arith
@@ -238,7 +243,7 @@ some_entries Three n h = h.0
 some_entries Four n h = h.0
 some_entries Five n h = h.0
 
--- the last of the entries tells how long the log is
+-- the last of the entries says how long the log is
 last_given : (from to pos : ℕ) (es : List Entry) → 1 ≤ length es
     → (m : Message) × IsGiven m (decided_each from to pos es) × (m.from ≡ from)
     × (length_told m.body ≡ pos + length es)
@@ -251,14 +256,14 @@ last_given from to pos (e ∷ f ∷ es) h =
     let end : pos + 1 + length (f ∷ es) ≡ pos + length (e ∷ f ∷ es) = omega arith in
     (more.0, inr more.1, more.2, more.3 ∙ end)
 
--- what a frame says of its sender's log is what one of its messages tells
+-- what a frame says of its sender's log is what one of its messages says
 frame_bounded : (home : Home) (f : Frame) (top : ℕ) → is_ours home f ≡ true → IsFrame f
     → ((m : Message) → IsGiven m (delivers (request home f)) → m.from ≡ f.from
     → length_told m.body ≤ top)
-    → (w : What) → f.what ≡ w → length_said w ≤ top
+    → (w : FrameBody) → f.what ≡ w → length_said w ≤ top
 frame_bounded home f top here spelled tells (what.Decided pos es) is =
     let counted : IsCount f.version (length es) =
-    (subst (λ (w : What). IsBody f.version w) is spelled.body).0 in
+    (subst (λ (w : FrameBody). IsBody f.version w) is spelled.body).0 in
     let last = last_given f.from f.to pos es (some_entries f.version (length es) counted) in
     let given : IsGiven last.0 (delivers (request home f)) =
     subst (λ (r : Request). IsGiven last.0 (delivers r))
@@ -338,7 +343,7 @@ frame_alike : (f : Frame) (log : List Entry) (known : List ℕ)
     → ((pos : ℕ) (es : List Entry) → f.what ≡ what.Decided pos es
     → other_from f.from pos es log ≡ None)
     → ((len : ℕ) → f.what ≡ what.Behind len → shorter f.from len known ≡ None)
-    → (w : What) → f.what ≡ w → what_differs f.from w log known ≡ None
+    → (w : FrameBody) → f.what ≡ w → what_differs f.from w log known ≡ None
 frame_alike f log known runs lengths (what.Decided pos es) is = runs pos es is
 frame_alike f log known runs lengths (what.Behind len) is = lengths len is
 frame_alike f log known runs lengths (what.Prepare b pos) is = refl

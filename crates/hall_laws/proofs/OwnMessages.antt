@@ -29,7 +29,7 @@ use Rattle.serving.specs.declared.request.Request.TheVariants.{Heard, Lagging, L
 use Rattle.serving.specs.declared.request.Request.TheVariants.{Asked, Printed, Ticked, Stopped}
 use Rattle.serving.specs.declared.request.Request.TheVariants.{Inspected, Copied, Strange, Ignored}
 use Rattle.serving.specs.declared.request.Request.TheVariants.{Denied, Withheld}
-use Rattle.serving.specs.declared.request.Run.{Run}
+use Rattle.serving.specs.declared.request.DecidedRun.{DecidedRun}
 use Rattle.hall_laws.specs.Arriving.{decided_each, delivers}
 use Rattle.hall_laws.specs.OwnMessages.{WereSentTo, OwnMessagesWereSent, sent_after}
 use Rattle.hall_laws.specs.OwnMessages.{FramesWereSent, FrontsWereSent}
@@ -280,7 +280,7 @@ keeps_learn home sent from to pos (e ∷ es) s h is =
     keeps_if home.desk sent called.seen.is_down called (learn home from to (pos + 1) es called) kept
     (keeps_learn home sent from to (pos + 1) es called kept is.1)
 
-keeps_learn_all : (home : Home) (sent : List Message) (run : Run) (s : Service)
+keeps_learn_all : (home : Home) (sent : List Message) (run : DecidedRun) (s : Service)
     → Keeps home.desk sent s
     → WereSentTo home.desk sent (decided_each run.from run.to run.pos run.entries)
     → Keeps home.desk sent (learn_all home run s)
@@ -291,7 +291,7 @@ keeps_learn_all home sent run s h is =
     (keeps_settle home sent s.left learned
     (keeps_learn home sent run.from run.to run.pos run.entries s h is))
 
-keeps_hand_out : (home : Home) (sent : List Message) (o : Option Run) (s : Service)
+keeps_hand_out : (home : Home) (sent : List Message) (o : Option DecidedRun) (s : Service)
     → Keeps home.desk sent s → Keeps home.desk sent (hand_out home o s)
 keeps_hand_out home sent None s h = keeps_settle home sent s.left s h
 keeps_hand_out home sent (Some run) s h =

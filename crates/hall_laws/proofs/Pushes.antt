@@ -13,7 +13,7 @@ use Rattle.serving.specs.Nodes.{Fate}
 use Rattle.serving.specs.Serving.{Act, Service, to_others, waiting_after, reply_to, call, begun}
 use Rattle.serving.specs.Serving.{tell}
 use Rattle.serving.specs.Telling.{run_of}
-use Rattle.serving.specs.declared.request.Run.{Run}
+use Rattle.serving.specs.declared.request.DecidedRun.{DecidedRun}
 use Rattle.serving.specs.declared.request.Request.{Request}
 use Rattle.serving.specs.declared.request.Request.TheVariants.{Heard, Lagging, Learned, Entered}
 use Rattle.serving.specs.declared.request.Request.TheVariants.{Asked, Printed, Ticked, Stopped}
@@ -30,7 +30,7 @@ use Rattle.hall_laws.proofs.Following.{follows_take, follows_enter, follows_tell
 use Rattle.hall_laws.proofs.Events.{given, one_given, all_learnt, learns_nothing}
 
 -- what was pushed, and then what was lost, is what was due
-settled_whole : (home : Home) (r : Request) (s : Service) (runs : List Run)
+settled_whole : (home : Home) (r : Request) (s : Service) (runs : List DecidedRun)
     → (h : Settled home.desk (left_out r) runs s)
     → pushed_messages s.done ++ h.keeps.lost ≡ due home r s.done
 settled_whole home r s runs h =
@@ -38,7 +38,7 @@ settled_whole home r s runs h =
     ∙ ap (λ z. (pushed_messages s.done ++ to_others home.desk z) ++ h.keeps.lost) (sym h.none)
     ∙ h.keeps.whole
 
-are_pushed : (home : Home) (r : Request) (s : Service) (runs : List Run)
+are_pushed : (home : Home) (r : Request) (s : Service) (runs : List DecidedRun)
     → Settled home.desk (left_out r) runs s → ArePushed home r s
 are_pushed home r s runs h = record {
   while_up =

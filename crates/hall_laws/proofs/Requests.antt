@@ -17,7 +17,7 @@ use Rattle.serving.specs.Serving.{reply_to, call, to_others, waits, settle_by, s
 use Rattle.serving.specs.Serving.{decided, learn, learn_all, hand_out, answer_out, tell, entered_by}
 use Rattle.serving.specs.Serving.{enter, begun}
 use Rattle.serving.specs.Telling.{run_of}
-use Rattle.serving.specs.declared.request.Run.{Run}
+use Rattle.serving.specs.declared.request.DecidedRun.{DecidedRun}
 use Rattle.store.specs.declared.home.Home.{Home}
 use Rattle.hall_laws.specs.Pushing.{handed, said_by, pushed_messages, runs_pushed, as_list}
 use Rattle.hall_laws.proofs.Senders.{AllFrom, body_from, run_says}
@@ -91,13 +91,15 @@ delivered_from home x m fate = go x.is_down fate
     go false Starves = tt
     go false Breaks = tt
 
-no_run_of_none : (d : ℕ) (ms : List Message) (run : Run) → ms ≡ [] → run_of d ms ≡ Some run → ⊥
+no_run_of_none : (d : ℕ) (ms : List Message) (run : DecidedRun) → ms ≡ [] → run_of d ms ≡ Some run
+    → ⊥
 unfolding run_of
 no_run_of_none d ms run empty is =
     let two : None ≡ Some run = sym (ap (λ z. run_of d z) empty) ∙ is in cc
 
 -- a run takes the place of what waits
-answers : (d : ℕ) (s : Service) (run : Run) → AllFrom d s.waiting → run_of d s.waiting ≡ Some run
+answers : (d : ℕ) (s : Service) (run : DecidedRun) → AllFrom d s.waiting
+    → run_of d s.waiting ≡ Some run
     → Keeps d 0 [] s
     → Settled d 0 (run ∷ []) (record {
       seen = s.seen;
@@ -140,7 +142,7 @@ answers_out : (home : Home) (s : Service) → AllFrom home.desk s.waiting → Ke
 unfolding answer_out
 answers_out home s ours k = go (run_of home.desk s.waiting) refl
   where
-    go : (o : Option Run) → run_of home.desk s.waiting ≡ o
+    go : (o : Option DecidedRun) → run_of home.desk s.waiting ≡ o
         → Settled home.desk 0 (as_list o) (hand_out home o s)
     go None is = settles home 0 [] s.left s k
     go (Some run) is = answers home.desk s run ours is k
@@ -207,7 +209,7 @@ call_none_at_down home event s none is =
     (reply_to home event s).result
     (reply_fits home s.seen event (first_fate s.fates)) is
 
--- nothing was pushed, nothing waits, and nothing was handed out behind the first n acts
+-- nothing was pushed, nothing waits, and nothing was handed out after the first n acts
 keeps_nothing : (d n : ℕ) (s : Service) → OnlyCalls s → to_others d s.waiting ≡ []
     → length s.done ≤ n → ((n ≤ length s.done) ⊎ (s.seen.is_down ≡ true)) → Keeps d n [] s
 keeps_nothing d n s only none short enough =
@@ -284,7 +286,7 @@ learns_first home n from to pos (e ∷ es) x fates is =
     })
     (omega arith)
 
-pub learns : (home : Home) (run : Run) (x : Seen) (fates : List Fate)
+pub learns : (home : Home) (run : DecidedRun) (x : Seen) (fates : List Fate)
     → Settled home.desk (length run.entries - 1) [] (learn_all home run (begun x fates))
 unfolding learn_all
 learns home run x fates =

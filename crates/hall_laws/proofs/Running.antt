@@ -22,8 +22,8 @@ use Rattle.hall_laws.specs.Stops.{CallsAreHappenings}
 use Rattle.hall_laws.proofs.Putting.{put_here, put_put}
 use Rattle.hall.proofs.world.Places.{put_same}
 use Rattle.replica.specs.declared.roles.fault.NodeFault.{NodeFault}
-use Rattle.wire.specs.declared.frame.What.{What}
-use Rattle.wire.specs.declared.frame.What.TheVariants as what
+use Rattle.wire.specs.declared.frame.FrameBody.{FrameBody}
+use Rattle.wire.specs.declared.frame.FrameBody.TheVariants as what
 use Rattle.wire.specs.declared.values.ClientRefusal.TheVariants as refusal
 use Rattle.serving.specs.Answering.{printed_as, sheet}
 use Rattle.serving.specs.Nodes.{Fate, Goes, Starves, Breaks}
@@ -226,7 +226,7 @@ only_there true fate o text h =
     absurd (let k : what.Refused refusal.NotThere ≡ what.SheetText text = h in cc)
 only_there false fate o text h = (refl, only_sheets fate o text h)
 
-pub inside : {a b : What} → Some a ≡ Some b → a ≡ b
+pub inside : {a b : FrameBody} → Some a ≡ Some b → a ≡ b
 inside h = cc
 
 pub sheets_law : SheetsAreOfTheLog

@@ -36,14 +36,14 @@ use Rattle.proposer.specs.Proposing.{votes_heard, wants_ballot, was_heard}
 use Rattle.proposer.specs.declared.fault.Refusal.{Refusal}
 use Rattle.proposer.specs.declared.fault.Refusal.TheVariants.{BallotsSpent, LogFull}
 use Rattle.proposer.specs.declared.plan.Plan.{Plan}
-use Rattle.proposer.specs.declared.role.Heard.{Heard}
+use Rattle.proposer.specs.declared.role.PromisingDesk.{PromisingDesk}
 use Rattle.proposer.specs.declared.role.Role.{Role}
 use Rattle.proposer.specs.declared.role.Role.TheVariants.{Idle, Gathering, Proposing, Leading}
 use Rattle.replica.specs.Lengths.{length_told}
 
 -- ---- what is said
 
--- a message tells of no more than this many entries, and a Behind tells of just this many
+-- a message is about no more than this many entries, and a Behind about just this many
 abbrev pub Says : ℕ → Body → Type 0
 Says len (Prepare b pos) = Unit {0}
 Says len (Promise b pos vote) = Unit {0}
@@ -143,7 +143,7 @@ promise_says log n d p Idle from b pos vote = tt
 promise_says log n d p (Proposing own at e heard) from b pos vote = tt
 promise_says log n d p (Leading own) from b pos vote = tt
 promise_says log n d p (Gathering own at heard) from b pos vote =
-    let now : List Heard = record { desk = from; vote = vote } ∷ heard in
+    let now : List PromisingDesk = record { desk = from; vote = vote } ∷ heard in
     let said : Plan = promises_heard n d p own at now in
     let fresh : Plan = if was_heard heard from then only_say p [] else said in
     either (λ q. PlanSays log q) (is_same own b) (if at == pos then fresh else only_say p [])

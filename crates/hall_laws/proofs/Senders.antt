@@ -14,7 +14,7 @@ use Rattle.acceptor.specs.declared.message.Report.{Report}
 use Rattle.acceptor.specs.Ballots.{is_below, is_same}
 use Rattle.acceptor.specs.Messages.{message, has, desks_from, without, to_each}
 use Rattle.proposer.specs.declared.plan.Plan.{Plan}
-use Rattle.proposer.specs.declared.role.Heard.{Heard}
+use Rattle.proposer.specs.declared.role.PromisingDesk.{PromisingDesk}
 use Rattle.proposer.specs.declared.role.Role.{Role}
 use Rattle.proposer.specs.declared.role.Role.TheVariants.{Idle, Gathering, Proposing, Leading}
 use Rattle.proposer.specs.Plans.{Passing}
@@ -27,7 +27,7 @@ use Rattle.learner.specs.Steps.{on_body}
 use Rattle.serving.specs.Serving.{to_others as for_others}
 use Rattle.serving.specs.Telling.{position_told, decided_at, entry_told, with_entry, entries_told}
 use Rattle.serving.specs.Telling.{run_by, run_from, run_of}
-use Rattle.serving.specs.declared.request.Run.{Run}
+use Rattle.serving.specs.declared.request.DecidedRun.{DecidedRun}
 use Rattle.hall_laws.specs.Pushing.{said_by}
 
 -- each of these is from desk d
@@ -56,7 +56,7 @@ propose_from : (n d : ℕ) (p : Passing) (b : Ballot) (pos : ℕ) (o : Option En
 propose_from n d p b pos None = tt
 propose_from n d p b pos (Some e) = each_from d (desks_from 1 n) (Accept b pos e)
 
-promises_from : (n d : ℕ) (p : Passing) (b : Ballot) (pos : ℕ) (hs : List Heard)
+promises_from : (n d : ℕ) (p : Passing) (b : Ballot) (pos : ℕ) (hs : List PromisingDesk)
     → PlanFrom d (promises_heard n d p b pos hs)
 promises_from n d p b pos hs =
     either d (is_majority n (length hs)) _ _
@@ -177,7 +177,8 @@ told_for_others d from to pos (e ∷ es) other =
     (told_for_others d from to (suc pos) es other))
 
 -- a run of what the desk handed out stands for all of it, and all of it is for another desk
-pub run_says : (d : ℕ) (ms : List Message) (run : Run) → AllFrom d ms → run_of d ms ≡ Some run
+pub run_says : (d : ℕ) (ms : List Message) (run : DecidedRun) → AllFrom d ms
+    → run_of d ms ≡ Some run
     → for_others d ms ≡ said_by run
 unfolding run_of
 run_says d [] run ours h = absurd cc

@@ -38,7 +38,7 @@ use Rattle.serving.specs.Telling.{run_of, run_from, run_by, entries_told, with_e
 use Rattle.serving.specs.Telling.{position_told, decided_at}
 use Rattle.serving.specs.declared.request.Request.{Request}
 use Rattle.serving.specs.declared.request.Request.TheVariants.{Ticked}
-use Rattle.serving.specs.declared.request.Run.{Run}
+use Rattle.serving.specs.declared.request.DecidedRun.{DecidedRun}
 use Rattle.store.specs.declared.home.Home.{Home}
 use Rattle.wire.specs.declared.values.Version.{Version}
 use Rattle.hall_laws.specs.Served.{all_handed_out}
@@ -48,12 +48,12 @@ use Rattle.hall_laws.proofs.OwnMessages.{calls_both, calls_of_pushes, no_calls, 
 abbrev pub home_of : ℕ → ℕ → ℕ → Home
 home_of hall n d = record { hall = hall; desk = d; desks = n }
 
--- a desk that is up, and was told these lengths of logs
+-- a desk that is up, and heard these lengths of logs
 abbrev pub up_at : World → ℕ → List ℕ → Seen
 up_at w d told = record { desk = w.desks d; is_down = false; told = told }
 
 -- What was served so far has led from world W to w, and desk d has these messages to deliver to
--- itself. What it was told of the lengths of logs is no matter of the world.
+-- itself. What it heard of the lengths of logs is no matter of the world.
 pub record Mirrors (d : ℕ) (W w : World) (s : Service) (ms : List Message) : Type 0 where
   pub seen : s.seen ≡ up_at w d s.seen.told
   pub own : to_itself d s.waiting ≡ ms
@@ -356,7 +356,8 @@ all_to to d pos (m ∷ ms) es ne is =
         let other : (m.to == d) ≡ false = grind (arith, nat_tests, e, ne) in
         ap (λ t. if t then m ∷ to_itself d ms else to_itself d ms) other ∙ ih fs q
 
-run_none : (d : ℕ) (ws : List Message) (run : Run) → run_of d ws ≡ Some run → to_itself d ws ≡ []
+run_none : (d : ℕ) (ws : List Message) (run : DecidedRun) → run_of d ws ≡ Some run
+    → to_itself d ws ≡ []
 unfolding run_of
 run_none d [] run is = absurd cc
 run_none d (m ∷ ms) run is = go (m.to == d) (nat_lt 16 (length (m ∷ ms))) refl is
@@ -388,7 +389,7 @@ mirrors_answer hall n d k W w s ms ours h left = go (run_of d s.waiting) refl
     home : Home
     home = home_of hall n d
 
-    go : (o : Option Run) → run_of d s.waiting ≡ o
+    go : (o : Option DecidedRun) → run_of d s.waiting ≡ o
         → MirrorsEnd d W (hand_out home o s) (settled n d (suc k) w ms)
     go None is =
         subst (λ (l : ℕ). MirrorsEnd d W (settle_by home l s) (settled n d (suc k) w ms)) (sym left)

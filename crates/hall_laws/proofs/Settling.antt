@@ -12,7 +12,7 @@ use Rattle.replica.specs.declared.roles.fault.NodeFault.TheVariants as fault
 use Rattle.serving.specs.Serving.{Act, Called, Pushed, Service, waiting_after, answered, first_fate}
 use Rattle.serving.specs.Serving.{later_fates, reply_to, call, in_front, from_own, to_others}
 use Rattle.serving.specs.Serving.{push_all, waits, deliver, settle_by, settle, grew, start_if_grown}
-use Rattle.serving.specs.declared.request.Run.{Run}
+use Rattle.serving.specs.declared.request.DecidedRun.{DecidedRun}
 use Rattle.store.specs.declared.home.Home.{Home}
 use Rattle.hall_laws.specs.Pushing.{handed, pushed_messages, runs_pushed}
 use Rattle.hall_laws.proofs.Acts.{others_both, handed_both, pushed_both, runs_both, pushed_map}
@@ -23,8 +23,8 @@ use Rattle.hall_laws.proofs.Acts.{Fits, reply_fits, Quiet, quiet_call, quiet_pus
 -- ---- what holds all the while
 
 -- What was pushed, then what waits for other desks, and then what was lost, is what was handed out
--- for them behind the first n acts. While the desk is up, nothing is lost.
-pub record Keeps (d n : ℕ) (runs : List Run) (s : Service) : Type 0 where
+-- for them after the first n acts. While the desk is up, nothing is lost.
+pub record Keeps (d n : ℕ) (runs : List DecidedRun) (s : Service) : Type 0 where
   pub lost : List Message
   pub whole : (pushed_messages s.done ++ to_others d s.waiting) ++ lost
       ≡ to_others d (handed (drop n s.done))
@@ -35,7 +35,7 @@ pub record Keeps (d n : ℕ) (runs : List Run) (s : Service) : Type 0 where
   pub in_time : InTime d n s.done
 
 -- and nothing waits any more
-pub record Settled (d n : ℕ) (runs : List Run) (s : Service) : Type 0 where
+pub record Settled (d n : ℕ) (runs : List DecidedRun) (s : Service) : Type 0 where
   pub keeps : Keeps d n runs s
   pub none : s.waiting ≡ []
 
@@ -54,7 +54,8 @@ surely n k down up (inr h) = absurd cc
 abbrev pub after_call : Service → DeskEvent → Result (List Message) NodeFault → Seen → Service
 after_call s event r y = answered s event (record { result = r; seen = y })
 
-call_handed : (d n : ℕ) (runs : List Run) (s : Service) (event : DeskEvent) (ms : List Message)
+call_handed : (d n : ℕ) (runs : List DecidedRun) (s : Service) (event : DeskEvent)
+    (ms : List Message)
     (y : Seen) → s.seen.is_down ≡ false → Keeps d n runs s
     → Quiet (s.done ++ Called event (Ok ms) ∷ []) y.is_down (s.waiting ++ ms)
     → Keeps d n runs (after_call s event (Ok ms) y)
@@ -96,7 +97,8 @@ call_handed d n runs s event ms y up k quiet =
     }
 
 -- a call is refused, and these wait; the others that waited are lost
-call_refused : (d n : ℕ) (runs : List Run) (s : Service) (event : DeskEvent) (why : NodeFault)
+call_refused : (d n : ℕ) (runs : List DecidedRun) (s : Service) (event : DeskEvent)
+    (why : NodeFault)
     (y : Seen) (ms more : List Message) → to_others d s.waiting ≡ to_others d ms ++ more
     → (k : Keeps d n runs s) → (y.is_down ≡ false → more ++ k.lost ≡ [])
     → ((n ≤ length s.done) ⊎ (y.is_down ≡ true))
@@ -136,7 +138,7 @@ call_refused d n runs s event why y ms more parts k up enough quiet =
     }
 
 -- a refusal that leaves what waits
-call_kept : (d n : ℕ) (runs : List Run) (s : Service) (event : DeskEvent) (why : NodeFault)
+call_kept : (d n : ℕ) (runs : List DecidedRun) (s : Service) (event : DeskEvent) (why : NodeFault)
     (y : Seen) → s.seen.is_down ≡ false → Keeps d n runs s
     → Quiet (s.done ++ Called event (Err why) ∷ []) y.is_down s.waiting
     → Keeps d n runs (record {
@@ -150,7 +152,7 @@ call_kept d n runs s event why y up k quiet =
     call_refused d n runs s event why y s.waiting [] (sym (append-nil (to_others d s.waiting))) k
     (λ u. k.while_up up) (inl (surely n (length s.done) s.seen.is_down up k.enough)) quiet
 
-keeps_answer : (d n : ℕ) (runs : List Run) (s : Service) (event : DeskEvent)
+keeps_answer : (d n : ℕ) (runs : List DecidedRun) (s : Service) (event : DeskEvent)
     (r : Result (List Message) NodeFault) (y : Seen) → Fits s.seen.is_down r y.is_down
     → Keeps d n runs s → Quiet (s.done ++ Called event r ∷ []) y.is_down (waiting_after s.waiting r)
     → Keeps d n runs (after_call s event r y)
@@ -167,7 +169,7 @@ keeps_answer d n runs s event (Err fault.BallotsSpent) y fits k q =
 keeps_answer d n runs s event (Err fault.NoMemory) y fits k q =
     call_kept d n runs s event fault.NoMemory y fits.0 k q
 
-pub keeps_call : (home : Home) (n : ℕ) (runs : List Run) (event : DeskEvent) (s : Service)
+pub keeps_call : (home : Home) (n : ℕ) (runs : List DecidedRun) (event : DeskEvent) (s : Service)
     → Keeps home.desk n runs s → Keeps home.desk n runs (call home event s)
 unfolding call
 keeps_call home n runs event s k =
@@ -178,7 +180,7 @@ keeps_call home n runs event s k =
 
 -- ---- pushes
 
-keeps_push : (d n : ℕ) (runs : List Run) (s : Service) (ms more : List Message) (left : ℕ)
+keeps_push : (d n : ℕ) (runs : List DecidedRun) (s : Service) (ms more : List Message) (left : ℕ)
     → to_others d s.waiting ≡ ms ++ to_others d more → (s.waiting ≡ [] → more ≡ [])
     → Keeps d n runs s → Keeps d n runs (waits more left (push_all ms [] s))
 keeps_push d n runs s ms more left parts none k =
@@ -243,7 +245,7 @@ none_is_own : (d : ℕ) (ms rest : List Message) (m : Message) → ms ≡ [] →
 none_is_own d ms rest m empty e =
     let two : [] ≡ m ∷ rest = sym (ap (λ z. from_own d z) empty) ∙ e in absurd cc
 
-keeps_settle : (home : Home) (n : ℕ) (runs : List Run) (k : ℕ) (s : Service)
+keeps_settle : (home : Home) (n : ℕ) (runs : List DecidedRun) (k : ℕ) (s : Service)
     → Keeps home.desk n runs s → Keeps home.desk n runs (settle_by home k s)
 unfolding settle_by
 keeps_settle home n runs zero s h =
@@ -281,12 +283,12 @@ none_waits home (suc k) s = go (from_own home.desk s.waiting) (λ t. none_waits 
     go (m ∷ rest) ih =
         ih (call home (Deliver m) (waits rest k (push_all (in_front home.desk s.waiting) [] s)))
 
-pub settles : (home : Home) (n : ℕ) (runs : List Run) (k : ℕ) (s : Service)
+pub settles : (home : Home) (n : ℕ) (runs : List DecidedRun) (k : ℕ) (s : Service)
     → Keeps home.desk n runs s → Settled home.desk n runs (settle_by home k s)
 settles home n runs k s h =
     record { keeps = keeps_settle home n runs k s h; none = none_waits home k s }
 
-pub starts : (home : Home) (n : ℕ) (runs : List Run) (before : ℕ) (s : Service)
+pub starts : (home : Home) (n : ℕ) (runs : List DecidedRun) (before : ℕ) (s : Service)
     → Settled home.desk n runs s → Settled home.desk n runs (start_if_grown home before s)
 unfolding start_if_grown
 starts home n runs before s h = go (grew before s.seen)

@@ -18,7 +18,7 @@ use Rattle.serving.specs.declared.request.Request.TheVariants.{Heard, Lagging, L
 use Rattle.serving.specs.declared.request.Request.TheVariants.{Asked, Printed, Ticked, Stopped}
 use Rattle.serving.specs.declared.request.Request.TheVariants.{Inspected, Copied, Strange, Ignored}
 use Rattle.serving.specs.declared.request.Request.TheVariants.{Denied, Withheld}
-use Rattle.serving.specs.declared.request.Run.{Run}
+use Rattle.serving.specs.declared.request.DecidedRun.{DecidedRun}
 
 -- a Decided for each of the entries, the first one at a position and the others after it
 abbrev pub decided_each : ℕ → ℕ → ℕ → List Entry → List DeskEvent
@@ -61,7 +61,7 @@ MessagesArrive =
 -- version 2, the first one in version 1
 abbrev pub RunsArrive : Type 0
 RunsArrive =
-    (home : Home) (version : Version) (run : Run) (more : List ℕ)
+    (home : Home) (version : Version) (run : DecidedRun) (more : List ℕ)
     → run.to ≡ home.desk → IsFrame (run_frame version home.hall run)
     → AreBytes ((run_pushed version home.hall run).bytes ++ more)
     → Arrives home (run_pushed version home.hall run).bytes more

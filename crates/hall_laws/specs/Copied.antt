@@ -1,9 +1,9 @@
 -- A run of three desks that decides an entry, and a mirror that is answered it (the project's own).
 use Rattle.std.specs.Prelude.{ℕ, List, [], ◌∷◌, Some}
-use Rattle.mirror.specs.declared.mirror.Taken.TheVariants.{Grew}
+use Rattle.mirror.specs.declared.mirror.MirrorGrowth.TheVariants.{Grew}
 use Rattle.progress.specs.Tangle.{entry}
 use Rattle.wire.specs.declared.frame.Frame.{Frame}
-use Rattle.wire.specs.declared.frame.What.TheVariants as what
+use Rattle.wire.specs.declared.frame.FrameBody.TheVariants as what
 use Rattle.wire.specs.declared.values.Version.TheVariants.{Three}
 use Rattle.hall_laws.specs.Copying.{AreCollected, Given}
 use Rattle.hall_laws.specs.HallRuns.{HallStep, IsHallRun}

@@ -9,7 +9,7 @@ use Rattle.serving.specs.Asking.{request}
 use Rattle.serving.specs.Connection.{Begun, answer_frame, serve_frame}
 use Rattle.serving.specs.declared.request.Request.TheVariants.{Copied}
 use Rattle.store.specs.declared.keeper.Keeper.{Ghosts}
-use Rattle.wire.specs.declared.frame.What.TheVariants as what
+use Rattle.wire.specs.declared.frame.FrameBody.TheVariants as what
 use Rattle.hall_laws.specs.HallRuns.{Hall, HallStep, IsHallRun, ServesAt, hall_after, hall_log}
 use Rattle.hall_laws.specs.HallRuns.{home_at, seen_of}
 
@@ -69,7 +69,7 @@ abbrev pub collected : List Entry → List Given → List Entry
 collected held [] = held
 collected held (one ∷ more) = collected (held ++ one.copy.entries) more
 
--- Each answer was given by a desk of the hall, whichever and whenever, and was asked for from the
+-- Each answer was given by some desk of the hall at some moment, and was asked for from the
 -- position at which the entries end that were held before it.
 abbrev pub AreCollected : {K : Type 0} → Ghosts K → ℕ → Hall K → List (HallStep K) → List Entry
     → List Given → Type 0
@@ -107,7 +107,7 @@ HallCopiesBeginItsLog {K} k =
     → IsHallRun k n h steps → AreCollected k n h steps [] given → AreOf d j given
     → IsPrefix (collected [] given) (hall_log h steps j d)
 
--- and of what two came to that were collected so, one is a prefix of the other
+-- and of two lists that were collected in this way, one is a prefix of the other
 abbrev pub HallCopiesAgree : {K : Type 0} → Ghosts K → Type 0
 HallCopiesAgree {K} k =
     (n : ℕ) (h : Hall K) (steps : List (HallStep K)) (given other : List Given)

@@ -1,5 +1,5 @@
--- A desk says that another one differs only where it heard so; and desks of a hall say nothing by
--- which one of them would differ from another (the project's own).
+-- A desk reports that another one differs only where it heard that; and the desks of a hall send
+-- nothing by which one of them would be found to differ (the project's own).
 use Rattle.std.specs.Prelude.{ℕ, ◌+◌, ◌-◌, ◌≡◌, ◌≢◌, ◌≤◌, ◌<◌, ◌⊎◌, true, List, [], ◌∷◌, Some}
 use Rattle.std.specs.Prelude.{None, IsOk, IsSome, map, slice_get, slice_index, take}
 use Rattle.std.specs.List.{AllByRecursion}
@@ -22,7 +22,7 @@ use Rattle.store.specs.declared.home.Home.{Home}
 use Rattle.store.specs.declared.keeper.Keeper.{Ghosts}
 use Rattle.wire.specs.Ranges.{IsFrame}
 use Rattle.wire.specs.declared.frame.Frame.{Frame}
-use Rattle.wire.specs.declared.frame.What.TheVariants as what
+use Rattle.wire.specs.declared.frame.FrameBody.TheVariants as what
 use Rattle.wire.specs.declared.standing.Difference.{Difference}
 use Rattle.wire.specs.declared.standing.Difference.TheVariants.{OtherEntry, Shorter}
 use Rattle.hall_laws.specs.Arriving.{decided_each, delivers}
@@ -33,7 +33,7 @@ use Rattle.hall_laws.specs.OwnMessages.{WereSentTo}
 
 -- ---- what is said was heard
 
--- the frame tells an entry of a position where another one is
+-- the frame reports an entry of a position where another one is
 pub record TellsOther (log : List Entry) (f : Frame) (d : Difference) : Type 0 where
   pub first : ℕ
   pub entries : List Entry
@@ -46,7 +46,7 @@ pub record TellsOther (log : List Entry) (f : Frame) (d : Difference) : Type 0 w
   pub other : there ≢ told
   pub is : d ≡ OtherEntry f.from (first + index)
 
--- the frame tells a length below the one that its sender told before
+-- the frame reports a length below the one that its sender reported before
 pub record TellsShorter (known : List ℕ) (f : Frame) (d : Difference) : Type 0 where
   pub len : ℕ
   pub body : f.what ≡ what.Behind len
@@ -80,7 +80,7 @@ HallDecidedsStand {K} k =
     → Sent (hall_after h (take i steps)).sent from (Decided pos e)
     → slice_get (hall_log h steps i d) pos ≡ Some f → f ≡ e
 
--- so of what a frame says was decided, where it was sent, no entry is another one than is there
+-- so no entry that a frame which was sent says to be decided differs from the one in the log
 abbrev pub HallRunsAgree : {K : Type 0} → Ghosts K → Type 0
 HallRunsAgree {K} k =
     (n : ℕ) (h : Hall K) (steps : List (HallStep K)) (i d from pos : ℕ) (es : List Entry)
@@ -88,9 +88,9 @@ HallRunsAgree {K} k =
     → WereSentTo d (hall_after h (take i steps)).sent (decided_each from d pos es)
     → other_from from pos es (hall_log h steps i d) ≡ None
 
--- Of two messages that one desk has sent, where the later one says how long its log is, the earlier
--- one says no more. So a length that came over a connection, in the order in which it was sent, is
--- no less than what was told before: on that connection, or before it was opened.
+-- Of two messages that one desk has sent, the earlier one reports no longer log than the later one,
+-- if that reports a length. So a length that came over a connection, in the order in which it was
+-- sent, is no less than what was reported before: on that connection, or before it was opened.
 abbrev pub HallLengthsGrow : {K : Type 0} → Ghosts K → Type 0
 HallLengthsGrow {K} k =
     (n : ℕ) (h : Hall K) (steps : List (HallStep K)) (i a b len : ℕ) (earlier later : Message)
@@ -134,8 +134,8 @@ pub record WereSentInOrder (sent : List Message) (one other : Message) : Type 0 
 
 -- The premise on connections. A desk accepted one after the first j steps of a run, and by the
 -- first i steps these frames had come on it, and then this one. What the last one says was sent by
--- then, and no earlier than what its sender said in a frame before it, or than what the desk had
--- heard of that sender when it accepted the connection.
+-- then. It was sent no earlier than what its sender said in a frame before it, and no earlier than
+-- what the desk had heard of that sender when it accepted the connection.
 pub record ComesInOrder {K : Type 0} (home : Home) (h : Hall K) (steps : List (HallStep K))
     (i j : ℕ) (before : List Frame) (f : Frame) : Type 0 where
   pub spelled : AllByRecursion (λ g. IsFrame g) before
@@ -152,9 +152,9 @@ abbrev pub known_behind : Home → Permission → List ℕ → List Frame → Li
 known_behind home may known [] = known
 known_behind home may known (f ∷ fs) = known_behind home may (known_after home may known f) fs
 
--- So no desk hears by a frame of a connection in order that the frame's sender differs, where it
--- compares with its log as that then is, and with what it had been told when it accepted the
--- connection and was told on it since. Before the run it was told nothing.
+-- So no desk finds by a frame of a connection in order that the frame's sender differs. It compares
+-- the frame with its log at that time, with what it had heard when it accepted the connection, and
+-- with what it heard on it since. Before the run it heard nothing.
 abbrev pub HallNeverDiffers : {K : Type 0} → Ghosts K → Type 0
 HallNeverDiffers {K} k =
     (n : ℕ) (h : Hall K) (steps : List (HallStep K)) (i j d : ℕ) (may : Permission)
@@ -166,8 +166,8 @@ HallNeverDiffers {K} k =
     ((hall_after h (take j steps)).desks d).node.told before)
     f ≡ None
 
--- There are such connections: in the small run desk 1 tells desk 2 twice how long its log is. Desk
--- 2 accepts a connection once it has heard the first message, and both come on it.
+-- There are such connections: in the small run desk 1 reports to desk 2 twice how long its log is.
+-- Desk 2 accepts a connection once it has heard the first message, and both come on it.
 abbrev pub SmallRunComesInOrder : {K : Type 0} → Ghosts K → Type 0
 SmallRunComesInOrder {K} k =
     (keeper : ℕ → K)

@@ -17,7 +17,7 @@ use Rattle.store.specs.declared.home.Home.{Home}
 use Rattle.store.specs.declared.keeper.Keeper.{Ghosts}
 use Rattle.wire.specs.Spelling.{spelling}
 use Rattle.wire.specs.declared.frame.Frame.{Frame}
-use Rattle.wire.specs.declared.frame.What.TheVariants as what
+use Rattle.wire.specs.declared.frame.FrameBody.TheVariants as what
 use Rattle.wire.specs.declared.values.Version.TheVariants.{Two}
 use Rattle.hall_laws.specs.HallRuns.{Hall, HallEvent, HallStep, IsHallRun, TurnAt, TickedAt}
 

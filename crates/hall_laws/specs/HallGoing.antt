@@ -1,5 +1,6 @@
--- What a hall can go on with at every moment of its runs: a desk ticks itself, or a frame comes to
--- a desk over a connection of its own. Whatever such a request comes to at the desk, turns make it.
+-- How a hall can continue at every moment of its runs: a desk ticks itself, or a frame comes to a
+-- desk over a connection of its own. Turns of connections make whatever such a request comes to at
+-- the desk.
 use Rattle.std.specs.Prelude.{ℕ, ◌≡◌, ◌⊎◌, true, false, List, [], ◌∷◌, ◌++◌, length, map}
 use Rattle.std.specs.Prelude.{None}
 use Rattle.acceptor.specs.declared.entry.Entry.{Entry}
@@ -19,13 +20,13 @@ use Rattle.serving.specs.Telling.{entries_said, run_frame}
 use Rattle.serving.specs.TurnLaw.{Came, Began}
 use Rattle.serving.specs.declared.request.Request.{Request}
 use Rattle.serving.specs.declared.request.Request.TheVariants.{Entered, Ticked}
-use Rattle.serving.specs.declared.request.Run.{Run}
+use Rattle.serving.specs.declared.request.DecidedRun.{DecidedRun}
 use Rattle.store.specs.declared.home.Home.{Home}
 use Rattle.store.specs.declared.keeper.Keeper.{Ghosts}
 use Rattle.wire.specs.Ranges.{IsFrame}
 use Rattle.wire.specs.Spelling.{spelling}
 use Rattle.wire.specs.declared.frame.Frame.{Frame}
-use Rattle.wire.specs.declared.frame.What.TheVariants as what
+use Rattle.wire.specs.declared.frame.FrameBody.TheVariants as what
 use Rattle.wire.specs.declared.values.Version.{Version}
 use Rattle.hall_laws.specs.Arriving.{decided_each}
 use Rattle.hall_laws.specs.HallRuns.{Station, Hall, home_at, seen_of, beside, OnlyAt, FrameWasSent}
@@ -41,18 +42,18 @@ use Rattle.hall_laws.specs.Stops.{with_desk}
 abbrev pub as_it_goes : Frame → Begun
 as_it_goes f = record { frame = f; may = All; differs = None; fates = [] }
 
--- what a desk does for a request so: its calls and pushes, in order
+-- what a desk does for a request where each call is taken: its calls and pushes, in order
 abbrev pub acts_for : {K : Type 0} → Ghosts K → Station K → Request → List Act
 acts_for k x r = (served (home_at k x) (seen_of x.node) [] r).done
 
--- The second is the first desk after this request: the calls lead from the one node to the other,
--- and what they hand out for others was pushed.
+-- The second desk is the first one after this request: the calls lead from the one node to the
+-- other, and what they hand out for other desks was pushed.
 pub record IsServedTo {K : Type 0} (k : Ghosts K) (r : Request) (x y : Station K) : Type 0 where
   pub made : Makes (home_at k x).hall (beside k x.wire x) (beside k x.wire y) (acts_for k x r)
   pub node : seen_of y.node ≡ (served (home_at k x) (seen_of x.node) [] r).seen
   pub wire : y.wire ≡ x.wire
 
--- ---- a run that goes on
+-- ---- a run that continues
 
 -- These events follow after the steps of the run. Then desk d is as this one, but for its
 -- connections, what its calls have handed out was sent, and no other desk has changed.
@@ -92,7 +93,7 @@ comes_over d number f acts =
     TurnAt d (record { number = number; turn = Came (spelling f) }) []
     ∷ TurnAt d (record { number = number; turn = Began (as_it_goes f) }) acts ∷ []
 
--- over one of its connections this frame comes to desk d, which is as this one then
+-- this frame comes to desk d over one of its connections, and then desk d is as this one
 abbrev pub ComesOver : {K : Type 0} → Ghosts K → ℕ → ℕ → Hall K → List (HallStep K) → Frame
     → Station K → Type 0
 ComesOver k n d h steps f y =
@@ -100,7 +101,7 @@ ComesOver k n d h steps f y =
     let acts = acts_for k x (request (home_at k x) f) in
     (number : ℕ) × GoesOn k n d h steps (comes_over d number f acts) acts y
 
--- at every moment a frame can come over a connection that it leaves open, where what it brings was
+-- at every moment a frame can come over a connection that it leaves open, if what it brings was
 -- sent
 abbrev pub FramesGoOn : {K : Type 0} → Ghosts K → Type 0
 FramesGoOn {K} k =
@@ -112,8 +113,8 @@ FramesGoOn {K} k =
     → IsServedTo k (request (home_at k x) f) x y
     → ComesOver k n d h steps f y
 
--- So can each message that was sent to the desk, as the frame in which it is pushed, where the desk
--- is up after it.
+-- Each message that was sent to the desk can come too, as the frame in which it is pushed, if the
+-- desk is up after it.
 abbrev pub MessagesGoOn : {K : Type 0} → Ghosts K → Type 0
 MessagesGoOn {K} k =
     (n d : ℕ) (h : Hall K) (steps : List (HallStep K)) (version : Version) (m : Message)
@@ -128,7 +129,7 @@ MessagesGoOn {K} k =
 -- and each run of entries
 abbrev pub RunsGoOn : {K : Type 0} → Ghosts K → Type 0
 RunsGoOn {K} k =
-    (n d : ℕ) (h : Hall K) (steps : List (HallStep K)) (version : Version) (entries : Run)
+    (n d : ℕ) (h : Hall K) (steps : List (HallStep K)) (version : Version) (entries : DecidedRun)
     (y : Station K)
     → IsHallRun k n h steps → IsDesk n d
     → let x = (hall_after h steps).desks d in
@@ -141,8 +142,8 @@ RunsGoOn {K} k =
 
 -- ---- in the world
 
--- The world in which desk d of n has served this request, in a hall of this number, where it was
--- told these lengths of logs: the world does not know them.
+-- The world in which desk d of n has served this request, in a hall of this number, where the desk
+-- had heard these lengths of logs, which the world does not know.
 abbrev pub served_in : ℕ → ℕ → List ℕ → World → ℕ → Request → World
 served_in n hall told w d r =
     let s =
@@ -150,8 +151,8 @@ served_in n hall told w d r =
     (record { desk = w.desks d; is_down = false; told = told }) [] r in
     with_desk w d s.seen.desk (all_handed_out (calls_of s.done))
 
--- Where the hall has come to a world and goes on so, at a desk that is up, it comes to the world in
--- which that desk has served the request.
+-- Where the hall has come to a world and continues so, at a desk that is up, it comes to the world
+-- in which that desk has served the request.
 abbrev pub WorldsFollow : {K : Type 0} → Ghosts K → Type 0
 WorldsFollow {K} k =
     (n d : ℕ) (h : Hall K) (steps : List (HallStep K)) (w : World) (r : Request)
@@ -170,8 +171,8 @@ abbrev pub HasCall : DeskEvent → List Call → Type 0
 HasCall event [] = ⊥
 HasCall event (c ∷ cs) = (c.event ≡ event) ⊎ HasCall event cs
 
--- A desk goes on by itself. Where its log has grown by a request, it is up, and entries wait in its
--- queue, it was given a Start meanwhile; and so it was where it took an entry.
+-- A desk continues by itself. It was given a Start where it accepted an entry, and where its log
+-- has grown by a request, it is up, and entries wait in its queue.
 pub record StartsCome : Type 0 where
   pub grown : (home : Home) (x : Seen) (fates : List Fate) (r : Request)
       → grew (length x.desk.log) (served home x fates r).seen ≡ true

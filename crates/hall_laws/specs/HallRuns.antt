@@ -1,20 +1,20 @@
 -- Several desks that serve at once in one hall, each of them many connections by turns: what may
 -- happen there, one event after the other, in any order (the project's own).
-use Rattle.std.specs.Prelude.{ℕ, ◌≡◌, ◌≢◌, ◌≤◌, ◌⊎◌, false, IsOk, List, [], ◌∷◌, ◌++◌, length}
+use Rattle.std.specs.Prelude.{ℕ, ◌≡◌, ◌≢◌, ◌≤◌, ◌⊎◌, true, false, IsOk, List, [], ◌∷◌, ◌++◌, length}
 use Rattle.std.specs.Prelude.{Option, Some, slice_get, take}
 use Rattle.acceptor.specs.declared.entry.Entry.{Entry}
 use Rattle.acceptor.specs.declared.message.Message.{Message}
-use Rattle.acceptor.specs.declared.stored.Stored.{Stored}
 use Rattle.answers.specs.Answers.{sheet_at}
 use Rattle.answers.specs.Seen.{Seen}
 use Rattle.formats.specs.declared.events.Event.{Event as EventOf}
-use Rattle.learner.specs.Desks.{first_desk}
+use Rattle.learner.specs.Desks.{Desk, first_desk}
 use Rattle.learner.specs.Laws.{IsPrefix}
 use Rattle.learner.specs.Ranges.{AreInRange}
 use Rattle.learner.specs.Steps.{IsDesk}
 use Rattle.learner.specs.Worlds.{World, new_world}
 use Rattle.learner.specs.declared.event.DeskEvent.TheVariants.{Submit}
 use Rattle.replica.specs.Handles.{Handles, step_at}
+use Rattle.replica.specs.Settles.{Settles}
 use Rattle.replica.specs.Nodes.{NodeValue}
 use Rattle.replica.specs.Opens.{Opens}
 use Rattle.replica.specs.Stores.{HoldsDesk, HoldsStep}
@@ -27,14 +27,14 @@ use Rattle.serving.specs.Making.{Call, Lead, Makes, Outside, Way, calls_of, outs
 use Rattle.serving.specs.Serving.{Act}
 use Rattle.serving.specs.Turns.{Talk, new_talk}
 use Rattle.serving.specs.TurnLaw.{Place, Turn, Came, Began, Rested, Took, sides_in}
-use Rattle.serving.specs.declared.ends.End.{End}
-use Rattle.serving.specs.declared.ends.End.TheVariants as end
+use Rattle.serving.specs.declared.ends.ConnectionEnd.{ConnectionEnd}
+use Rattle.serving.specs.declared.ends.ConnectionEnd.TheVariants as end
 use Rattle.serving.specs.declared.request.Request.TheVariants.{Printed, Ticked}
 use Rattle.connections.specs.Connections.{Connections, Goes, TurnOf, place_of}
 use Rattle.store.specs.declared.home.Home.{Home}
 use Rattle.store.specs.declared.keeper.Keeper.{Ghosts}
 use Rattle.wire.specs.declared.frame.Frame.{Frame}
-use Rattle.wire.specs.declared.frame.What.TheVariants as what
+use Rattle.wire.specs.declared.frame.FrameBody.TheVariants as what
 use Rattle.wire.specs.declared.values.SheetStyle.{SheetStyle as Style}
 use Rattle.wire.specs.declared.values.Version.{Version}
 use Rattle.hall_laws.specs.Arriving.{delivers}
@@ -64,31 +64,34 @@ seen_of node = record { desk = node.desk; is_down = node.is_down; told = node.to
 abbrev pub home_at : {K : Type 0} → Ghosts K → Station K → Home
 home_at k x = k.home_of x.node.keeper
 
--- what a turn of a connection is said of, where frames are pushed in this version
+-- what is seen of a desk's connections, where frames are pushed in this version
 abbrev pub connections : {K : Type 0} → (k : Ghosts K) → (version : Version) → Station K
-    → Connections (speaking (Handles k) version)
+    → Connections (speaking (Handles k) (Settles k) version)
 connections k version x =
     record {
       talks = x.talks;
       seen = seen_of x.node;
-      outside = outside_of (speaking (Handles k) version) x.node x.handed;
+      outside = outside_of (speaking (Handles k) (Settles k) version) x.node x.handed;
     }
 
 -- ---- events
 
--- What happens in a hall, and what is done in it, calls and pushes in order: a desk takes a turn of
--- one of its connections; or it takes a Tick of its own, as it takes such a frame of a client; or a
--- desk that is between two turns, up or down, is opened again; or a desk stops in the middle of a
--- frame, or of a Tick of its own, with only so much of it done, and is opened again.
+-- What happens in a hall, and what is done in it, calls and pushes in order: a desk makes a turn of
+-- one of its connections; or it makes a Tick of its own, as it serves such a frame of a client; or
+-- it settles what it has changed; or a desk that is between two turns, up or down, is opened again;
+-- or a desk stops in the middle of a frame, or of a Tick of its own, with only these acts done, and
+-- is opened again. `Lost` says what it comes to that a desk stops before it has settled.
 pub data HallEvent : Type 0 where
   TurnAt : ℕ → TurnOf → List Act → HallEvent
   TickedAt : ℕ → Begun → List Act → HallEvent
+  SettledAt : ℕ → HallEvent
   OpenedAt : ℕ → HallEvent
   CutAt : ℕ → Begun → List Act → HallEvent
 
 abbrev pub acts_of : HallEvent → List Act
 acts_of (TurnAt d t acts) = acts
 acts_of (TickedAt d one acts) = acts
+acts_of (SettledAt d) = []
 acts_of (OpenedAt d) = []
 acts_of (CutAt d one acts) = acts
 
@@ -96,6 +99,7 @@ acts_of (CutAt d one acts) = acts
 abbrev pub desk_of : HallEvent → ℕ
 desk_of (TurnAt d t acts) = d
 desk_of (TickedAt d one acts) = d
+desk_of (SettledAt d) = d
 desk_of (OpenedAt d) = d
 desk_of (CutAt d one acts) = d
 
@@ -108,7 +112,8 @@ pub record OnlyAt {K : Type 0} (d : ℕ) (acts : List Act) (h g : Hall K) : Type
 
 -- what is done for a frame that was begun: all that it comes to, or a front part of it where memory
 -- is refused
-abbrev pub AreDoneFor : {V : Type 0} → {way : Way V} → Option End → Home → Sides way → Sides way
+abbrev pub AreDoneFor : {V : Type 0} → {way : Way V} → Option ConnectionEnd → Home → Sides way
+    → Sides way
     → Begun → List Act → Type 0
 AreDoneFor (Some end.NoMemory) home a b one acts =
     (rest : List Act) × DoesFront home a b one acts rest
@@ -134,11 +139,11 @@ TurnWasSent home sent (Began one) = FrameWasSent home sent one
 TurnWasSent home sent Rested = Unit {0}
 TurnWasSent home sent (Took bytes) = Unit {0}
 
--- desk d takes a turn of one of its connections
+-- desk d makes a turn of one of its connections
 pub record TakesTurn {K : Type 0} (k : Ghosts K) (n d : ℕ) (t : TurnOf) (acts : List Act)
     (h g : Hall K) : Type 0 where
   pub ours : IsDesk n d
-  -- the turn is one, as the contracts of `serving` say what a turn is
+  -- it is a turn, by the contracts of `serving`
   pub turn : let x = h.desks d in let y = g.desks d in
       Goes t (connections k x.wire x) (connections k x.wire y)
   pub wire : (g.desks d).wire ≡ (h.desks d).wire
@@ -157,10 +162,10 @@ IsTick home one = asked home one ≡ Ticked
 
 -- what there is beside what is seen of a desk that serves
 abbrev pub beside : {K : Type 0} → (k : Ghosts K) → (version : Version) → Station K
-    → Outside (speaking (Handles k) version)
-beside k version x = outside_of (speaking (Handles k) version) x.node x.handed
+    → Outside (speaking (Handles k) (Settles k) version)
+beside k version x = outside_of (speaking (Handles k) (Settles k) version) x.node x.handed
 
--- Desk d takes a Tick without a client: what it does is what such a frame comes to, all of it or a
+-- Desk d makes a Tick without a client: what it does is what such a frame comes to, all of it or a
 -- front part, where memory is refused. None of its connections has changed: nothing was read, begun
 -- or counted there, and nothing is answered.
 pub record TicksItself {K : Type 0} (k : Ghosts K) (n d : ℕ) (one : Begun) (acts : List Act)
@@ -176,6 +181,16 @@ pub record TicksItself {K : Type 0} (k : Ghosts K) (n d : ℕ) (one : Begun) (ac
   pub wire : (g.desks d).wire ≡ (h.desks d).wire
   pub only : OnlyAt d acts h g
 
+-- ---- a desk that settles
+
+-- desk d commits what it has changed, and nothing else happens
+pub record SettlesAt {K : Type 0} (k : Ghosts K) (n d : ℕ) (h g : Hall K) : Type 0 where
+  pub ours : IsDesk n d
+  pub settles : Settles k (h.desks d).node true (g.desks d).node
+  pub talks : (j : ℕ) → (g.desks d).talks j ≡ (h.desks d).talks j
+  pub wire : (g.desks d).wire ≡ (h.desks d).wire
+  pub only : OnlyAt d [] h g
+
 -- ---- a desk that is opened
 
 -- a desk that was opened over a keeper: none of its connections had a turn
@@ -185,17 +200,17 @@ pub record IsOpened {K : Type 0} (k : Ghosts K) (keeper : K) (x : Station K) : T
   pub honest : k.is_honest x.node.keeper
   pub talks : (j : ℕ) → x.talks j ≡ new_talk (home_at k x) x.wire
 
--- a keeper of the same desk's store, that finds nothing there but what the other one may find
-pub record IsSameStore {K : Type 0} (k : Ghosts K) (old keeper : K) : Type 0 where
+-- a keeper of the same desk's store, where this state was found, which the other one may hold
+pub record IsSameStore {K : Type 0} (k : Ghosts K) (old keeper : K) (found : Desk) : Type 0 where
   pub home : k.home_of keeper ≡ k.home_of old
   pub honest : k.is_honest keeper → k.is_honest old
-  pub held : (s : Stored) (log : List Entry) → k.may_hold keeper s log → k.may_hold old s log
+  pub held : k.may_hold old found.stored found.log
 
 -- desk d is opened again, over its store
 pub record OpensAgain {K : Type 0} (k : Ghosts K) (n d : ℕ) (h g : Hall K) : Type 0 where
   pub ours : IsDesk n d
   pub keeper : K
-  pub store : IsSameStore k (h.desks d).node.keeper keeper
+  pub store : IsSameStore k (h.desks d).node.keeper keeper (g.desks d).node.desk
   pub opened : IsOpened k keeper (g.desks d)
   pub only : OnlyAt d [] h g
 
@@ -229,7 +244,8 @@ pub record IsCut {K : Type 0} (k : Ghosts K) (n d : ℕ) (one : Begun) (acts : L
   pub node : NodeValue K
   pub calls : Lead (Handles k) (h.desks d).node (calls_of acts) node
   pub keeper : K
-  pub store : IsSameStore k node.keeper keeper ⊎ StopsInSave k node keeper rest
+  pub store : IsSameStore k node.keeper keeper (g.desks d).node.desk
+      ⊎ StopsInSave k node keeper rest
   pub opened : IsOpened k keeper (g.desks d)
   pub only : OnlyAt d acts h g
 
@@ -239,6 +255,7 @@ pub record IsCut {K : Type 0} (k : Ghosts K) (n d : ℕ) (one : Begun) (acts : L
 abbrev pub HallGoes : {K : Type 0} → Ghosts K → ℕ → HallEvent → Hall K → Hall K → Type 0
 HallGoes k n (TurnAt d t acts) h g = TakesTurn k n d t acts h g
 HallGoes k n (TickedAt d one acts) h g = TicksItself k n d one acts h g
+HallGoes k n (SettledAt d) h g = SettlesAt k n d h g
 HallGoes k n (OpenedAt d) h g = OpensAgain k n d h g
 HallGoes k n (CutAt d one acts) h g = IsCut k n d one acts h g
 
@@ -323,10 +340,11 @@ IsTakenIn e (c ∷ cs) = ((c.event ≡ Submit e) × IsOk c.answer) ⊎ IsTakenIn
 abbrev pub BeginsIn : HallEvent → Begun → Type 0
 BeginsIn (TurnAt d t acts) one = t.turn ≡ Began one
 BeginsIn (TickedAt d tick acts) one = ⊥
+BeginsIn (SettledAt d) one = ⊥
 BeginsIn (OpenedAt d) one = ⊥
 BeginsIn (CutAt d cut acts) one = cut ≡ one
 
--- a desk begins a frame that submits the entry, and takes the entry
+-- a desk begins a frame that submits the entry, and accepts the entry
 pub record Enters (event : HallEvent) (e : Entry) : Type 0 where
   pub one : Begun
   pub begins : BeginsIn event one
@@ -340,8 +358,8 @@ pub record WasEntered {K : Type 0} (steps : List (HallStep K)) (e : Entry) : Typ
   pub here : slice_get steps at ≡ Some step
   pub enters : Enters step.event e
 
--- every entry of a log was submitted before, by a frame that came to a desk of the hall, which took
--- it
+-- every entry of a log was submitted before, by a frame that came to a desk of the hall, which
+-- accepted it
 abbrev pub HallEntriesAreSubmitted : {K : Type 0} → Ghosts K → Type 0
 HallEntriesAreSubmitted {K} k =
     (n : ℕ) (h : Hall K) (steps : List (HallStep K)) (i d pos : ℕ) (e : Entry)
@@ -359,8 +377,8 @@ pub record ServesAt {K : Type 0} (steps : List (HallStep K)) (at d number : ℕ)
   pub turn : step.event ≡ TurnAt d (record { number = number; turn = Began one }) acts
   pub whole : ((step.after.desks d).talks number).end ≢ Some end.NoMemory
 
--- Then that connection has exactly the answer of this frame to be taken, spelled, and by the desk
--- as it was before the step.
+-- Then what waits on that connection for its client is exactly the spelling of this frame's answer,
+-- as the desk before the step gives it.
 abbrev pub HallAnswersWait : {K : Type 0} → Ghosts K → Type 0
 HallAnswersWait {K} k =
     (n : ℕ) (h : Hall K) (steps : List (HallStep K)) (at d number : ℕ) (one : Begun)
@@ -405,7 +423,8 @@ HallSheetsAreOfLogs {K} k =
     (h : Hall K) (steps : List (HallStep K)) (at d : ℕ) (sheet : SheetAsked) (text : List ℕ)
     → AnswersSheet k h steps at d sheet text → IsSheetOf (hall_log h steps at d) sheet text
 
--- and no two that are asked for alike differ, whichever desks answered them, and when
+-- and no two sheets that are asked for alike differ, whichever desks answered them, and whenever
+-- they did
 abbrev pub HallSheetsAgree : {K : Type 0} → Ghosts K → Type 0
 HallSheetsAgree {K} k =
     (n : ℕ) (h : Hall K) (steps : List (HallStep K)) (i j d f : ℕ) (sheet : SheetAsked)
@@ -416,7 +435,7 @@ HallSheetsAgree {K} k =
 
 -- ---- that nothing is left out
 
--- Each turn that a desk of the hall takes is such an event, where what its frame brings was sent.
+-- Each turn that a desk of the hall makes is such an event, where what its frame brings was sent.
 abbrev pub TurnsAreEvents : {K : Type 0} → Ghosts K → Type 0
 TurnsAreEvents {K} k =
     (n d : ℕ) (h : Hall K) (t : TurnOf) (y : Station K)
@@ -425,7 +444,7 @@ TurnsAreEvents {K} k =
     → TurnWasSent (home_at k (h.desks d)) h.sent t.turn
     → (acts : List Act) × (g : Hall K) × (g.desks d ≡ y) × HallGoes k n (TurnAt d t acts) h g
 
--- And so is each Tick that it takes of its own: what it did is what such a frame of a client comes
+-- And so is each Tick of its own that it makes: what it did is what such a frame of a client comes
 -- to, or a front part of it, and its connections stayed as they were.
 abbrev pub OwnTicksAreEvents : {K : Type 0} → Ghosts K → Type 0
 OwnTicksAreEvents {K} k =
@@ -436,3 +455,11 @@ OwnTicksAreEvents {K} k =
     → Makes (home_at k (h.desks d)).hall (beside k (h.desks d).wire (h.desks d))
     (beside k (h.desks d).wire y) acts
     → (g : Hall K) × (g.desks d ≡ y) × HallGoes k n (TickedAt d one acts) h g
+
+-- And so is each settling that is answered so.
+abbrev pub SettlingsAreEvents : {K : Type 0} → Ghosts K → Type 0
+SettlingsAreEvents {K} k =
+    (n d : ℕ) (h : Hall K) (y : Station K)
+    → IsDesk n d → y.wire ≡ (h.desks d).wire → ((j : ℕ) → y.talks j ≡ (h.desks d).talks j)
+    → Settles k (h.desks d).node true y.node
+    → (g : Hall K) × (g.desks d ≡ y) × HallGoes k n (SettledAt d) h g

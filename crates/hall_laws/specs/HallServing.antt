@@ -1,5 +1,5 @@
 -- That desks which serve decide what is queued: by Ticks of one desk, and by frames among a
--- majority of them, as serving takes these (the project's own).
+-- majority of them, as serving does these (the project's own).
 use Rattle.std.specs.Prelude.{ℕ, ◌≡◌, ◌≤◌, ◌<◌, ◌⊎◌, false, List, [], ◌∷◌, ◌++◌, Option, Some, None}
 use Rattle.std.specs.Prelude.{length, map}
 use Rattle.acceptor.specs.declared.entry.Entry.{Entry}
@@ -22,7 +22,7 @@ use Rattle.hall_laws.specs.HallRuns.{hall_after}
 
 -- ---- what a majority does by itself
 
--- desk d takes a Tick of its own; or a message comes over a connection of this number: this one of
+-- desk d makes a Tick of its own; or a message comes over a connection of this number: this one of
 -- all that the hall's desks have handed out, counted from 1
 pub data OwnTurn : Type 0 where
   DeskTicks : OwnTurn
@@ -43,14 +43,15 @@ events_of_message k h number (Some m) =
     let x = h.desks m.to in
     comes_over m.to number (frame_of k h m) (acts_for k x (asked_of k x (frame_of k h m)))
 
--- The events that the turn is: with a Tick and with a message comes all that the desk does for it,
--- what it delivers to itself and a Start among that.
+-- The events that make up the turn: with a Tick or a message comes all that the desk does for it,
+-- including what it delivers to itself and a Start.
 abbrev pub events_of_turn : {K : Type 0} → Ghosts K → ℕ → Hall K → OwnTurn → List HallEvent
 events_of_turn k d h DeskTicks = ticked k d (h.desks d) ∷ []
 events_of_turn k d h (MessageComes number at) =
     events_of_message k h number (nth_sent h.sent at)
 
--- a message is from one of these desks to one of these, and was handed out after the first `start`
+-- a message is from one of these desks to another of them, and was handed out after the first
+-- `start` messages
 abbrev pub IsOwn : {K : Type 0} → List ℕ → ℕ → Hall K → OwnTurn → Type 0
 IsOwn desks start h DeskTicks = Unit {0}
 IsOwn desks start h (MessageComes number at) =
@@ -68,8 +69,8 @@ AreOwnTurns {K} k d desks start h steps (t ∷ ts) more =
 
 -- ---- the premises
 
--- such a turn asks this of desk j: a Tick, where it is desk d; or what the frame of a message asks
--- that was handed out after the first `start`, from one of these desks to desk j
+-- such a turn asks this of desk j: a Tick, where j is d; or what the frame of a message asks that
+-- is from one of these desks to desk j, and was handed out after the first `start` messages
 abbrev pub IsOwnRequest : {K : Type 0} → Ghosts K → ℕ → List ℕ → ℕ → Hall K → ℕ → Request → Type 0
 IsOwnRequest k d desks start h j r =
     ((j ≡ d) × (r ≡ Ticked))
@@ -104,7 +105,7 @@ pub record CanServe {K : Type 0} (k : Ghosts K) (n d : ℕ) (desks : List ℕ) (
 
 -- ---- the law
 
--- the run goes on with such turns alone, until these entries are in desk d's log, past what is
+-- the run continues with such turns alone, until these entries are in desk d's log, past what is
 -- there now and in their order, and these are left in its queue
 pub record HallDecides {K : Type 0} (k : Ghosts K) (n d : ℕ) (desks : List ℕ) (h : Hall K)
     (steps : List (HallStep K)) (es rest : List Entry) : Type 0 where

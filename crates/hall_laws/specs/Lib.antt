@@ -4,6 +4,8 @@ pub mod Arriving
 pub mod OwnMessages
 pub mod Pushing
 pub mod HallRuns
+pub mod Lost
+pub mod Losses
 pub mod HallExample
 pub mod HallProgress
 pub mod HallGoing

@@ -1,5 +1,5 @@
--- A keeper of a kind that never fails: it remembers what it is given (the project's own). So what
--- is said of keepers of any kind can be met.
+-- A keeper of a kind that never fails: it remembers what it is given, and nothing waits (the
+-- project's own). So there are keepers that meet what laws ask of keepers of any kind.
 use Rattle.std.specs.Prelude.{◌≡◌, false, List}
 use Rattle.acceptor.specs.declared.entry.Entry.{Entry}
 use Rattle.acceptor.specs.declared.stored.Stored.{Stored}
@@ -18,6 +18,8 @@ memory = record {
   may_hold = λ m s log. (s ≡ m.stored) × (log ≡ m.log);
   may_break = λ m. ⊥;
   keeps = λ m s log. (s ≡ m.stored) × (log ≡ m.log);
+  finds = λ m s log. (s ≡ m.stored) × (log ≡ m.log);
+  is_settled = λ m. Unit {0};
   is_down = λ m. false;
   failures_of = λ m. 0;
   home_of = λ m. m.home;

@@ -24,9 +24,9 @@ abbrev pub WereSentTo : ℕ → List Message → List DeskEvent → Type 0
 WereSentTo d sent [] = Unit {0}
 WereSentTo d sent (e ∷ es) = IsSentTo d sent e × WereSentTo d sent es
 
--- One request: where the messages that it brings from the network were sent to this desk, so was
--- each that is delivered in the calls of serving it, before them or by an earlier one of them. That
--- holds whatever is seen of the desk, and whatever its calls come to.
+-- If the messages that one request brings from the network were sent to this desk, then so was each
+-- message that is delivered in the calls of serving it: before these calls, or by an earlier one of
+-- them. This holds whatever is seen of the desk, and whatever its calls come to.
 abbrev pub OwnMessagesWereSent : Type 0
 OwnMessagesWereSent =
     (home : Home) (x : Seen) (fates : List Fate) (r : Request) (sent : List Message)
@@ -60,7 +60,7 @@ FrontsWereSent =
     → BringWhatWasSent home x sent begun → (serve_frames home x begun).acts ≡ acts ++ rest
     → AreSentTo home.desk sent (calls_of acts)
 
--- what these acts do happens in the world: there are happenings behind which desk d knows what the
+-- what these acts do happens in the world: there are happenings after which desk d knows what the
 -- node knows, what its calls hand out was sent, and nothing else has changed
 abbrev pub Happen : {K : Type 0} → ℕ → ℕ → World → List Act → NodeValue K → Type 0
 Happen n d w acts y =
@@ -77,7 +77,7 @@ RequestsHappen {K} k =
     → (served (k.home_of x.keeper) seen fates r).done ≡ acts ++ rest
     → Lead (Handles k) x (calls_of acts) y → Happen n d w acts y
 
--- And so for frames one after the other, all of them or a front part of what they come to.
+-- And so does what is done for frames one after the other: all of it or a front part.
 abbrev pub FramesHappen : {K : Type 0} → Ghosts K → Type 0
 FramesHappen {K} k =
     (n d : ℕ) (w : World) (seen : Seen) (begun : List Begun) (acts rest : List Act)

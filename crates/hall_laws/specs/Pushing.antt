@@ -20,7 +20,7 @@ use Rattle.serving.specs.declared.request.Request.TheVariants.{Heard, Lagging, L
 use Rattle.serving.specs.declared.request.Request.TheVariants.{Asked, Printed, Ticked, Stopped}
 use Rattle.serving.specs.declared.request.Request.TheVariants.{Inspected, Copied, Strange, Ignored}
 use Rattle.serving.specs.declared.request.Request.TheVariants.{Denied, Withheld}
-use Rattle.serving.specs.declared.request.Run.{Run}
+use Rattle.serving.specs.declared.request.DecidedRun.{DecidedRun}
 use Rattle.store.specs.declared.home.Home.{Home}
 
 -- the messages that the calls among these acts handed out, in order
@@ -31,7 +31,7 @@ handed (Pushed m ∷ acts) = handed acts
 handed (Answered run ∷ acts) = handed acts
 
 -- a run says what a Decided for each of its entries says
-abbrev pub said_by : Run → List Message
+abbrev pub said_by : DecidedRun → List Message
 said_by run = told run.from run.to run.pos run.entries
 
 -- the messages that were pushed, in order; a run counts as the messages that it stands for
@@ -42,7 +42,7 @@ pushed_messages (Pushed m ∷ acts) = m ∷ pushed_messages acts
 pushed_messages (Answered run ∷ acts) = said_by run ++ pushed_messages acts
 
 -- the runs that were pushed
-abbrev pub runs_pushed : List Act → List Run
+abbrev pub runs_pushed : List Act → List DecidedRun
 runs_pushed [] = []
 runs_pushed (Called e r ∷ acts) = runs_pushed acts
 runs_pushed (Pushed m ∷ acts) = runs_pushed acts
@@ -107,13 +107,13 @@ MessagesArePushed =
 
 -- ---- which of it as a run
 
-abbrev pub as_list : Option Run → List Run
+abbrev pub as_list : Option DecidedRun → List DecidedRun
 as_list None = []
 as_list (Some run) = run ∷ []
 
 -- a desk that says how long its log is may be answered by a run, made of what the first call hands
 -- out; no other request is
-abbrev pub runs_due : Home → Request → List Act → List Run
+abbrev pub runs_due : Home → Request → List Act → List DecidedRun
 runs_due home (Heard m) acts = []
 runs_due home (Lagging m) acts = as_list (run_of home.desk (handed (take 1 acts)))
 runs_due home (Learned run) acts = []

@@ -1,5 +1,5 @@
--- What the calls of served frames are in the world, and what a sheet that was written is (the
--- project's own).
+-- What the calls of served frames come to in the world, and of which log a sheet that was written
+-- is (the project's own).
 use Rattle.std.specs.Prelude.{◌≡◌, ◌≤◌, ℕ, List, [], ◌∷◌, ◌++◌, length, Some, Result, Ok}
 use Rattle.std.specs.Prelude.{Err}
 use Rattle.acceptor.specs.declared.message.Message.{Message}
@@ -19,7 +19,7 @@ use Rattle.serving.specs.Serving.{answer}
 use Rattle.serving.specs.declared.request.Request.TheVariants.{Printed}
 use Rattle.store.specs.declared.home.Home.{Home}
 use Rattle.store.specs.declared.keeper.Keeper.{Ghosts}
-use Rattle.wire.specs.declared.frame.What.TheVariants as what
+use Rattle.wire.specs.declared.frame.FrameBody.TheVariants as what
 use Rattle.wire.specs.declared.values.SheetStyle.{SheetStyle as Style}
 use Rattle.answers.specs.Answers.{sheet_at}
 use Rattle.replica.specs.declared.roles.fault.NodeFault.{NodeFault}
@@ -55,7 +55,7 @@ pub record StandsFor {K : Type 0} (k : Ghosts K) (n d : ℕ) (w : World)
   pub known : node.desk ≡ w.desks d
 
 -- Calls of a desk, each as `handle` makes it, happen in the world, where each message that they
--- deliver was sent by the desk that it names: there are happenings behind which the desk knows what
+-- deliver was sent by the desk that it names: there are happenings after which the desk knows what
 -- the node knows after the calls, what they hand out was sent, and nothing else has changed.
 abbrev pub CallsAreARun : {K : Type 0} → Ghosts K → Type 0
 CallsAreARun {K} k =

@@ -70,9 +70,9 @@ pub record Follows (real world : World) : Type 0 where
   pub desks : real.desks ≡ world.desks
   pub sent : (m : Message) → IsAmong m real.sent → IsAmong m world.sent
 
--- The event of the world that an event among the real desks is: the same event; and a delivery is
--- there of the same message, whose number can be another one, since what a stopped call did not
--- hand out was sent there too.
+-- The event of the world for an event among the real desks is the same event. A delivery is of the
+-- same message, but the message's number may differ there: in the world what a stopped call did not
+-- hand out was sent too.
 abbrev pub IsSameEvent : List Message → List Message → WorldEvent → WorldEvent → Type 0
 IsSameEvent real sent (SubmitAt d e) there = there ≡ SubmitAt d e
 IsSameEvent real sent (StartAt d) there = there ≡ StartAt d
@@ -97,9 +97,9 @@ events_of n real [] there = []
 events_of n real (h ∷ hs) [] = []
 events_of n real (h ∷ hs) (e ∷ there) = group real h e ++ events_of n (goes_on n real h) hs there
 
--- Before and after each happening the desks are the same here and there, and what was handed out
--- here was sent there; and each happening's event is the same. So there no message is delivered but
--- one that was handed out here.
+-- Before and after each happening the real desks are those of the world, what they handed out was
+-- sent in the world, and the happening's event is the world's event. So the world delivers only
+-- messages that a real desk handed out.
 abbrev pub KeepsStep : ℕ → World → World → List Happening → List WorldEvent → Type 0
 KeepsStep n real world [] [] = Follows real world
 KeepsStep n real world [] (e ∷ there) = ⊥
@@ -132,8 +132,8 @@ RealLogsAgree =
     → IsPrefix (real_log n hs i d) (real_log n hs j k)
     ⊎ IsPrefix (real_log n hs j k) (real_log n hs i d)
 
--- The entry was submitted to a desk that took it, by a call that was answered. One whose call
--- stopped was not: nothing of it is stored, and the queue is gone.
+-- The entry was submitted to a desk that accepted it, by a call that was answered. An entry whose
+-- call stopped was not submitted: nothing of it is stored, and the queue is gone.
 pub record WasSubmitted (n : ℕ) (hs : List Happening) (e : Entry) : Type 0 where
   pub at : ℕ
   pub desk : ℕ
@@ -149,8 +149,8 @@ RealEntriesAreSubmitted =
 -- ---- how what `Node::handle` and `Node::open` say of one desk is what the happenings say of the
 -- world
 
--- an answered call puts the desk that it leaves in place of its desk, and the messages that it
--- hands out behind those sent before: its event
+-- an answered call is its event: it puts the desk that it leaves in place of its desk, and adds the
+-- messages that it hands out to those sent before
 abbrev pub AnswerIsEvent : Type 0
 AnswerIsEvent =
     (n d : ℕ) (w : World) (event : DeskEvent) (y : Desk) (messages : List Message)

@@ -1,4 +1,4 @@
--- A run of three desks that meets all that is asked where a majority is to decide: one of them
+-- A run of three desks that meets all premises of the law that a majority decides: one of them
 -- stops inside a save and is opened again, one has a higher ballot, one has an old vote, and most
 -- of what they said never came (the project's own). Their keepers never fail.
 use Rattle.std.specs.Prelude.{◌≡◌, ℕ, List, [], ◌∷◌, None, Some, slice_get, take}
@@ -13,7 +13,7 @@ use Rattle.progress.specs.Turns.{HasTurnRoom}
 use Rattle.proposer.specs.declared.role.Role.TheVariants.{Gathering, Proposing}
 use Rattle.serving.specs.Serving.{Act}
 use Rattle.wire.specs.declared.frame.Frame.{Frame}
-use Rattle.wire.specs.declared.frame.What.TheVariants as what
+use Rattle.wire.specs.declared.frame.FrameBody.TheVariants as what
 use Rattle.wire.specs.declared.values.Version.TheVariants.{Two}
 use Rattle.hall_laws.specs.HallExample.{third_home, three_desks}
 use Rattle.hall_laws.specs.HallGoing.{as_it_goes, own_tick}
@@ -69,7 +69,7 @@ outbid_desk = record {
 
 -- ---- the run
 
--- In one of the steps desk 1 takes a Tick of its own, stops in its first save, and is opened again
+-- In one of the steps desk 1 makes a Tick of its own, stops in its first save, and is opened again
 -- over what that left.
 pub record StopsOnce (steps : List (HallStep Memory)) : Type 0 where
   pub at : ℕ
@@ -81,8 +81,8 @@ pub record StopsOnce (steps : List (HallStep Memory)) : Type 0 where
   pub saving : StopsInSave memory ((hall_after first_hall (take at steps)).desks 1).node keeper rest
   pub opened : IsOpened memory keeper (step.after.desks 1)
 
--- So the laws of halls say something of it: a majority without the rival decides what desk 1 has
--- queued, in the protocol's steps and by turns.
+-- So the laws of halls say something of this run: a majority without the rival decides what desk 1
+-- has queued, in the protocol's steps and by turns.
 pub record TangleIsDecided : Type 0 where
   pub steps : List (HallStep Memory)
   pub run : IsHallRun memory 3 first_hall steps

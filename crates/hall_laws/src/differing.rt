@@ -19,10 +19,10 @@ pub fn differences_are_heard()
 /// Within the premises of a hall's runs no desk hears of another one that it differs. What a desk
 /// said was decided at a position is in every log that has the position, so a frame of entries that
 /// a desk of the hall has sent has no other one than is in the log. And of two messages that one
-/// desk sent, the later tells no shorter log.
+/// desk sent, the later reports no shorter log.
 ///
-/// One premise more is of connections: that what one brings was sent in its order, and after what
-/// the desk had heard of its sender when it accepted it.
+/// One premise more is about connections: what a connection brings was sent in the same order, and
+/// after what the desk had heard of the sender when it accepted the connection.
 pub fn desks_never_differ<K: Keeper>()
     ensures decided { HallDecidedsStand K.Keeper }
     ensures runs { HallRunsAgree K.Keeper }

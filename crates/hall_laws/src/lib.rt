@@ -1,5 +1,6 @@
-//! What holds of every hall of desks, whichever stop and whatever they serve: the headline, and
-//! laws that tie real desks to it. Each is the contract of a function that does nothing.
+//! What holds of every hall of desks, whichever of them stop and whatever they serve: the headline,
+//! and laws that tie desks which run to it. Each law is the contract of a function that does
+//! nothing.
 #![tactic(auto)]
 
 mod arriving;

@@ -7,9 +7,9 @@ use crate::served::calls_are_a_run;
 use store::keeper::Keeper;
 
 /// Each message that is delivered to a desk while it serves was sent to it before, if the messages
-/// that its frames bring were. So nothing has to be supposed of a desk's own doing: each message
-/// that it delivers to itself is one that an earlier one of its calls handed out, as it was and for
-/// this desk.
+/// that its frames bring were. So nothing has to be supposed of what a desk does itself: each
+/// message that it delivers to itself was handed out, unchanged and for this desk, by an earlier
+/// one of its calls.
 ///
 /// That is said of one request; of frames, one after the other, each of which brings what was sent
 /// before it; and of what is done of these where one of them fails.

@@ -10,7 +10,7 @@ use store::keeper::Keeper;
 /// step: an answered call is its event there, and a stopped or failed one is its event or nothing,
 /// then a restart. What a stopped call did not hand out is sent there and never delivered. So of
 /// real desks' logs at any two moments one is a prefix of the other, and every entry was submitted
-/// before, by a call that was answered and whose desk took it.
+/// before, by a call that was answered and whose desk accepted it.
 ///
 /// That a stop inside a save leaves the state before the change or the one after it is what the
 /// store promises; for SQLite it is the promise of its one statement.

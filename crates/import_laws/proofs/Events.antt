@@ -12,7 +12,7 @@ use Rattle.formats.proofs.Naming.{only_name-event}
 use Rattle.texts.specs.declared.command.Command.TheVariants.{Open}
 use Rattle.texts.specs.declared.command.Settings.{Settings}
 use Rattle.texts.specs.Fields.{round_id}
-use Rattle.wcif.specs.declared.fault.Fault.TheVariants as of
+use Rattle.wcif.specs.declared.fault.CompetitionFault.TheVariants as of
 use Rattle.wcif.specs.declared.fault.EventFault.TheVariants as fault
 use Rattle.wcif.specs.declared.options.CumulativeLimits.{CumulativeLimits}
 use Rattle.wcif.specs.Commands.{opening, opened}

@@ -10,8 +10,8 @@ use Rattle.serde_json.specs.Data.{Data}
 use Rattle.serde_json.specs.Find.{as_number, as_u64}
 use Rattle.formats.specs.declared.events.Event.{Event}
 use Rattle.formats.specs.Events.{event_name}
-use Rattle.wcif.specs.declared.fault.Fault.{Fault}
-use Rattle.wcif.specs.declared.fault.Fault.TheVariants as of
+use Rattle.wcif.specs.declared.fault.CompetitionFault.{CompetitionFault}
+use Rattle.wcif.specs.declared.fault.CompetitionFault.TheVariants as of
 use Rattle.wcif.specs.declared.fault.PersonFault.TheVariants as fault
 use Rattle.wcif.specs.declared.options.SameNames.{SameNames}
 use Rattle.wcif.specs.declared.options.SameNames.TheVariants.{Refuse, WithId}
@@ -281,7 +281,7 @@ no_person_faults how c h front p back is =
     let events : List Data = map event_data c.events in
     let everyone : List Data = map person_data c.persons in
     let earlier : List Data = map person_data front in
-    let told_of : Bool → List Fault =
+    let told_of : Bool → List CompetitionFault =
     λ b. cond b (map (of.Person (place earlier) (who (person_data p)))
     (read.accepted_faults how events everyone earlier (person_data p))) [] in
     ap told_of (takes p) ∙ step (takes_part p) refl

@@ -17,7 +17,7 @@ use Rattle.formats.specs.Events.{unit_of, is_allowed, attempts_of}
 use Rattle.texts.specs.declared.command.Settings.{Settings}
 use Rattle.texts.specs.Numerals.{within}
 use Rattle.texts.proofs.Numerals.{bytes_eq-same}
-use Rattle.wcif.specs.declared.fault.Fault.TheVariants as of
+use Rattle.wcif.specs.declared.fault.CompetitionFault.TheVariants as of
 use Rattle.wcif.specs.declared.fault.RoundFault.TheVariants as fault
 use Rattle.wcif.specs.declared.options.CumulativeLimits.{CumulativeLimits}
 use Rattle.wcif.specs.declared.options.CumulativeLimits.TheVariants as limits

@@ -10,8 +10,8 @@ use Rattle.formats.specs.declared.events.Event.{Event}
 use Rattle.formats.specs.Events.{event_name}
 use Rattle.formats.proofs.Naming.{only_name-event}
 use Rattle.texts.specs.declared.command.Command.TheVariants.{Register, Enter}
-use Rattle.wcif.specs.declared.fault.Fault.{Fault}
-use Rattle.wcif.specs.declared.fault.Fault.TheVariants as of
+use Rattle.wcif.specs.declared.fault.CompetitionFault.{CompetitionFault}
+use Rattle.wcif.specs.declared.fault.CompetitionFault.TheVariants as of
 use Rattle.wcif.specs.declared.options.Edition.{Edition}
 use Rattle.wcif.specs.declared.options.Edition.TheVariants.{Three, Four}
 use Rattle.wcif.specs.declared.options.Options.{Options}
@@ -64,8 +64,9 @@ unfolding faults
 none_told options c h =
     let persons : List Data = map person_data c.persons in
     let events : List Data = map event_data c.events in
-    let of_persons : List Fault = told (person_faults options.names events persons) persons in
-    let of_events : List Fault = told (event_faults options.limits persons) events in
+    let of_persons : List CompetitionFault = told
+    (person_faults options.names events persons) persons in
+    let of_events : List CompetitionFault = told (event_faults options.limits persons) events in
     ap (λ o. faults_in options o (list_at (codes "events") (file_data c))) (persons_found c)
     ∙ ap (faults_in options (Some persons)) (events_found c)
     ∙ ap (λ b. cond b (of.TooManyEvents ∷ []) (of_persons ++ of_events)) (few_events c h.few_events)

@@ -15,7 +15,7 @@ use Rattle.acceptor.specs.Messages.{message, has, desks_from, without, to_each, 
 use Rattle.acceptor.specs.declared.message.Body.TheVariants.{Prepare, Promise, Accept, Accepted}
 use Rattle.acceptor.specs.declared.message.Body.TheVariants.{Nack, Behind, Decided}
 use Rattle.acceptor.specs.declared.stored.Vote.{Vote}
-use Rattle.proposer.specs.declared.role.Heard.{Heard}
+use Rattle.proposer.specs.declared.role.PromisingDesk.{PromisingDesk}
 use Rattle.proposer.specs.declared.role.Role.{Role}
 use Rattle.learner.specs.Desks.{Desk, adopt, passing}
 use Rattle.acceptor.specs.declared.stored.Change.{Change}
@@ -232,7 +232,8 @@ accept_holds P Q real d x from b pos e h q k = go (pos == length x.log)
     go true = due (is_below b x.stored.promised) refl
     go false = elsewhere_holds P Q d x from pos h
 
-highest_holds : (P : Entry → Type 0) (Q : Ballot → Type 0) (hs : List Heard) → HeardHolds P Q hs
+highest_holds : (P : Entry → Type 0) (Q : Ballot → Type 0) (hs : List PromisingDesk)
+    → HeardHolds P Q hs
     → ReportHolds P Q (highest hs)
 highest_holds P Q [] h = tt
 highest_holds P Q (x ∷ hs) h = two x.vote (highest hs) h.0 (highest_holds P Q hs h.1)
@@ -276,7 +277,7 @@ promise_holds P Q n d x from b pos vote h v = by_role x.role h.role
             }
         chosen None i [] j = record { role = tt; change = tt; messages = tt }
 
-        many : (hs : List Heard) → HeardHolds P Q hs → (t : Bool)
+        many : (hs : List PromisingDesk) → HeardHolds P Q hs → (t : Bool)
             → PlanHolds P Q
             (if t then propose n d (passing x) own at (choice (highest hs) x.queue)
             else become (passing x) (Gathering own at hs) [])

@@ -20,7 +20,7 @@ use Rattle.acceptor.specs.declared.message.Message.{Message}
 use Rattle.acceptor.specs.declared.message.Body.TheVariants.{Prepare, Promise, Accept, Accepted}
 use Rattle.acceptor.specs.declared.message.Body.TheVariants.{Nack, Behind, Decided}
 use Rattle.acceptor.specs.declared.stored.Vote.{Vote}
-use Rattle.proposer.specs.declared.role.Heard.{Heard}
+use Rattle.proposer.specs.declared.role.PromisingDesk.{PromisingDesk}
 use Rattle.proposer.specs.declared.role.Role.{Role}
 use Rattle.learner.specs.Desks.{Desk, restarted, adopt, passing}
 use Rattle.proposer.specs.declared.plan.Plan.{Plan}
@@ -233,7 +233,7 @@ messages_more P Q R f [] h = tt
 messages_more P Q R f (m ∷ ms) h = (body_more P Q R f m.body h.0, messages_more P Q R f ms h.1)
 
 heard_more : (P : Entry → Type 0) (Q R : Ballot → Type 0) → ((b : Ballot) → Q b → R b)
-    → (hs : List Heard) → HeardHolds P Q hs → HeardHolds P R hs
+    → (hs : List PromisingDesk) → HeardHolds P Q hs → HeardHolds P R hs
 heard_more P Q R f [] h = tt
 heard_more P Q R f (x ∷ hs) h = (report x.vote h.0, heard_more P Q R f hs h.1)
   where

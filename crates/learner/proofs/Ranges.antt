@@ -20,7 +20,7 @@ use Rattle.acceptor.specs.Answers.{accept_reply}
 use Rattle.proposer.specs.declared.fault.Refusal.{Refusal}
 use Rattle.proposer.specs.declared.fault.Refusal.TheVariants.{LogFull, BallotsSpent}
 use Rattle.proposer.specs.declared.plan.Plan.{Plan}
-use Rattle.proposer.specs.declared.role.Heard.{Heard}
+use Rattle.proposer.specs.declared.role.PromisingDesk.{PromisingDesk}
 use Rattle.proposer.specs.declared.role.Role.{Role}
 use Rattle.proposer.specs.declared.role.Role.TheVariants.{Idle, Gathering, Proposing, Leading}
 use Rattle.proposer.specs.Plans.{only_say, become, append}
@@ -236,7 +236,7 @@ promise_placed n d x from b pos vote h = by_role x.role h.role
             becomes n d x (Proposing own at e []) _ h k (all_placed n d (Accept own at e) at_less)
         chosen None = becomes n d x Idle [] h tt tt
 
-        many : (hs : List Heard) (t : Bool)
+        many : (hs : List PromisingDesk) (t : Bool)
             → PlanIsPlaced n d x
             (if t then propose n d (passing x) own at (choice (highest hs) x.queue)
             else become (passing x) (Gathering own at hs) [])

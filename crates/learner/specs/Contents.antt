@@ -10,7 +10,7 @@ use Rattle.acceptor.specs.declared.message.Body.TheVariants.{Prepare, Promise, A
 use Rattle.acceptor.specs.declared.message.Body.TheVariants.{Nack, Behind, Decided}
 use Rattle.acceptor.specs.declared.stored.Vote.{Vote}
 use Rattle.acceptor.specs.Ballots.{no_ballot}
-use Rattle.proposer.specs.declared.role.Heard.{Heard}
+use Rattle.proposer.specs.declared.role.PromisingDesk.{PromisingDesk}
 use Rattle.proposer.specs.declared.role.Role.{Role}
 use Rattle.proposer.specs.declared.role.Role.TheVariants.{Idle, Gathering, Proposing, Leading}
 use Rattle.learner.specs.Desks.{Desk}
@@ -42,7 +42,7 @@ abbrev pub VoteHolds : (Entry → Type 0) → (Ballot → Type 0) → Option Vot
 VoteHolds P Q None = Unit {0}
 VoteHolds P Q (Some v) = Q v.ballot × P v.entry
 
-abbrev pub HeardHolds : (Entry → Type 0) → (Ballot → Type 0) → List Heard → Type 0
+abbrev pub HeardHolds : (Entry → Type 0) → (Ballot → Type 0) → List PromisingDesk → Type 0
 HeardHolds P Q [] = Unit {0}
 HeardHolds P Q (h ∷ hs) = ReportHolds P Q h.vote × HeardHolds P Q hs
 

@@ -12,7 +12,7 @@ use Rattle.acceptor.specs.Messages.{Sent}
 use Rattle.acceptor.specs.declared.message.Body.TheVariants.{Prepare, Promise, Accept, Accepted}
 use Rattle.acceptor.specs.declared.message.Body.TheVariants.{Nack, Behind, Decided}
 use Rattle.acceptor.specs.declared.stored.Vote.{Vote}
-use Rattle.proposer.specs.declared.role.Heard.{Heard}
+use Rattle.proposer.specs.declared.role.PromisingDesk.{PromisingDesk}
 use Rattle.proposer.specs.declared.role.Role.{Role}
 use Rattle.learner.specs.Desks.{Desk}
 use Rattle.proposer.specs.declared.role.Role.TheVariants.{Idle, Gathering, Proposing, Leading}
@@ -26,11 +26,11 @@ abbrev pub Asked : List Message → Ballot → ℕ → Entry → Type 0
 Asked sent b pos e = (s : ℕ) × Sent sent s (Accept b pos e)
 
 -- the desk is among those heard, with this vote
-abbrev pub HeardFrom : List Heard → ℕ → Option Report → Type 0
+abbrev pub HeardFrom : List PromisingDesk → ℕ → Option Report → Type 0
 HeardFrom [] d v = ⊥
 HeardFrom (h ∷ hs) d v = ((h.desk ≡ d) × (h.vote ≡ v)) ⊎ HeardFrom hs d v
 
-abbrev pub desks_of : List Heard → List ℕ
+abbrev pub desks_of : List PromisingDesk → List ℕ
 desks_of [] = []
 desks_of (h ∷ hs) = h.desk ∷ desks_of hs
 
@@ -44,7 +44,7 @@ IsEntryOf (Some r) e = r.entry ≡ e
 -- section 2.2)
 pub record IsBacked (n : ℕ) (sent : List Message) (b : Ballot) (pos : ℕ) (e : Entry) : Type 0 where
   pub at : ℕ
-  pub heard : List Heard
+  pub heard : List PromisingDesk
   pub majority : IsMajority n (desks_of heard)
   pub promised : (d : ℕ) (v : Option Report) → HeardFrom heard d v → Sent sent d (Promise b at v)
   pub no_later : at ≤ pos
@@ -108,7 +108,7 @@ Stands n sent d x (Decided pos e) = IsChosen n sent pos e
 
 -- the promises that were heard were sent, each by another desk
 pub record GatheringStands (n : ℕ) (sent : List Message) (d top len : ℕ) (b : Ballot) (pos : ℕ)
-    (heard : List Heard) : Type 0 where
+    (heard : List PromisingDesk) : Type 0 where
   pub own : b.desk ≡ d
   pub tried : b.number ≤ top
   pub place : pos ≡ len
@@ -134,7 +134,7 @@ pub record LeadingStands (n : ℕ) (sent : List Message) (d top len : ℕ) (b : 
   pub tried : b.number ≤ top
   pub at : ℕ
   pub before : at < len
-  pub heard : List Heard
+  pub heard : List PromisingDesk
   pub majority : IsMajority n (desks_of heard)
   pub promised : (k : ℕ) (v : Option Report)
       → HeardFrom heard k v → Sent sent k (Promise b at v)

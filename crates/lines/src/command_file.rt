@@ -6,6 +6,6 @@ mod field_words;
 mod reading;
 mod wording;
 
-pub use command_text::CommandText;
+pub use command_text::InputCommand;
 pub use reading::read_commands;
 pub use wording::first_fault;

@@ -6,8 +6,8 @@ use Rattle.std.proofs.Common.{length-drop, ◌*◌, min, nat_le, ◌||◌, if◌
 use Rattle.std.proofs.lemmas.List.{take-append-drop}
 use Rattle.std.proofs.lemmas.Bool.{leb-true, ltb-true}
 use Rattle.std.proofs.lemmas.Bool.Decides.{eqb_tells}
-use Rattle.links.specs.declared.stages.Stage.{Stage}
-use Rattle.links.specs.declared.stages.Stage.TheVariants as stage
+use Rattle.links.specs.declared.stages.LinkStage.{LinkStage}
+use Rattle.links.specs.declared.stages.LinkStage.TheVariants as stage
 use Rattle.links.specs.Links.{LinkState, IsUnconnected, first_of, has_room, has_some, frames_on}
 use Rattle.links.specs.Links.{after_began, after_opened, opened_at, reached, broken, failed_at}
 use Rattle.links.specs.Links.{after_failed, after_ended, spent_at, with_stage, after_closed}
@@ -25,14 +25,15 @@ use Rattle.links.proofs.Keeping.{joined}
 use Rattle.links.proofs.Keeping.{SameTold, as_next}
 
 -- where there is no connection, the last one is over
-next_is_past : (stage : Stage) (n : ℕ) (bytes front : List ℕ) (ts : List Told) → IsUnconnected stage
+next_is_past : (stage : LinkStage) (n : ℕ) (bytes front : List ℕ) (ts : List Told)
+    → IsUnconnected stage
     → Now stage n bytes front ts → Past bytes n ts
 next_is_past stage.Closed n bytes front ts free h = h
 next_is_past (stage.Paused since millis) n bytes front ts free h = h
 next_is_past (stage.Opening since) n bytes front ts free h = absurd free
 next_is_past (stage.Open frames quiet) n bytes front ts free h = absurd free
 
-unconnected_shut : (stage : Stage) → IsUnconnected stage → has_room stage ≡ false
+unconnected_shut : (stage : LinkStage) → IsUnconnected stage → has_room stage ≡ false
 unconnected_shut stage.Closed free = refl
 unconnected_shut (stage.Paused since millis) free = refl
 unconnected_shut (stage.Opening since) free = absurd free
@@ -111,7 +112,7 @@ reaches h s ts since now a is =
       );
     }
 
-opens_at : (at : Stage) (h : History) (s : LinkState) (ts : List Told) (now : ℕ) → Holds h s ts
+opens_at : (at : LinkStage) (h : History) (s : LinkState) (ts : List Told) (now : ℕ) → Holds h s ts
     → s.stage ≡ at → Holds h (opened_at at s now) ts
 opens_at stage.Closed h s ts now a is = a
 opens_at (stage.Paused since millis) h s ts now a is = a
@@ -154,7 +155,7 @@ same_dropped ts = record {
 }
 
 -- the last connection is over
-over : (at : Stage) (n : ℕ) (bytes front : List ℕ) (ts us : List Told) → Same ts us
+over : (at : LinkStage) (n : ℕ) (bytes front : List ℕ) (ts us : List Told) → Same ts us
     → frames_on at ≤ 63 → (front ≡ []) ⊎ IsCut n front us → Now at n bytes front ts
     → Past bytes n us
 over stage.Closed n bytes front ts us same most cut h = past_as bytes n ts us same h
@@ -207,7 +208,7 @@ breaks k s ts now a fails =
           a.waits) a.now;
     }
 
-fails_at : (at : Stage) (k : History) (s : LinkState) (ts : List Told) (now : ℕ) → Holds k s ts
+fails_at : (at : LinkStage) (k : History) (s : LinkState) (ts : List Told) (now : ℕ) → Holds k s ts
     → (failures k ≡ 0 → ⊥) → (us : List Told) × Holds k (failed_at at s now) us
 fails_at stage.Closed k s ts now a fails = (ts, a)
 fails_at (stage.Paused since millis) k s ts now a fails = (ts, a)
@@ -257,7 +258,8 @@ shuts k s ts a none = record {
       (inl (no_front s.begun s.waiting none)) a.now;
 }
 
-closes_at : (at : Stage) (k : History) (s : LinkState) (ts : List Told) → Holds k s ts → s.begun ≡ 0
+closes_at : (at : LinkStage) (k : History) (s : LinkState) (ts : List Told) → Holds k s ts
+    → s.begun ≡ 0
     → Holds k (closed_at at s) ts
 closes_at stage.Closed k s ts a none = a
 closes_at (stage.Paused since millis) k s ts a none = a
@@ -282,7 +284,7 @@ closes h s ts a none =
 -- ---- the other side ends it
 
 -- where nothing more was to be sent, nothing is begun
-spent_none : (at : Stage) (fs : List (List ℕ)) (begun : ℕ) → (0 < begun → has_room at ≡ true)
+spent_none : (at : LinkStage) (fs : List (List ℕ)) (begun : ℕ) → (0 < begun → has_room at ≡ true)
     → (0 < begun → begun < length (first_of fs)) → spent_at at (has_some fs) ≡ true → begun ≡ 0
 spent_none at fs zero sends part spent = refl
 spent_none at [] (suc k) sends part spent = let e = part (omega arith) in absurd (omega (arith, e))

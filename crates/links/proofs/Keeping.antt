@@ -2,8 +2,8 @@
 use Rattle.std.proofs.Common.{◌≡◌, inl, inr, refl, sym, ap, subst, ◌∙◌, ◌⊎◌, ℕ, zero, suc, ◌<◌, ◌≤◌}
 use Rattle.std.proofs.Common.{List, [], ◌++◌, length, take, true, false, arith}
 use Rattle.std.specs.List.{flat_map}
-use Rattle.links.specs.declared.stages.Stage.{Stage}
-use Rattle.links.specs.declared.stages.Stage.TheVariants as stage
+use Rattle.links.specs.declared.stages.LinkStage.{LinkStage}
+use Rattle.links.specs.declared.stages.LinkStage.TheVariants as stage
 use Rattle.links.specs.Links.{LinkState, IsSound, first_of, has_room}
 use Rattle.links.specs.Histories.{Full, NoMemory}
 use Rattle.links.specs.Histories.{Told, frames_of, waiting_of, sent_on}
@@ -23,7 +23,7 @@ pub record Past (bytes : List ℕ) (n : ℕ) (ts : List Told) : Type 0 where
   pub most : length (sent_on n ts) ≤ 63
 
 -- of the last connection: it is over, or being opened, or this is what was sent of the first frame
-abbrev pub Now : Stage → ℕ → List ℕ → List ℕ → List Told → Type 0
+abbrev pub Now : LinkStage → ℕ → List ℕ → List ℕ → List Told → Type 0
 Now stage.Closed n bytes front ts = Past bytes n ts
 Now (stage.Paused since millis) n bytes front ts = Past bytes n ts
 Now (stage.Opening since) n bytes front ts = (bytes ≡ []) × (sent_on n ts ≡ [])
@@ -70,7 +70,8 @@ past_as bytes n ts us same p = record {
   most = subst (λ z. length z ≤ 63) (sym (same.sent n)) p.most;
 }
 
-pub now_as : (stage : Stage) (n : ℕ) (bytes front other : List ℕ) (ts us : List Told) → Same ts us
+pub now_as : (stage : LinkStage) (n : ℕ) (bytes front other : List ℕ) (ts us : List Told)
+    → Same ts us
     → other ≡ front → Now stage n bytes front ts → Now stage n bytes other us
 now_as stage.Closed n bytes front other ts us same e h = past_as bytes n ts us same h
 now_as (stage.Paused since millis) n bytes front other ts us same e h =

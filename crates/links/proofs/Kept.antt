@@ -2,8 +2,8 @@
 use Rattle.std.proofs.Common.{◌≡◌, inl, inr, refl, sym, ap, subst, ◌∙◌, ◌⊎◌, ℕ, ◌<◌, ◌≤◌, suc, zero}
 use Rattle.std.proofs.Common.{List, [], ◌++◌, length, take, arith}
 use Rattle.std.proofs.lemmas.Bool.Decides.{eqb_tells}
-use Rattle.links.specs.declared.stages.Stage.{Stage}
-use Rattle.links.specs.declared.stages.Stage.TheVariants as stage
+use Rattle.links.specs.declared.stages.LinkStage.{LinkStage}
+use Rattle.links.specs.declared.stages.LinkStage.TheVariants as stage
 use Rattle.links.specs.Links.{LinkState, IsSound, first_of, frames_on, new_link}
 use Rattle.links.specs.Histories.{Told, IsFrontOf, IsCut, IsRest, Carries, Step, Steps}
 use Rattle.links.specs.Histories.{History, Start, Then, Push, Began, Opened, Sent, Failed, Ended}
@@ -83,7 +83,7 @@ rest_now : (h : History) (s : LinkState) (ts : List Told) (part : List ℕ)
 rest_now h s ts part (inl e) = inl e
 rest_now h s ts part (inr e) = inr (inr (refl, e))
 
-now_carries : (at : Stage) (h : History) (s : LinkState) (ts : List Told) → IsSound s
+now_carries : (at : LinkStage) (h : History) (s : LinkState) (ts : List Told) → IsSound s
     → frames_on at ≤ 63 → Now at (connections h) (written (connections h) h) (front_of s) ts
     → Carries (connections h) h s ts
 now_carries stage.Closed h s ts sound most a = past_carries (connections h) h s ts a

@@ -5,8 +5,8 @@ use Rattle.std.proofs.Common.{length-append}
 use Rattle.std.proofs.Common.{if◌then◌else◌}
 use Rattle.std.proofs.lemmas.Bool.{lt-ltb}
 use Rattle.std.specs.List.{remove}
-use Rattle.links.specs.declared.stages.Pushed.{Pushed}
-use Rattle.links.specs.declared.stages.Pushed.TheVariants as push
+use Rattle.links.specs.declared.stages.PushOutcome.{PushOutcome}
+use Rattle.links.specs.declared.stages.PushOutcome.TheVariants as push
 use Rattle.links.specs.Links.{LinkState, IsSound, Pushes, first_of, oldest_at, with_waiting}
 use Rattle.links.specs.Histories.{Cause, Full, Unreachable, NoMemory, Fate, Dropped, Waits}
 use Rattle.links.specs.Histories.{Told, told, frames_of, if_waits, waiting_of, if_sent_on}
@@ -31,7 +31,8 @@ same_more ts frame f none = record {
 }
 
 -- the push of a frame, where the frames told before get other fates first
-pushes_to : (h : History) (s t : LinkState) (ts us : List Told) (frame : List ℕ) (answer : Pushed)
+pushes_to : (h : History) (s t : LinkState) (ts us : List Told) (frame : List ℕ)
+    (answer : PushOutcome)
     (f : Fate) → Holds h s ts → Same ts us → frames_of us ≡ frames_of ts
     → AreInOrder (connections h) us → OrderAt (connections h) f []
     → ((n : ℕ) → if_sent_on n f frame ≡ [])
@@ -222,7 +223,8 @@ oldest_goes h s ts frame a full =
           (let e = g.counts Unreachable in omega (arith, e)),
     )
 
-pub pushes : (answer : Pushed) (h : History) (s t : LinkState) (ts : List Told) (frame : List ℕ)
+pub pushes : (answer : PushOutcome) (h : History) (s t : LinkState) (ts : List Told)
+    (frame : List ℕ)
     → Holds h s ts → Pushes answer frame s t
     → (us : List Told) × Holds (Then h (Push frame answer)) t us
 pushes push.Waits h s t ts frame a k = (

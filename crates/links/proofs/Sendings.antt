@@ -8,8 +8,8 @@ use Rattle.std.proofs.lemmas.Grind.{flat_map-append}
 use Rattle.std.proofs.lemmas.Bool.{ltb-true, ltb-false, eq-eqb}
 use Rattle.std.proofs.lemmas.Bool.Decides.{eqb_tells}
 use Rattle.std.proofs.Math.Seq.{take-append_seam, take-add, drop-nil}
-use Rattle.links.specs.declared.stages.Stage.{Stage}
-use Rattle.links.specs.declared.stages.Stage.TheVariants as stage
+use Rattle.links.specs.declared.stages.LinkStage.{LinkStage}
+use Rattle.links.specs.declared.stages.LinkStage.TheVariants as stage
 use Rattle.links.specs.Links.{LinkState, first_of, has_room, has_some, frames_on, pending}
 use Rattle.links.specs.Links.{is_sending, part_sent, whole_sent, after_sent}
 use Rattle.links.specs.Histories.{Full, Unreachable, NoMemory, SentOn}
@@ -68,13 +68,13 @@ sent_told h now bytes none = record {
 
 -- ---- on an open connection
 
-room_frames : (at : Stage) → has_room at ≡ true → nat_lt (frames_on at) 63 ≡ true
+room_frames : (at : LinkStage) → has_room at ≡ true → nat_lt (frames_on at) 63 ≡ true
 room_frames stage.Closed room = cc
 room_frames (stage.Paused since millis) room = cc
 room_frames (stage.Opening since) room = cc
 room_frames (stage.Open frames quiet) room = room
 
-now_open : (at : Stage) (n : ℕ) (bytes front : List ℕ) (ts : List Told) → has_room at ≡ true
+now_open : (at : LinkStage) (n : ℕ) (bytes front : List ℕ) (ts : List Told) → has_room at ≡ true
     → Now at n bytes front ts
     → (bytes ≡ joined (sent_on n ts) ++ front) × (length (sent_on n ts) ≡ frames_on at)
 now_open stage.Closed n bytes front ts room h = cc

@@ -2,8 +2,8 @@
 use Rattle.std.proofs.Common.{◌≡◌, ap, subst, ◌∙◌, ℕ, ◌+◌, ◌-◌, ◌≤◌, true, arith}
 use Rattle.std.proofs.Common.{if◌then◌else◌}
 use Rattle.std.proofs.lemmas.Bool.{le-leb}
-use Rattle.links.specs.declared.stages.Stage.TheVariants as stage
-use Rattle.links.specs.declared.stages.Wish.TheVariants as wish
+use Rattle.links.specs.declared.stages.LinkStage.TheVariants as stage
+use Rattle.links.specs.declared.stages.LinkAction.TheVariants as wish
 use Rattle.links.specs.Links.{has_some, wish_at, pause_in, is_over}
 use Rattle.links.specs.Reaching.{LinksTryAgain}
 use Rattle.links.proofs.Kept.{all_hold}

@@ -3,8 +3,8 @@
 use Rattle.std.specs.Prelude.{◌≡◌, ◌⊎◌, ℕ, ◌+◌, ◌<◌, ◌≤◌, List, [], ◌∷◌, ◌++◌, length}
 use Rattle.std.specs.Prelude.{◌==◌, if◌then◌else◌}
 use Rattle.std.specs.List.{flat_map}
-use Rattle.links.specs.declared.stages.Pushed.{Pushed}
-use Rattle.links.specs.declared.stages.Pushed.TheVariants as push
+use Rattle.links.specs.declared.stages.PushOutcome.{PushOutcome}
+use Rattle.links.specs.declared.stages.PushOutcome.TheVariants as push
 use Rattle.links.specs.Links.{LinkState, IsUnconnected, new_link, pending, first_of, Pushes}
 use Rattle.links.specs.Links.{after_began, after_opened, after_sent, after_failed, after_ended}
 use Rattle.links.specs.Links.{after_closed}
@@ -12,7 +12,7 @@ use Rattle.links.specs.Links.{after_closed}
 -- a call: this frame was pushed, with this answer; opening a connection was begun, at this time; it
 -- is open; these bytes were written; it failed; the other side ended it; or this side closed it
 pub data Step : Type 0 where
-  Push : List ℕ → Pushed → Step
+  Push : List ℕ → PushOutcome → Step
   Began : ℕ → Step
   Opened : ℕ → Step
   Sent : ℕ → List ℕ → Step
@@ -195,7 +195,7 @@ dropped_for cause [] = 0
 dropped_for cause (t ∷ ts) = if_dropped cause t.fate + dropped_for cause ts
 
 -- how many frames the answer of a push says to be dropped for this cause
-abbrev pub says : Cause → Pushed → ℕ
+abbrev pub says : Cause → PushOutcome → ℕ
 says Full push.DroppedOldest = 1
 says Full push.Waits = 0
 says Full push.NoMemory = 0

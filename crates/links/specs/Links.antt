@@ -5,12 +5,12 @@ use Rattle.std.specs.Prelude.{min}
 use Rattle.std.specs.Prelude.{remove, map, nat_lt, nat_le, Option, None, Some, Bool, true, false}
 use Rattle.std.specs.Prelude.{◌&&◌, ◌||◌, not, if◌then◌else◌}
 use Rattle.std.specs.Global.{Vec}
-use Rattle.links.specs.declared.stages.Stage.{Stage}
-use Rattle.links.specs.declared.stages.Stage.TheVariants.{Closed, Paused, Opening, Open}
-use Rattle.links.specs.declared.stages.Wish.{Wish}
-use Rattle.links.specs.declared.stages.Wish.TheVariants as wish
-use Rattle.links.specs.declared.stages.Pushed.{Pushed}
-use Rattle.links.specs.declared.stages.Pushed.TheVariants as push
+use Rattle.links.specs.declared.stages.LinkStage.{LinkStage}
+use Rattle.links.specs.declared.stages.LinkStage.TheVariants.{Closed, Paused, Opening, Open}
+use Rattle.links.specs.declared.stages.LinkAction.{LinkAction}
+use Rattle.links.specs.declared.stages.LinkAction.TheVariants as wish
+use Rattle.links.specs.declared.stages.PushOutcome.{PushOutcome}
+use Rattle.links.specs.declared.stages.PushOutcome.TheVariants as push
 
 -- a link between two calls
 pub record LinkState : Type 0 where
@@ -18,7 +18,7 @@ pub record LinkState : Type 0 where
   pub waiting : List (List ℕ)
   -- how many bytes of the first were sent
   pub begun : ℕ
-  pub stage : Stage
+  pub stage : LinkStage
   -- how many milliseconds the next pause lasts
   pub pause : ℕ
   -- when the first of the failures in a row came
@@ -28,7 +28,7 @@ pub record LinkState : Type 0 where
 abbrev pub frames_in : List (Vec ℕ) → List (List ℕ)
 frames_in vs = map (λ v. v.items) vs
 
-abbrev pub link_state : List (Vec ℕ) → ℕ → Stage → ℕ → Option ℕ → LinkState
+abbrev pub link_state : List (Vec ℕ) → ℕ → LinkStage → ℕ → Option ℕ → LinkState
 link_state vs begun stage pause down = record {
   waiting = frames_in vs;
   begun = begun;
@@ -42,28 +42,28 @@ abbrev pub new_link : LinkState
 new_link = record { waiting = []; begun = 0; stage = Closed; pause = 100; down = None }
 
 -- there is no connection, and none is being opened
-abbrev pub IsUnconnected : Stage → Type 0
+abbrev pub IsUnconnected : LinkStage → Type 0
 IsUnconnected Closed = Unit {0}
 IsUnconnected (Paused since millis) = Unit {0}
 IsUnconnected (Opening since) = ⊥
 IsUnconnected (Open frames quiet) = ⊥
 
 -- whether another frame may be sent on the connection: it is open, and carried less than 63
-abbrev pub has_room : Stage → Bool
+abbrev pub has_room : LinkStage → Bool
 has_room Closed = false
 has_room (Paused since millis) = false
 has_room (Opening since) = false
 has_room (Open frames quiet) = nat_lt frames 63
 
 -- how many frames were sent whole on the connection
-abbrev pub frames_on : Stage → ℕ
+abbrev pub frames_on : LinkStage → ℕ
 frames_on Closed = 0
 frames_on (Paused since millis) = 0
 frames_on (Opening since) = 0
 frames_on (Open frames quiet) = frames
 
 -- how long the pause is that holds
-abbrev pub pause_in : Stage → ℕ
+abbrev pub pause_in : LinkStage → ℕ
 pause_in Closed = 0
 pause_in (Paused since millis) = millis
 pause_in (Opening since) = 0
@@ -102,7 +102,7 @@ oldest_at begun = if nat_lt 0 begun then 1 else 0
 
 -- what becomes of a frame that is pushed: it waits last; at a full queue it does so too, and the
 -- oldest of which nothing was sent goes; or memory is refused for it, and nothing changes
-abbrev pub Pushes : Pushed → List ℕ → LinkState → LinkState → Type 0
+abbrev pub Pushes : PushOutcome → List ℕ → LinkState → LinkState → Type 0
 Pushes push.Waits frame old new =
     (length old.waiting < 256) × (new ≡ with_waiting old (old.waiting ++ frame ∷ []))
 Pushes push.DroppedOldest frame old new =
@@ -123,7 +123,7 @@ is_over now since millis = nat_le millis (now - since)
 
 -- a connection is opened only once a frame waits and no pause holds; it is given up after a second
 -- of opening; it is closed after 63 frames, or 500 milliseconds with nothing to be sent
-abbrev pub wish_at : Stage → Bool → ℕ → Wish
+abbrev pub wish_at : LinkStage → Bool → ℕ → LinkAction
 wish_at Closed waits now = if waits then wish.Open else wish.Rest
 wish_at (Paused since millis) waits now =
     if waits && is_over now since millis then wish.Open else wish.Rest
@@ -133,7 +133,7 @@ wish_at (Open frames quiet) waits now =
     if waits then wish.Write else (if is_over now quiet 500 then wish.Close else wish.Rest)
     )
 
-abbrev pub wish_of : LinkState → ℕ → Wish
+abbrev pub wish_of : LinkState → ℕ → LinkAction
 wish_of s now = wish_at s.stage (has_some s.waiting) now
 
 -- what is left of this many milliseconds from then on
@@ -142,7 +142,7 @@ left_of now since millis = millis - (now - since)
 
 -- how long the wish stays as it is with no call made: to the end of the pause, of opening, or of
 -- the time with nothing to be sent
-abbrev pub wait_at : Stage → Bool → ℕ → Option ℕ
+abbrev pub wait_at : LinkStage → Bool → ℕ → Option ℕ
 wait_at Closed waits now = None
 wait_at (Paused since millis) waits now =
     if waits then Some (left_of now since millis) else None
@@ -154,7 +154,7 @@ wait_of s now = wait_at s.stage (has_some s.waiting) now
 
 -- ---- a connection is opened
 
-abbrev pub with_stage : LinkState → Stage → LinkState
+abbrev pub with_stage : LinkState → LinkStage → LinkState
 with_stage s stage = record {
   waiting = s.waiting;
   begun = s.begun;
@@ -176,7 +176,7 @@ reached s now = record {
   down = None;
 }
 
-abbrev pub opened_at : Stage → LinkState → ℕ → LinkState
+abbrev pub opened_at : LinkStage → LinkState → ℕ → LinkState
 opened_at Closed s now = s
 opened_at (Paused since millis) s now = s
 opened_at (Opening since) s now = reached s now
@@ -238,7 +238,7 @@ broken s now = record {
   down = down_from s.down now;
 }
 
-abbrev pub failed_at : Stage → LinkState → ℕ → LinkState
+abbrev pub failed_at : LinkStage → LinkState → ℕ → LinkState
 failed_at Closed s now = s
 failed_at (Paused since millis) s now = s
 failed_at (Opening since) s now = broken s now
@@ -248,7 +248,7 @@ abbrev pub after_failed : LinkState → ℕ → LinkState
 after_failed s now = failed_at s.stage s now
 
 -- whether nothing more is to be sent on an open connection: it carried 63 frames, or none waits
-abbrev pub spent_at : Stage → Bool → Bool
+abbrev pub spent_at : LinkStage → Bool → Bool
 spent_at Closed waits = false
 spent_at (Paused since millis) waits = false
 spent_at (Opening since) waits = false
@@ -260,7 +260,7 @@ after_ended s now =
     if spent_at s.stage (has_some s.waiting) then with_stage s Closed else after_failed s now
 
 -- this side closes it
-abbrev pub closed_at : Stage → LinkState → LinkState
+abbrev pub closed_at : LinkStage → LinkState → LinkState
 closed_at Closed s = s
 closed_at (Paused since millis) s = s
 closed_at (Opening since) s = with_stage s Closed

@@ -1,7 +1,7 @@
 -- How soon a desk that comes back is reached (the project's own).
 use Rattle.std.specs.Prelude.{◌≡◌, ℕ, ◌+◌, ◌≤◌, true}
-use Rattle.links.specs.declared.stages.Stage.TheVariants as stage
-use Rattle.links.specs.declared.stages.Wish.TheVariants as wish
+use Rattle.links.specs.declared.stages.LinkStage.TheVariants as stage
+use Rattle.links.specs.declared.stages.LinkAction.TheVariants as wish
 use Rattle.links.specs.Links.{LinkState, has_some, wish_of}
 use Rattle.links.specs.Histories.{History, Leads}
 

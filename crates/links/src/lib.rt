@@ -13,4 +13,4 @@ mod stages;
 
 pub use link::{Link, MOST_WAITING};
 pub use notices::{Notice, Notices, Outage};
-pub use stages::{Pushed, Stage, Wish};
+pub use stages::{LinkAction, LinkStage, PushOutcome};

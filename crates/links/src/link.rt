@@ -3,13 +3,13 @@
 ghost use Rattle.std.specs.Prelude.{◌≡◌, ◌≢◌, ◌<◌, ◌≤◌, length, nat_le, remove, IfSome, Some};
 ghost use Rattle.std.specs.Bool.{OnTrue, OnFalse};
 ghost use Rattle.std.specs.VecDeque.{deque_len, deque_capacity};
-ghost use Rattle.links.specs.declared.stages.Wish.TheVariants as wish;
+ghost use Rattle.links.specs.declared.stages.LinkAction.TheVariants as wish;
 ghost use Rattle.links.specs.Links.{IsUnconnected, new_link, pending, wish_of, wait_of, Pushes};
 ghost use Rattle.links.specs.Links.{after_began, after_opened, after_sent, after_failed};
 ghost use Rattle.links.specs.Links.{after_ended, after_closed, has_room, frames_on, spent_at};
 ghost use Rattle.links.specs.Links.{is_over, left_of, wish_at, wait_at, has_some, oldest_at};
 
-use crate::stages::{Pushed, Stage, Wish};
+use crate::stages::{LinkAction, LinkStage, PushOutcome};
 use std::alloc::Global;
 use std::collections::VecDeque;
 use std::marker::Model;
@@ -49,31 +49,31 @@ fn make_room(waiting: &mut VecDeque<Vec<u8>>, begun: usize) -> bool
 }
 
 /// Whether another frame may be sent on the connection.
-fn has_room(stage: Stage) -> bool
+fn has_room(stage: LinkStage) -> bool
     ensures { result ≡ has_room stage }
 {
     match stage {
-        Stage::Open { frames, .. } => frames < MOST_FRAMES,
+        LinkStage::Open { frames, .. } => frames < MOST_FRAMES,
         _ => false,
     }
 }
 
 /// How many frames were sent whole on the connection.
-fn frames_on(stage: Stage) -> u32
+fn frames_on(stage: LinkStage) -> u32
     ensures { result ≡ frames_on stage }
 {
     match stage {
-        Stage::Open { frames, .. } => frames,
+        LinkStage::Open { frames, .. } => frames,
         _ => 0,
     }
 }
 
 /// Whether nothing more is to be sent on an open connection.
-fn is_spent(stage: Stage, waits: bool) -> bool
+fn is_spent(stage: LinkStage, waits: bool) -> bool
     ensures { result ≡ spent_at stage waits }
 {
     match stage {
-        Stage::Open { frames, .. } => frames >= MOST_FRAMES || !waits,
+        LinkStage::Open { frames, .. } => frames >= MOST_FRAMES || !waits,
         _ => false,
     }
 }
@@ -93,54 +93,60 @@ fn left_of(now: u64, since: u64, millis: u64) -> u64
 }
 
 /// What is to be done in this stage, where frames wait or none does.
-fn wish_at(stage: Stage, waits: bool, now: u64) -> Wish
+fn wish_at(stage: LinkStage, waits: bool, now: u64) -> LinkAction
     ensures { result ≡ wish_at stage waits now }
 {
     match stage {
-        Stage::Closed => { if waits { Wish::Open } else { Wish::Rest } }
-        Stage::Paused { since, millis } => {
+        LinkStage::Closed => {
+            if waits {
+                LinkAction::Open
+            } else {
+                LinkAction::Rest
+            }
+        }
+        LinkStage::Paused { since, millis } => {
             if waits && is_over(now, since, millis) {
-                Wish::Open
+                LinkAction::Open
             } else {
-                Wish::Rest
+                LinkAction::Rest
             }
         }
-        Stage::Opening { since } => {
+        LinkStage::Opening { since } => {
             if is_over(now, since, OPENING) {
-                Wish::GiveUp
+                LinkAction::GiveUp
             } else {
-                Wish::Rest
+                LinkAction::Rest
             }
         }
-        Stage::Open { frames, quiet } => {
+        LinkStage::Open { frames, quiet } => {
             if frames >= MOST_FRAMES {
-                Wish::Close
+                LinkAction::Close
             } else if waits {
-                Wish::Write
+                LinkAction::Write
             } else if is_over(now, quiet, QUIET) {
-                Wish::Close
+                LinkAction::Close
             } else {
-                Wish::Rest
+                LinkAction::Rest
             }
         }
     }
 }
 
 /// How long the wish stays in this stage, where frames wait or none does.
-fn wait_at(stage: Stage, waits: bool, now: u64) -> Option<u64>
+fn wait_at(stage: LinkStage, waits: bool, now: u64) -> Option<u64>
     ensures { result ≡ wait_at stage waits now }
 {
     match stage {
-        Stage::Closed => None,
-        Stage::Paused { since, millis } => {
+        LinkStage::Closed => None,
+        LinkStage::Paused { since, millis } => {
             if waits {
                 Some(left_of(now, since, millis))
             } else {
                 None
             }
         }
-        Stage::Opening { since } => Some(left_of(now, since, OPENING)),
-        Stage::Open { quiet, .. } => {
+        LinkStage::Opening { since } => Some(left_of(now, since, OPENING)),
+        LinkStage::Open { quiet, .. } => {
             if waits {
                 None
             } else {
@@ -165,7 +171,7 @@ pub struct Link {
     waiting: VecDeque<Vec<u8>>,
     /// How many bytes of the first frame that waits were sent.
     begun: usize,
-    stage: Stage,
+    stage: LinkStage,
     /// How long the next pause is.
     pause: u64,
     /// When the first of the failures in a row came.
@@ -190,7 +196,7 @@ impl Link {
         Link {
             waiting: VecDeque::new(alloc),
             begun: 0,
-            stage: Stage::Closed,
+            stage: LinkStage::Closed,
             pause: FIRST_PAUSE,
             down: None,
         }
@@ -199,22 +205,22 @@ impl Link {
     /// Takes a frame, which is to be sent after those that wait. At most 256 wait: the 257th takes
     /// the place of the oldest of which nothing was sent yet. Where memory is refused, the frame is
     /// dropped, and nothing changes.
-    pub fn push(&mut self, frame: Vec<u8>) -> Pushed
+    pub fn push(&mut self, frame: Vec<u8>) -> PushOutcome
         ensures { Pushes result frame.items self.old self.new }
     {
         let full = make_room(&mut self.waiting, self.begun);
         if self.waiting.push_back(frame).is_err() {
-            return Pushed::NoMemory;
+            return PushOutcome::NoMemory;
         }
         if full {
-            Pushed::DroppedOldest
+            PushOutcome::DroppedOldest
         } else {
-            Pushed::Waits
+            PushOutcome::Waits
         }
     }
 
     /// What is to be done now.
-    pub fn wish(&self, now: u64) -> Wish
+    pub fn wish(&self, now: u64) -> LinkAction
         ensures wish { result ≡ wish_of self.now now }
         ensures unconnected { result ≡ wish.Open → IsUnconnected self.now.stage }
         ensures between { result ≡ wish.Close → self.now.begun ≡ 0 }
@@ -244,15 +250,15 @@ impl Link {
         requires { IsUnconnected self.old.stage }
         ensures { self.new ≡ after_began self.old now }
     {
-        self.stage = Stage::Opening { since: now };
+        self.stage = LinkStage::Opening { since: now };
     }
 
     /// Says that the connection that was being opened is open.
     pub fn opened(&mut self, now: u64)
         ensures { self.new ≡ after_opened self.old now }
     {
-        if let Stage::Opening { .. } = self.stage {
-            self.stage = Stage::Open {
+        if let LinkStage::Opening { .. } = self.stage {
+            self.stage = LinkStage::Open {
                 frames: 0,
                 quiet: now,
             };
@@ -288,11 +294,11 @@ impl Link {
         let frames = frames_on(self.stage);
         if count < left {
             self.begun += count;
-            self.stage = Stage::Open { frames, quiet: now };
+            self.stage = LinkStage::Open { frames, quiet: now };
         } else {
             let _whole = self.waiting.pop_front();
             self.begun = 0;
-            self.stage = Stage::Open {
+            self.stage = LinkStage::Open {
                 frames: frames + 1,
                 quiet: now,
             };
@@ -307,11 +313,11 @@ impl Link {
         ensures { self.new ≡ after_failed self.old now }
     {
         match self.stage {
-            Stage::Closed | Stage::Paused { .. } => {}
-            Stage::Opening { .. } | Stage::Open { .. } => {
+            LinkStage::Closed | LinkStage::Paused { .. } => {}
+            LinkStage::Opening { .. } | LinkStage::Open { .. } => {
                 self.waiting.clear();
                 self.begun = 0;
-                self.stage = Stage::Paused {
+                self.stage = LinkStage::Paused {
                     since: now,
                     millis: self.pause,
                 };
@@ -327,7 +333,7 @@ impl Link {
         ensures { self.new ≡ after_ended self.old now }
     {
         if is_spent(self.stage, self.waits()) {
-            self.stage = Stage::Closed;
+            self.stage = LinkStage::Closed;
         } else {
             self.failed(now);
         }
@@ -339,13 +345,13 @@ impl Link {
         ensures { self.new ≡ after_closed self.old }
     {
         match self.stage {
-            Stage::Closed | Stage::Paused { .. } => {}
-            Stage::Opening { .. } | Stage::Open { .. } => self.stage = Stage::Closed,
+            LinkStage::Closed | LinkStage::Paused { .. } => {}
+            LinkStage::Opening { .. } | LinkStage::Open { .. } => self.stage = LinkStage::Closed,
         }
     }
 
     /// What the connection has come to.
-    pub fn stage(&self) -> Stage
+    pub fn stage(&self) -> LinkStage
         ensures { result ≡ self.now.stage }
     {
         self.stage

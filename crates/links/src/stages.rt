@@ -2,7 +2,7 @@
 
 /// What the connection to the other desk has come to. Times and lengths are milliseconds.
 #[derive(Clone, Copy, PartialEq, Eq, Debug)]
-pub enum Stage {
+pub enum LinkStage {
     /// There is none.
     Closed,
     /// There is none, and until this many milliseconds after this time none is opened.
@@ -16,7 +16,7 @@ pub enum Stage {
 
 /// What is to be done for a link now.
 #[derive(Clone, Copy, PartialEq, Eq, Debug)]
-pub enum Wish {
+pub enum LinkAction {
     /// Nothing.
     Rest,
     /// Open a connection: call `began`, and then `opened` or `failed`.
@@ -31,7 +31,7 @@ pub enum Wish {
 
 /// What became of a frame that was pushed.
 #[derive(Clone, Copy, PartialEq, Eq, Debug)]
-pub enum Pushed {
+pub enum PushOutcome {
     /// It waits.
     Waits,
     /// It waits, and for it the oldest frame of which nothing was sent yet was dropped: as many

@@ -7,8 +7,10 @@ use Rattle.std.specs.Prelude.{Option, None, Some, Result, Ok, Err}
 use Rattle.std.specs.List.{range_with_len}
 use Rattle.std.specs.Option.{option_map_or}
 use Rattle.acceptor.specs.declared.entry.Entry.{Entry}
+use Rattle.answers.specs.Answers.{texts}
+use Rattle.commands.specs.History.{History, StandsFor}
 use Rattle.mirror.specs.Answered.{answer_after}
-use Rattle.origins.specs.Changes.{is_change, reads_change}
+use Rattle.last_change.specs.Changes.{is_change, reads_change}
 use Rattle.sheets.specs.Sheet.{right}
 use Rattle.texts.specs.Codes.{code_name}
 use Rattle.texts.specs.Fields.{round_id}
@@ -16,10 +18,10 @@ use Rattle.texts.specs.Names.{is_name_byte}
 use Rattle.texts.specs.Reading.{command_of}
 use Rattle.texts.specs.declared.answer.Answer.{Answer}
 use Rattle.texts.specs.declared.answer.Answer.TheVariants.{Done, Refused}
-use Rattle.texts.specs.declared.command.Remarked.{Remarked}
+use Rattle.texts.specs.declared.command.RemarkedCommand.{RemarkedCommand}
 use Rattle.texts.specs.declared.reading.CommandFault.{CommandFault}
-use Rattle.log_rows.specs.declared.writing.Shown.{Shown}
-use Rattle.log_rows.specs.declared.writing.Shown.TheVariants.{All, ChangesOf}
+use Rattle.log_rows.specs.declared.writing.ShownEntries.{ShownEntries}
+use Rattle.log_rows.specs.declared.writing.ShownEntries.TheVariants.{All, ChangesOf}
 
 -- ---- a row
 
@@ -40,7 +42,7 @@ answer_word Done = codes "Done"
 answer_word (Refused code) = code_name code
 
 -- the remark of what a text reads as; none is empty
-abbrev pub remark_of : Result Remarked CommandFault → List ℕ
+abbrev pub remark_of : Result RemarkedCommand CommandFault → List ℕ
 remark_of (Ok told) = unwrap_or told.remark []
 remark_of (Err fault) = []
 
@@ -76,13 +78,13 @@ heading =
 
 -- the entry at a position is one of those that are shown: any, or one that was accepted and changed
 -- the attempts of a competitor in a round
-abbrev pub is_shown : Shown → List Entry → ℕ → Bool
+abbrev pub is_shown : ShownEntries → List Entry → ℕ → Bool
 is_shown All log position = true
 is_shown (ChangesOf whose) log position =
     is_change log (round_id whose.event whose.round) whose.number position
 
 -- where it is known how the entry was answered, and what its text is
-abbrev pub is_shown_so : Shown → Answer → List ℕ → Bool
+abbrev pub is_shown_so : ShownEntries → Answer → List ℕ → Bool
 is_shown_so All answer text = true
 is_shown_so (ChangesOf whose) Done text =
     reads_change (round_id whose.event whose.round) whose.number (command_of text)
@@ -95,11 +97,23 @@ row_at log position =
     (slice_get log position) []
 
 -- the row, where the position is not in front of `from` and the entry is shown
-abbrev pub row_from : ℕ → Shown → List Entry → ℕ → List ℕ
+abbrev pub row_from : ℕ → ShownEntries → List Entry → ℕ → List ℕ
 row_from from shown log position =
     if nat_le from position && is_shown shown log position then row_at log position else []
 
+-- what is added is the row of an entry with its answer, as in a log that has the entry at the
+-- position
+abbrev pub AddsRow : ℕ → ShownEntries → ℕ → Entry → Answer → (old new : List ℕ) → Type 0
+AddsRow from shown position entry answer old new =
+    (log : List Entry) → slice_get log position ≡ Some entry
+    → answer ≡ answer_after (take position log) entry
+    → new ≡ old ++ row_from from shown log position
+
+-- the meet is what the first entries of the log make
+abbrev pub StandsAt : History → List Entry → ℕ → Type 0
+StandsAt meet log position = StandsFor meet (texts (take position log))
+
 -- the heading and the rows, by position
-abbrev pub rows : ℕ → Shown → List Entry → List ℕ
+abbrev pub rows : ℕ → ShownEntries → List Entry → List ℕ
 rows from shown log =
     heading ++ flat_map (row_from from shown log) (range_with_len 0 (length log))

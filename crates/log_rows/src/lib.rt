@@ -5,4 +5,4 @@ mod rows;
 mod writing;
 
 pub use lines::RunFault;
-pub use writing::{Shown, Whose, write_rows};
+pub use writing::{ResultOwner, ShownEntries, write_rows};

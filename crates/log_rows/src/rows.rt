@@ -11,7 +11,7 @@ use acceptor::NoMemory;
 use acceptor::entry::Entry;
 use itoa::Buffer;
 use std::alloc::{AllocError, Global};
-use texts::{Answer, CommandFault, Remarked, read};
+use texts::{Answer, CommandFault, RemarkedCommand, read};
 
 /// Adds this many spaces.
 fn push_spaces(out: &mut Vec<u8>, count: usize) -> Result<(), NoMemory>
@@ -89,7 +89,7 @@ fn answer_word(answer: Answer) -> &'static [u8]
 }
 
 /// The remark of a command, and nothing where it has none.
-fn remark_in(alloc: Global, told: &Remarked) -> Result<Vec<u8>, NoMemory>
+fn remark_in(alloc: Global, told: &RemarkedCommand) -> Result<Vec<u8>, NoMemory>
     ensures { IfOk result (λ remark. remark.items ≡ unwrap_or told.now.remark []) }
 {
     match &told.remark {

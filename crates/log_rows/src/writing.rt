@@ -1,27 +1,23 @@
 //! The rows of a log, written.
 
 ghost use Rattle.std.specs.Prelude.{◌≡◌, ◌⊎◌, ◌+◌, ◌++◌, ◌<◌, Some, IfOk, IfErr, OnOk, OnErr};
-ghost use Rattle.std.specs.Prelude.{if◌then◌else◌, List, [], slice_get, take};
+ghost use Rattle.std.specs.Prelude.{if◌then◌else◌, []};
 ghost use Rattle.std.specs.Io.KnownBytes.{Appends};
-ghost use Rattle.acceptor.specs.declared.entry.Entry.{Entry as EntryValue};
-ghost use Rattle.answers.specs.Answers.{texts};
-ghost use Rattle.commands.specs.History.{StandsFor};
 ghost use Rattle.lines.specs.Bytes.{AppendsPart};
 ghost use Rattle.lines.specs.declared.fault.RunFault.TheVariants as run_fault;
-ghost use Rattle.mirror.specs.Answered.{answer_after};
-ghost use Rattle.origins.specs.Changes.{reads_change};
+ghost use Rattle.last_change.specs.Changes.{reads_change};
 ghost use Rattle.texts.specs.Fields.{round_id};
 ghost use Rattle.texts.specs.Reading.{command_of};
-ghost use Rattle.log_rows.specs.Rows.{is_shown_so, row, row_from, rows};
+ghost use Rattle.log_rows.specs.Rows.{AddsRow, StandsAt, is_shown_so, row, row_from, rows};
 
 use crate::rows::push_row;
 use acceptor::NoMemory;
 use acceptor::entry::Entry;
 use commands::Meet;
 use formats::Event;
+use last_change::reads_change;
 use learner::log::Log;
 use lines::{RunFault, write_text};
-use origins::reads_change;
 use std::alloc::Global;
 use std::io::Write;
 use texts::{Answer, RoundId};
@@ -32,7 +28,7 @@ const HEADING: &[u8] =
 
 /// Whose result: of the competitor with this number in this round.
 #[derive(Clone, Copy)]
-pub struct Whose {
+pub struct ResultOwner {
     pub event: Event,
     /// 1 to 4.
     pub round: u8,
@@ -42,16 +38,16 @@ pub struct Whose {
 
 /// Which entries of a log are shown.
 #[derive(Clone, Copy)]
-pub enum Shown {
+pub enum ShownEntries {
     /// All of them.
     All,
     /// Those that were accepted and entered, corrected or struck an attempt of the result, or were
     /// a card of it.
-    ChangesOf(Whose),
+    ChangesOf(ResultOwner),
 }
 
 /// Whether a text spells a command that changes a result, where it is accepted.
-fn changes_result(alloc: Global, whose: Whose, text: &[u8]) -> Result<bool, NoMemory>
+fn changes_result(alloc: Global, whose: ResultOwner, text: &[u8]) -> Result<bool, NoMemory>
     ensures { IfOk result (λ is. is
         ≡ reads_change (round_id whose.event whose.round) whose.number (command_of text.now)) }
 {
@@ -63,13 +59,18 @@ fn changes_result(alloc: Global, whose: Whose, text: &[u8]) -> Result<bool, NoMe
 }
 
 /// Whether an entry is shown that was answered so.
-fn is_shown(alloc: Global, shown: Shown, answer: Answer, text: &[u8]) -> Result<bool, NoMemory>
+fn is_shown(
+    alloc: Global,
+    shown: ShownEntries,
+    answer: Answer,
+    text: &[u8],
+) -> Result<bool, NoMemory>
     ensures { IfOk result (λ is. is ≡ is_shown_so shown answer text.now) }
 {
     match (shown, answer) {
-        (Shown::All, _) => Ok(true),
-        (Shown::ChangesOf(whose), Answer::Done) => changes_result(alloc, whose, text),
-        (Shown::ChangesOf(_), Answer::Refused(_)) => Ok(false),
+        (ShownEntries::All, _) => Ok(true),
+        (ShownEntries::ChangesOf(whose), Answer::Done) => changes_result(alloc, whose, text),
+        (ShownEntries::ChangesOf(_), Answer::Refused(_)) => Ok(false),
     }
 }
 
@@ -97,16 +98,14 @@ fn push_if(
 fn push_shown(
     out: &mut Vec<u8>,
     from: u32,
-    shown: Shown,
+    shown: ShownEntries,
     position: u32,
     entry: &Entry,
     answer: Answer,
 ) -> Result<(), NoMemory>
     requires { position < 65536 }
-    ensures { OnOk result ((log : List EntryValue)
-        → slice_get log position ≡ Some entry.now
-        → answer ≡ answer_after (take position log) entry.now
-        → out.new.items ≡ out.old.items ++ row_from from shown log position) }
+    ensures { OnOk result
+        (AddsRow from shown position entry.now answer out.old.items out.new.items) }
 {
     let shows = is_shown(*out.allocator(), shown, answer, entry.text())?;
     push_if(out, from <= position && shows, position, entry, answer)?;
@@ -120,13 +119,12 @@ fn take_row(
     meet: &mut Meet,
     log: &Log,
     from: u32,
-    shown: Shown,
+    shown: ShownEntries,
     position: u32,
 ) -> Result<(), NoMemory>
     requires { position < 65536 }
-    ensures { OnOk result
-        (StandsFor meet.old (texts (take position log.now.entries))
-        → StandsFor meet.new (texts (take (position + 1) log.now.entries))
+    ensures { OnOk result (StandsAt meet.old log.now.entries position
+        → StandsAt meet.new log.now.entries (position + 1)
         × (out.new.items ≡ out.old.items ++ row_from from shown log.now.entries position)) }
 {
     let Some(entry) = log.entry(position) else {
@@ -138,7 +136,7 @@ fn take_row(
 }
 
 /// The heading and the rows of a log.
-fn rows(alloc: Global, log: &Log, from: u32, shown: Shown) -> Result<Vec<u8>, NoMemory>
+fn rows(alloc: Global, log: &Log, from: u32, shown: ShownEntries) -> Result<Vec<u8>, NoMemory>
     ensures { IfOk result (λ text. text.items ≡ rows from shown log.now.entries) }
 {
     let mut out = Vec::from_slice(alloc, HEADING)?;
@@ -162,7 +160,7 @@ pub fn write_rows<W: Write>(
     alloc: Global,
     log: &Log,
     from: u32,
-    shown: Shown,
+    shown: ShownEntries,
     writer: &mut W,
 ) -> Result<(), RunFault>
     ensures ok { OnOk result (Appends (W.contents writer.old) (W.contents writer.new)

@@ -1,5 +1,5 @@
 -- Links that are driven one after the other.
-use Rattle.std.proofs.Common.{◌≡◌, refl, sym, ap, subst, ◌∙◌, ℕ, ◌+◌, ◌<◌, List, [], ◌∷◌, ◌++◌}
+use Rattle.std.proofs.Common.{◌≡◌, sym, ap, subst, ◌∙◌, ℕ, ◌+◌, ◌<◌, List, [], ◌∷◌, ◌++◌}
 use Rattle.std.proofs.Common.{Option, take, drop, length, get_or, set, append_assoc, append-nil}
 use Rattle.std.proofs.Common.{arith}
 use Rattle.std.proofs.lemmas.List.{take_more, take_more_set, drop-drop, drop-set-lt, get_or-drop}
@@ -8,7 +8,7 @@ use Rattle.links.specs.Histories.{Step}
 use Rattle.mio_sockets.specs.Keeping.{AreSettled, IsSettled}
 use Rattle.mio_sockets.specs.Wiring.{Wired, Line, IsDriven, AreDriven, KeepsLine, KeepsLines}
 use Rattle.mio_sockets.specs.Wiring.{told_all, told_each}
-use Rattle.polled.proofs.Telling.{Tells-as, Tells-nil, Tells-trans}
+use Rattle.polled.proofs.Telling.{Tells-as, Tells-trans}
 
 -- the first this many links were driven, and the others are as before
 pub record SoFar (x y : Option (List Wired)) (old new : List Line) (i : ℕ) : Type 0 where
@@ -51,10 +51,6 @@ lines_more {x} {y} {z} {olds} {news} {a} {b} h k =
       told = Tells-as x z _ _ (sym (told_more olds h.each news a k.steps h.driven))
           (Tells-trans x y z _ _ h.told k.told);
     }
-
-pub none_yet : (x : Option (List Wired)) (old : List Line) → SoFar x x old old 0
-none_yet x old =
-    record { kept = record { each = []; driven = tt; told = Tells-nil x }; rest = refl }
 
 pub same_there : (old new : List Line) (i : ℕ) (d : Line) → drop i new ≡ drop i old
     → get_or new i d ≡ get_or old i d

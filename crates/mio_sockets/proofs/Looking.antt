@@ -4,9 +4,8 @@ use Rattle.std.proofs.Common.{append_assoc, append-nil, ap, ◌∙◌, take, dro
 use Rattle.std.proofs.Common.{arith}
 use Rattle.std.proofs.lemmas.List.{take_more, drop-set-lt}
 use Rattle.links.specs.Links.{LinkState}
-use Rattle.links.specs.declared.stages.Stage.{Stage}
-use Rattle.links.specs.declared.stages.Stage.TheVariants.{Opening, Open}
-use Rattle.links.specs.declared.stages.Stage.TheVariants as stage
+use Rattle.links.specs.declared.stages.LinkStage.{LinkStage}
+use Rattle.links.specs.declared.stages.LinkStage.TheVariants as stage
 use Rattle.mio_sockets.specs.Looking.{Look, LookAtAll, Looks, LooksAs, LooksIn}
 use Rattle.mio_sockets.specs.Wiring.{Line}
 use Rattle.polled.specs.Telling.{Tells}
@@ -15,37 +14,16 @@ use Rattle.mio_sockets.proofs.Each.{after_there, same_there}
 
 -- this was seen, and the connection was closed for it
 pub looks_closed : {C : Type 0} (looked : C → Option (List Look)) (c between later : C)
-    (d now : ℕ) (old new : LinkState) (st : Stage) (look : Look) → st ≡ old.stage
+    (d now : ℕ) (old new : LinkState) (st : LinkStage) (look : Look) → st ≡ old.stage
     → Tells (looked c) (looked between) (look ∷ [])
     → Tells (looked between) (looked later) [] → LooksAs d st now old new (look ∷ [])
     → Looks looked c later (LooksAs d old.stage now old new)
 looks_closed looked c between later d now old new st look at told more is =
-    subst (λ (s : Stage). Looks looked c later (LooksAs d s now old new)) at (
+    subst (λ (s : LinkStage). Looks looked c later (LooksAs d s now old new)) at (
       look ∷ [],
       Tells-trans (looked c) (looked between) (looked later) (look ∷ []) [] told more,
       is,
     )
-
--- whatever the link makes of it
-in_by : (d : ℕ) (st : Stage) (now : ℕ) (old new : LinkState) (looks : List Look)
-    → LooksAs d st now old new looks → LooksIn d st looks
-in_by d stage.Closed now old new looks h = h.0
-in_by d (stage.Paused since millis) now old new looks h = h.0
-in_by d (Opening since) now old new looks h = (h.0, h.1)
-in_by d (Open frames quiet) now old new looks h = (h.0, h.1)
-
--- a connection was looked at, and then its link was driven
-pub looks_in : {C : Type 0} (looked : C → Option (List Look)) (c between later : C) (d now : ℕ)
-    (old new : LinkState)
-    → Looks looked c between (LooksAs d old.stage now old new)
-    → Tells (looked between) (looked later) []
-    → Looks looked c later (LooksIn d old.stage)
-looks_in looked c between later d now old new h more = (
-  h.0 ++ [],
-  Tells-trans (looked c) (looked between) (looked later) h.0 [] h.1 more,
-  in_by d old.stage now old new (h.0 ++ [])
-      (subst (λ (z : List Look). LooksAs d old.stage now old new z) (sym (append-nil h.0)) h.2),
-)
 
 -- ---- one desk after the other
 

@@ -1,6 +1,6 @@
 -- A frame that is given to the link of its desk.
 use Rattle.std.proofs.Common.{◌≡◌, ◌≢◌, refl, sym, ap, subst, ◌∙◌, inl, inr, ℕ, ◌+◌, suc, List, []}
-use Rattle.std.proofs.Common.{◌∷◌, ◌++◌, take, drop, get_or, set, Option, None, Some, Bool}
+use Rattle.std.proofs.Common.{◌∷◌, ◌++◌, take, drop, get_or, set, None, Some, Bool}
 use Rattle.std.proofs.Common.{true, false, cond, ◌==◌}
 use Rattle.std.proofs.Math.Seq.{drop-cons}
 use Rattle.std.proofs.lemmas.Bool.{false≢true}
@@ -10,8 +10,7 @@ use Rattle.std.proofs.lemmas.List.Quantifiers.{position-Some}
 use Rattle.std.proofs.lemmas.Iterator.Adapters.{position_from-zero}
 use Rattle.std.specs.List.{AllByRecursion, position_from}
 use Rattle.std.specs.Prelude.{position}
-use Rattle.mio_sockets.specs.Wiring.{Line, TakesFrame, KeepsLine, PushesTo, Wired, has_number}
-use Rattle.polled.proofs.Telling.{Tells-nil}
+use Rattle.mio_sockets.specs.Wiring.{Line, TakesFrame, PushesTo, has_number}
 
 is_number : (a b : ℕ) → (a == b) ≡ true → a ≡ b
 is_number a b h =
@@ -38,28 +37,25 @@ others to [] h = tt
 others to (l ∷ ls) h = (is_other l.desk to h.0, others to ls h.1)
 
 -- no desk has this number
-pub pushed_nowhere : (to : ℕ) (frame : List ℕ) (x : Option (List Wired)) (old : List Line)
-    → position (has_number to) old ≡ None → PushesTo to frame x x old old
-pushed_nowhere to frame x old h =
+pub pushed_nowhere : (to : ℕ) (frame : List ℕ) (old : List Line)
+    → position (has_number to) old ≡ None → PushesTo to frame old old
+pushed_nowhere to frame old h =
     inr (
       others to old (none_passes (has_number to) 0 old
           (sym (position_from-zero (has_number to) old) ∙ h)),
       refl,
-      Tells-nil x,
     )
 
 -- the desk at this place has it
-pub pushed_at : (to : ℕ) (frame : List ℕ) (x y : Option (List Wired)) (old : List Line) (i : ℕ)
-    (a m b : Line)
-    → position (has_number to) old ≡ Some i → a ≡ get_or old i a → TakesFrame frame a m
-    → KeepsLine x y m b → PushesTo to frame x y old (set old i b)
-pushed_at to frame x y old i a m b found at takes written =
+pub pushed_at : (to : ℕ) (frame : List ℕ) (old : List Line) (i : ℕ) (a b : Line)
+    → position (has_number to) old ≡ Some i → a ≡ get_or old i a → TakesFrame frame a b
+    → PushesTo to frame old (set old i b)
+pushed_at to frame old i a b found at takes =
     let there = position-Some (has_number to) old i a found in
     inl (record {
       before = take i old;
       after = drop (suc i) old;
       a = a;
-      between = m;
       b = b;
       was = sym (take-append-drop i old)
           ∙ ap (λ (ls : List Line). take i old ++ ls)
@@ -68,5 +64,4 @@ pushed_at to frame x y old i a m b found at takes written =
       to_it = is_number a.desk to
           (subst (λ (l : Line). has_number to l ≡ true) (sym at) there.1);
       takes = takes;
-      written = written;
     })

@@ -1,5 +1,5 @@
 -- The shortest wait of several.
-use Rattle.std.proofs.Common.{◌≡◌, refl, sym, ap, ◌∙◌, ℕ, ◌+◌, ◌<◌, min, List, [], ◌∷◌, drop}
+use Rattle.std.proofs.Common.{◌≡◌, refl, ap, ℕ, ◌<◌, min, List, [], ◌∷◌, drop}
 use Rattle.std.proofs.Common.{suc, zero, get_or, length, Option, None, Some, arith}
 use Rattle.mio_sockets.specs.Waiting.{sooner, soonest, wait_in}
 use Rattle.mio_sockets.specs.Wiring.{Line}
@@ -24,14 +24,3 @@ soonest_at : (lines : List Line) (i now : ℕ) (d : Line) → i < length lines
 soonest_at [] i now d within = absurd (omega (arith, within))
 soonest_at (l ∷ ls) zero now d within = refl
 soonest_at (l ∷ ls) (suc i) now d within = soonest_at ls i now d (omega (arith, within))
-
-pub one_later : (wait : Option ℕ) (lines : List Line) (i now : ℕ) (d : Line) → i < length lines
-    → sooner (sooner wait (wait_in (get_or lines i d) now)) (soonest (drop (i + 1) lines) now)
-    ≡ sooner wait (soonest (drop i lines) now)
-one_later wait lines i now d within =
-    let here = wait_in (get_or lines i d) now in
-    let next : i + 1 ≡ suc i = omega arith in
-    let rest = soonest (drop (suc i) lines) now in
-    ap (λ n. sooner (sooner wait here) (soonest (drop n lines) now)) next
-    ∙ sym (sooner-assoc wait here rest)
-    ∙ ap (sooner wait) (sym (soonest_at lines i now d within))

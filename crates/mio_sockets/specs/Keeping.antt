@@ -2,14 +2,14 @@
 use Rattle.std.specs.Prelude.{◌≡◌, ◌⊎◌, ◌<◌, ℕ, ◌+◌, List, [], ◌∷◌, length, drop}
 use Rattle.std.specs.List.{AllByRecursion}
 use Rattle.links.specs.Links.{LinkState, wish_of}
-use Rattle.links.specs.declared.stages.Stage.{Stage}
-use Rattle.links.specs.declared.stages.Stage.TheVariants.{Closed, Paused, Opening, Open}
-use Rattle.links.specs.declared.stages.Wish.TheVariants as wish
+use Rattle.links.specs.declared.stages.LinkStage.{LinkStage}
+use Rattle.links.specs.declared.stages.LinkStage.TheVariants.{Closed, Paused, Opening, Open}
+use Rattle.links.specs.declared.stages.LinkAction.TheVariants as wish
 use Rattle.mio_sockets.specs.Waiting.{quiet_in}
 use Rattle.mio_sockets.specs.Wiring.{Line}
 
 -- a connection failed at this moment, and a pause began
-abbrev pub FailedAt : ℕ → Stage → Type 0
+abbrev pub FailedAt : ℕ → LinkStage → Type 0
 FailedAt now Closed = ⊥
 FailedAt now (Paused since millis) = since ≡ now
 FailedAt now (Opening since) = ⊥
@@ -28,7 +28,7 @@ AreSettled now lines = AllByRecursion (λ (l : Line). IsSettled now l.link) line
 
 -- ---- how much is still to be done at most
 
-abbrev pub is_connected : Stage → ℕ
+abbrev pub is_connected : LinkStage → ℕ
 is_connected Closed = 0
 is_connected (Paused since millis) = 0
 is_connected (Opening since) = 0
@@ -46,9 +46,3 @@ left_of_first (f ∷ fs) begun = (length (drop begun f) + 1) + left_of_all fs
 -- and the end of the connection
 abbrev pub left_in : LinkState → ℕ
 left_in s = is_connected s.stage + left_of_first s.waiting s.begun
-
--- ---- what waits was written once
-
--- either nothing is left to be done now, or less is left to be sent
-abbrev pub Writes : ℕ → LinkState → LinkState → Type 0
-Writes now old new = IsSettled now new ⊎ (left_in new < left_in old)

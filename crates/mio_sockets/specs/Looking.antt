@@ -2,27 +2,27 @@
 -- own).
 use Rattle.std.specs.Prelude.{◌≡◌, ℕ, List, [], ◌∷◌, ◌++◌, Option}
 use Rattle.links.specs.Links.{LinkState, after_ended, after_failed, after_opened}
-use Rattle.links.specs.declared.stages.Stage.{Stage}
-use Rattle.links.specs.declared.stages.Stage.TheVariants.{Closed, Paused, Opening, Open}
+use Rattle.links.specs.declared.stages.LinkStage.{LinkStage}
+use Rattle.links.specs.declared.stages.LinkStage.TheVariants.{Closed, Paused, Opening, Open}
 use Rattle.mio_sockets.specs.Wiring.{Line}
 use Rattle.polled.specs.Telling.{Tells}
-use Rattle.mio_sockets.specs.declared.wires.Heard.{Heard}
-use Rattle.mio_sockets.specs.declared.wires.Heard.TheVariants as heard_is
-use Rattle.mio_sockets.specs.declared.wires.Opening.{Opening as Opened}
-use Rattle.mio_sockets.specs.declared.wires.Opening.TheVariants as opening_is
+use Rattle.mio_sockets.specs.declared.peer_connections.ConnectionOutcome.{ConnectionOutcome}
+use Rattle.mio_sockets.specs.declared.peer_connections.ConnectionOutcome.TheVariants as heard_is
+use Rattle.mio_sockets.specs.declared.peer_connections.Opening.{Opening as Opened}
+use Rattle.mio_sockets.specs.declared.peer_connections.Opening.TheVariants as opening_is
 
 -- It was asked what became of the connection to this desk, which was being opened; or what came
 -- over it, where it was open.
 pub data Look : Type 0 where
   Looked : ℕ → Opened → Look
-  Listened : ℕ → Heard → Look
+  Listened : ℕ → ConnectionOutcome → Look
 
 -- a connection that is being opened, or is open, is looked at, and no other
-abbrev pub LooksIn : ℕ → Stage → List Look → Type 0
+abbrev pub LooksIn : ℕ → LinkStage → List Look → Type 0
 LooksIn d Closed looks = looks ≡ []
 LooksIn d (Paused since millis) looks = looks ≡ []
 LooksIn d (Opening since) looks = (o : Opened) × (looks ≡ Looked d o ∷ [])
-LooksIn d (Open frames quiet) looks = (h : Heard) × (looks ≡ Listened d h ∷ [])
+LooksIn d (Open frames quiet) looks = (h : ConnectionOutcome) × (looks ≡ Listened d h ∷ [])
 
 -- what the link makes of it
 abbrev pub opened_by : Opened → LinkState → ℕ → LinkState
@@ -30,19 +30,19 @@ opened_by opening_is.Later s now = s
 opened_by opening_is.Open s now = after_opened s now
 opened_by opening_is.Failed s now = after_failed s now
 
-abbrev pub heard_by : Heard → LinkState → ℕ → LinkState
+abbrev pub heard_by : ConnectionOutcome → LinkState → ℕ → LinkState
 heard_by heard_is.Nothing s now = s
 heard_by heard_is.Foreign s now = s
 heard_by heard_is.Ended s now = after_ended s now
 heard_by heard_is.Broke s now = after_failed s now
 
-abbrev pub LooksAs : ℕ → Stage → ℕ → LinkState → LinkState → List Look → Type 0
+abbrev pub LooksAs : ℕ → LinkStage → ℕ → LinkState → LinkState → List Look → Type 0
 LooksAs d Closed now old new looks = (looks ≡ []) × (new ≡ old)
 LooksAs d (Paused since millis) now old new looks = (looks ≡ []) × (new ≡ old)
 LooksAs d (Opening since) now old new looks =
     (o : Opened) × (looks ≡ Looked d o ∷ []) × (new ≡ opened_by o old now)
 LooksAs d (Open frames quiet) now old new looks =
-    (h : Heard) × (looks ≡ Listened d h ∷ []) × (new ≡ heard_by h old now)
+    (h : ConnectionOutcome) × (looks ≡ Listened d h ∷ []) × (new ≡ heard_by h old now)
 
 -- each desk's connection, in the order of the desks
 abbrev pub LookAtAll : List Line → List Look → Type 0

@@ -3,14 +3,14 @@ use Rattle.std.specs.Prelude.{ℕ, ◌-◌, min, ◌&&◌, ◌||◌, Bool, true,
 use Rattle.std.specs.Prelude.{None, Some}
 use Rattle.std.specs.Option.{is_none}
 use Rattle.links.specs.Links.{wait_of, wish_of}
-use Rattle.links.specs.declared.stages.Stage.{Stage}
-use Rattle.links.specs.declared.stages.Stage.TheVariants.{Closed, Paused, Opening, Open}
-use Rattle.links.specs.declared.stages.Wish.{Wish}
-use Rattle.links.specs.declared.stages.Wish.TheVariants as wish
+use Rattle.links.specs.declared.stages.LinkStage.{LinkStage}
+use Rattle.links.specs.declared.stages.LinkStage.TheVariants.{Closed, Paused, Opening, Open}
+use Rattle.links.specs.declared.stages.LinkAction.{LinkAction}
+use Rattle.links.specs.declared.stages.LinkAction.TheVariants as wish
 use Rattle.mio_sockets.specs.Wiring.{Line}
 
 -- for how long an open connection took nothing
-abbrev pub quiet_in : Stage → ℕ → ℕ
+abbrev pub quiet_in : LinkStage → ℕ → ℕ
 quiet_in Closed now = 0
 quiet_in (Paused since millis) now = 0
 quiet_in (Opening since) now = 0
@@ -18,7 +18,7 @@ quiet_in (Open frames quiet) now = now - quiet
 
 -- how long a wish may wait that stays as it is: not at all, but for bytes that the connection does
 -- not take, until it took none for three seconds
-abbrev pub wait_for : Wish → ℕ → Option ℕ
+abbrev pub wait_for : LinkAction → ℕ → Option ℕ
 wait_for wish.Rest quiet = None
 wait_for wish.Write quiet = Some (3000 - quiet)
 wait_for wish.Open quiet = Some 0
@@ -48,13 +48,13 @@ soonest (l ∷ ls) now = sooner (wait_in l now) (soonest ls now)
 
 -- something is still to be sent to a desk that is not known to be out of reach: a connection is
 -- being opened, or bytes wait for an open one
-abbrev pub is_opening : Stage → Bool
+abbrev pub is_opening : LinkStage → Bool
 is_opening Closed = false
 is_opening (Paused since millis) = false
 is_opening (Opening since) = true
 is_opening (Open frames quiet) = false
 
-abbrev pub is_write : Wish → Bool
+abbrev pub is_write : LinkAction → Bool
 is_write wish.Rest = false
 is_write wish.Write = true
 is_write wish.Open = false

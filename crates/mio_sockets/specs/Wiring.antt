@@ -6,9 +6,9 @@ use Rattle.std.specs.Prelude.{Option, None, Some, Bool, true, false}
 use Rattle.std.specs.List.{AllByRecursion}
 use Rattle.std.specs.declared.net.SocketAddr.{SocketAddr}
 use Rattle.polled.specs.Telling.{Tells}
-use Rattle.polled.specs.declared.answers.Taken.{Taken}
-use Rattle.polled.specs.declared.answers.Taken.TheVariants as taken_is
-use Rattle.links.specs.declared.stages.Pushed.TheVariants as push
+use Rattle.polled.specs.declared.answers.WriteOutcome.{WriteOutcome}
+use Rattle.polled.specs.declared.answers.WriteOutcome.TheVariants as taken_is
+use Rattle.links.specs.declared.stages.PushOutcome.TheVariants as push
 use Rattle.links.specs.Links.{LinkState, Pushes, new_link}
 use Rattle.links.specs.Histories.{Step, Push, Opened, Sent, Ended, Steps}
 use Rattle.links.specs.Histories as step
@@ -21,7 +21,7 @@ pub data Wired : Type 0 where
   Closed : ℕ → Wired
 
 -- the bytes that were taken are first among those that were given
-abbrev pub taken : ℕ → Taken → List ℕ → List Wired
+abbrev pub taken : ℕ → WriteOutcome → List ℕ → List Wired
 taken d (taken_is.Bytes count) bytes = Took d (take count bytes) ∷ []
 taken d taken_is.Later bytes = []
 taken d taken_is.Broke bytes = []
@@ -138,27 +138,21 @@ pub record KeepsLine (before after : Option (List Wired)) (a b : Line) : Type 0 
 
 -- ---- a frame goes to its desk
 
--- The frame is given to the link of its desk. What the link then has to send is written at once,
--- where its connection is open and takes it.
-pub record PushedAt (to : ℕ) (frame : List ℕ) (earlier later : Option (List Wired))
-    (old new : List Line) : Type 0 where
+-- the frame is given to the link of its desk
+pub record PushedAt (to : ℕ) (frame : List ℕ) (old new : List Line) : Type 0 where
   pub before : List Line
   pub after : List Line
   pub a : Line
-  pub between : Line
   pub b : Line
   pub was : old ≡ before ++ a ∷ after
   pub is : new ≡ before ++ b ∷ after
   pub to_it : a.desk ≡ to
-  pub takes : TakesFrame frame a between
-  pub written : KeepsLine earlier later between b
+  pub takes : TakesFrame frame a b
 
 -- where the desk has an address; the other links stay
-abbrev pub PushesTo : ℕ → List ℕ → Option (List Wired) → Option (List Wired) → List Line
-    → List Line → Type 0
-PushesTo to frame earlier later old new =
-    PushedAt to frame earlier later old new
-    ⊎ (AllByRecursion (λ l. l.desk ≢ to) old × (new ≡ old) × Tells earlier later [])
+abbrev pub PushesTo : ℕ → List ℕ → List Line → List Line → Type 0
+PushesTo to frame old new =
+    PushedAt to frame old new ⊎ (AllByRecursion (λ l. l.desk ≢ to) old × (new ≡ old))
 
 -- each link was called so, in the order of the desks
 abbrev pub AreDriven : List Line → List (List Step) → List Line → Type 0

@@ -1,11 +1,11 @@
 //! The question to another desk that tells who answers at its address.
 
 use std::alloc::Global;
-use wire::{Frame, Version, What, encode};
+use wire::{Frame, FrameBody, Version, encode};
 
 /// Which desk of which hall is asked.
 #[derive(Clone, Copy)]
-pub(crate) struct Asking {
+pub(crate) struct AskedPeer {
     pub(crate) alloc: Global,
     pub(crate) hall: u32,
     pub(crate) desk: u8,
@@ -22,12 +22,12 @@ fn question(alloc: Global, hall: u32, desk: u8) -> Option<Vec<u8>> {
         hall,
         from: 0,
         to: desk,
-        what: What::Ask { id: 1 },
+        what: FrameBody::Ask { id: 1 },
     };
     encode(alloc, &frame).ok()
 }
 
-impl Asking {
+impl AskedPeer {
     /// The bytes of the question. None: there is no such desk, or memory runs out.
     pub(crate) fn bytes(self) -> Option<Vec<u8>> {
         question(self.alloc, self.hall, self.desk)

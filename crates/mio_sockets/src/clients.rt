@@ -9,7 +9,7 @@ ghost use Rattle.polled.specs.sockets.Sockets.{SameStay, is_full, stays};
 
 use crate::random::drawn;
 use mio::Registry;
-use multiplex::{Accepted, Clients, Given, Ready, Taken};
+use multiplex::{AcceptedClient, Clients, ReadOutcome, Ready, WriteOutcome};
 use polled::sockets::PeerSockets;
 use prompt_lines::PromptLines;
 use std::alloc::Global;
@@ -143,39 +143,39 @@ impl<R: Clock + RandomSource> Clients for SocketClients<'_, R> {
     /// The random bytes are new, mixed with the numbers of the desk's start and of the client.
     /// Where the system gives none, the client isn't let in. Where as many connections are open as
     /// may be, nobody is.
-    fn accept(&mut self, number: u64) -> Accepted
-        ensures full { is_full self.old ≡ true → result ≡ Accepted.Full }
+    fn accept(&mut self, number: u64) -> AcceptedClient
+        ensures full { is_full self.old ≡ true → result ≡ AcceptedClient.Full }
         ensures came { LetsIn result (stays self.old number) (stays self.new number) }
         ensures others { OthersStay number self.old self.new }
         ensures same { SameElse self.old self.new }
     {
         match self.peers.accept(number) {
-            polled::Accepted::Nobody => Accepted::Nobody,
-            polled::Accepted::Full => {
+            polled::AcceptedPeer::Nobody => AcceptedClient::Nobody,
+            polled::AcceptedPeer::Full => {
                 self.told = tell_scarce(&mut self.lines, self.told, self.now);
-                Accepted::Full
+                AcceptedClient::Full
             }
-            polled::Accepted::Came => match drawn(self.system, self.start, number) {
-                Ok(random) => Accepted::Came { random },
+            polled::AcceptedPeer::Came => match drawn(self.system, self.start, number) {
+                Ok(random) => AcceptedClient::Came { random },
                 Err(_) => {
                     self.peers.close(number);
-                    Accepted::Nobody
+                    AcceptedClient::Nobody
                 }
             },
         }
     }
 
-    fn read(&mut self, number: u64, buffer: &mut [u8; 4096]) -> Given
+    fn read(&mut self, number: u64, buffer: &mut [u8; 4096]) -> ReadOutcome
         ensures count { CountsGiven (length buffer.new) result }
-        ensures closed { stays self.old number ≡ false → result ≡ Given.Broke }
+        ensures closed { stays self.old number ≡ false → result ≡ ReadOutcome.Broke }
         ensures same { self.new ≡ self.old }
     {
         self.peers.read(number, buffer)
     }
 
-    fn write(&mut self, number: u64, bytes: &[u8]) -> Taken
+    fn write(&mut self, number: u64, bytes: &[u8]) -> WriteOutcome
         ensures count { CountsTaken (length bytes.now) result }
-        ensures closed { stays self.old number ≡ false → result ≡ Taken.Broke }
+        ensures closed { stays self.old number ≡ false → result ≡ WriteOutcome.Broke }
         ensures same { self.new ≡ self.old }
     {
         self.peers.write(number, bytes)

@@ -10,11 +10,11 @@ ghost use Rattle.serving.specs.Adding.{Push, Hands};
 ghost use Rattle.mio_sockets.specs.Wiring.{KeepsLines, PushesTo, lines_from};
 
 use crate::neighbour::Neighbour;
-use crate::socket_wires::SocketWires;
+use crate::peer_connections::PeerConnections;
+use crate::socket_connections::SocketConnections;
 use crate::tellings::{Subject, tell, tell_difference};
-use crate::wires::Wires;
 use links::Notice;
-use multiplex::Links;
+use multiplex::PeerLinks;
 use serving::Peers;
 use std::alloc::{AllocError, Global};
 use std::io::Write;
@@ -26,11 +26,11 @@ use wire::Difference;
 const MOST_DESKS: usize = 5;
 
 /// The links to the other desks of a hall over TCP.
-pub type SocketLinks<'a, R, W> = DeskLinks<SocketWires<'a, R>, W>;
+pub type SocketLinks<'a, R, W> = DeskLinks<SocketConnections<'a, R>, W>;
 
 /// Where the lines about other desks go, and whether it is left out which desk can't be reached.
 #[derive(Drop)]
-struct Lines<W> {
+struct NoticeLines<W> {
     writer: W,
     quiet: bool,
 }
@@ -43,7 +43,7 @@ pub struct DeskLinks<C, W> {
     alloc: Global,
     wires: C,
     desks: Vec<Neighbour>,
-    lines: Lines<W>,
+    lines: NoticeLines<W>,
     /// When the links were kept last, in milliseconds.
     kept_at: u64,
 }
@@ -71,7 +71,7 @@ fn neighbours(alloc: Global, addresses: &[Option<SocketAddr>]) -> Result<Vec<Nei
 
 /// Writes the line about a desk that is due, if one is, and such lines are written at all. Where it
 /// can't be written, it is left out.
-fn tell_due<W: Write>(lines: &mut Lines<W>, subject: Subject, due: Option<Notice>) {
+fn tell_due<W: Write>(lines: &mut NoticeLines<W>, subject: Subject, due: Option<Notice>) {
     if lines.quiet {
         return;
     }
@@ -81,7 +81,7 @@ fn tell_due<W: Write>(lines: &mut Lines<W>, subject: Subject, due: Option<Notice
 }
 
 /// What a line about a desk says beside what became of it.
-fn subject_of<C: Wires>(desk: &Neighbour, wires: &C) -> Subject
+fn subject_of<C: PeerConnections>(desk: &Neighbour, wires: &C) -> Subject
     ensures desk { result.desk ≡ desk.now.desk }
     ensures address { result.address ≡ desk.now.address }
 {
@@ -93,10 +93,10 @@ fn subject_of<C: Wires>(desk: &Neighbour, wires: &C) -> Subject
 }
 
 /// Keeps each link.
-fn keep_each<C: Wires, W: Write>(
+fn keep_each<C: PeerConnections, W: Write>(
     desks: &mut [Neighbour],
     wires: &mut C,
-    lines: &mut Lines<W>,
+    lines: &mut NoticeLines<W>,
     now: u64,
 )
     ensures keeps { KeepsLines (C.wired wires.old) (C.wired wires.new) desks.old desks.new }
@@ -112,10 +112,10 @@ fn keep_each<C: Wires, W: Write>(
 
 /// Goes on with the connections that were closed before, and keeps each link.
 #[tactic(auto, using(crate::proofs::Closed::kept_after, crate::proofs::Closed::looked_after))]
-fn keep_all<C: Wires, W: Write>(
+fn keep_all<C: PeerConnections, W: Write>(
     desks: &mut [Neighbour],
     wires: &mut C,
-    lines: &mut Lines<W>,
+    lines: &mut NoticeLines<W>,
     now: u64,
 )
     ensures keeps { KeepsLines (C.wired wires.old) (C.wired wires.new) desks.old desks.new }
@@ -162,7 +162,7 @@ fn is_busy(desks: &[Neighbour], now: u64) -> bool
     desks.iter().any(|desk| desk.is_busy(now))
 }
 
-impl<C: Wires, W: Write> DeskLinks<C, W> {
+impl<C: PeerConnections, W: Write> DeskLinks<C, W> {
     /// The links to the desks at these addresses: desk 1 at the first one, and so on. Frames to a
     /// desk without an address are dropped. Addresses after the fifth are left out. Where it is to
     /// be `quiet`, nothing is said of desks that can't be reached.
@@ -183,7 +183,7 @@ impl<C: Wires, W: Write> DeskLinks<C, W> {
             alloc,
             wires,
             desks: neighbours(alloc, addresses)?,
-            lines: Lines { writer, quiet },
+            lines: NoticeLines { writer, quiet },
             kept_at: 0,
         })
     }
@@ -201,29 +201,25 @@ impl<C: Wires, W: Write> DeskLinks<C, W> {
     }
 }
 
-impl<C: Wires, W: Write> Peers for DeskLinks<C, W> {
+impl<C: PeerConnections, W: Write> Peers for DeskLinks<C, W> {
     ghost use Rattle.std.specs.Prelude.{None};
 
     // What a desk was handed over to its link is said by the clause `frame`.
     ghost handed = { λ _. None };
 
-    /// Gives a frame to the link of its desk, and writes it at once where the connection to that
-    /// desk is open and takes it. So the other desks work on it while this one goes on. Where
-    /// memory is refused for it, it is dropped, which is counted.
+    /// Gives a frame to the link of its desk. It is written once the links are kept, with all
+    /// others that wait there. Where memory is refused for it, it is dropped, which is counted.
     fn push(&mut self, to: u8, frame: &[u8])
-        ensures frame { PushesTo to frame.now (C.wired self.old.wires) (C.wired self.new.wires)
-            self.old.lines self.new.lines }
+        ensures frame { PushesTo to frame.now self.old.lines self.new.lines }
+        ensures wires { self.new.wires ≡ self.old.wires }
     {
         if let Some(place) = place_of(&self.desks, to) {
-            let desk = &mut self.desks[place];
-            desk.push(self.alloc, frame);
-            let due = desk.write_now(&mut self.wires, self.kept_at);
-            tell_due(&mut self.lines, subject_of(desk, &self.wires), due);
+            self.desks[place].push(self.alloc, frame);
         }
     }
 }
 
-impl<C: Wires, W: Write> Links for DeskLinks<C, W> {
+impl<C: PeerConnections, W: Write> PeerLinks for DeskLinks<C, W> {
     ghost use Rattle.std.specs.Prelude.{◌≡◌, None};
     ghost use Rattle.mio_sockets.specs.Waiting.{soonest};
 

@@ -1,7 +1,7 @@
 //! Connections to other desks that are ending.
 
-use crate::asking::Asking;
-use crate::keyed_stream::{Came, KeyedStream};
+use crate::asking::AskedPeer;
+use crate::keyed_stream::{KeyedStream, StreamOutcome};
 use std::alloc::Global;
 use std::collections::VecDeque;
 
@@ -15,24 +15,24 @@ const ENDING: u64 = 2000;
 /// What it still sends is read and dropped, since bytes that were not read would reset the
 /// connection, and what the desk has not read yet would be lost.
 #[derive(Drop)]
-struct Ending {
+struct EndingConnection {
     stream: KeyedStream,
-    asking: Asking,
+    asking: AskedPeer,
     /// The time from which on it is ending, in milliseconds.
     since: u64,
 }
 
-impl Ending {
+impl EndingConnection {
     /// Reads what comes, and drops it. False: the desk has ended the connection too, or it failed.
     fn goes_on(&mut self) -> bool {
-        self.stream.hear(self.asking) == Came::Nothing
+        self.stream.hear(self.asking) == StreamOutcome::Nothing
     }
 }
 
 /// The connections to other desks that are ending.
 #[derive(Drop)]
 pub(crate) struct Endings {
-    kept: VecDeque<Ending>,
+    kept: VecDeque<EndingConnection>,
     /// The time of the last look at them, in milliseconds.
     now: u64,
 }
@@ -48,8 +48,8 @@ impl Endings {
 
     /// Ends a connection. Where as many are kept as may be, the one that is ending for the longest
     /// time is closed for it.
-    pub(crate) fn end(&mut self, stream: KeyedStream, asking: Asking) {
-        let mut ending = Ending {
+    pub(crate) fn end(&mut self, stream: KeyedStream, asking: AskedPeer) {
+        let mut ending = EndingConnection {
             stream,
             asking,
             since: self.now,

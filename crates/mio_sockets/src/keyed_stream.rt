@@ -1,12 +1,12 @@
 //! A connection to another desk, with a key or without one.
 
 ghost use Rattle.std.specs.Prelude.{◌≡◌, ◌≢◌, ◌≤◌, [], length, is_some, IfOk};
-ghost use Rattle.sealed.specs.ends.Calls.{own_key};
+ghost use Rattle.sealed.specs.ends.ClientStreams.{own_key};
 
-use crate::asking::Asking;
+use crate::asking::AskedPeer;
 use mio::net::TcpStream;
 use polled::sockets::is_waiting;
-use sealed::ends::{Call, CallTrouble};
+use sealed::ends::{CallTrouble, ClientStream};
 use std::io;
 use std::io::{ErrorKind, Read, Write};
 use std::net::Shutdown;
@@ -16,7 +16,7 @@ const MOST_CALLS: u32 = 16;
 
 /// What came over a connection.
 #[derive(Clone, Copy, PartialEq, Eq)]
-pub(crate) enum Came {
+pub(crate) enum StreamOutcome {
     /// It may go on.
     Nothing,
     /// The desk has ended it.
@@ -33,7 +33,7 @@ pub(crate) enum Came {
 #[derive(Drop)]
 pub(crate) struct KeyedStream {
     stream: TcpStream,
-    call: Call,
+    call: ClientStream,
     /// Whether there is a key.
     sealed: bool,
     ghost keyed: { sealed ≡ is_some (own_key call) },
@@ -49,7 +49,7 @@ pub(crate) struct KeyedStream {
 
 impl KeyedStream {
     /// A connection that was begun. `sealed`: there is a key.
-    pub(crate) fn new(stream: TcpStream, call: Call, sealed: bool) -> KeyedStream
+    pub(crate) fn new(stream: TcpStream, call: ClientStream, sealed: bool) -> KeyedStream
         requires { sealed ≡ is_some (own_key call) }
         ensures { result.call ≡ call }
     {
@@ -185,7 +185,7 @@ impl KeyedStream {
 
     /// Takes a piece of what came. What the desk said first tells who answers. False: it doesn't
     /// fit under the key, or memory was refused.
-    fn take(&mut self, piece: &[u8], asking: Asking) -> bool
+    fn take(&mut self, piece: &[u8], asking: AskedPeer) -> bool
         ensures { own_key self.new.call ≡ own_key self.old.call }
     {
         let Ok(more) = self.call.receive(piece) else {
@@ -199,22 +199,22 @@ impl KeyedStream {
     }
 
     /// Reads what comes from a desk, and drops it. No call waits.
-    pub(crate) fn hear(&mut self, asking: Asking) -> Came
+    pub(crate) fn hear(&mut self, asking: AskedPeer) -> StreamOutcome
         ensures { own_key self.new.call ≡ own_key self.old.call }
     {
         let mut piece = [0; 4096];
         for _read in 0..MOST_CALLS {
             match self.stream.read(&mut piece) {
-                Ok(0) => return Came::Ended,
+                Ok(0) => return StreamOutcome::Ended,
                 Ok(count) => {
                     if !self.take(&piece[..count], asking) {
-                        return Came::Broke;
+                        return StreamOutcome::Broke;
                     }
                 }
-                Err(error) if is_waiting(&error) => return Came::Nothing,
-                Err(_) => return Came::Broke,
+                Err(error) if is_waiting(&error) => return StreamOutcome::Nothing,
+                Err(_) => return StreamOutcome::Broke,
             }
         }
-        Came::Nothing
+        StreamOutcome::Nothing
     }
 }

@@ -5,18 +5,18 @@
 mod asking;
 mod clients;
 mod desk_links;
-mod desk_wire;
 mod endings;
-mod hall_wires;
+mod hall_connections;
 mod keyed_stream;
 mod neighbour;
+mod peer_connection;
+mod peer_connections;
 mod random;
-mod socket_wires;
+mod socket_connections;
 mod tellings;
-mod wires;
 
 pub use clients::SocketClients;
 pub use desk_links::{DeskLinks, SocketLinks};
+pub use peer_connections::{ConnectionOutcome, ConnectionTrouble, Opening, PeerConnections};
 pub use random::{mixed, mixed_apart, mixed_keeps};
-pub use socket_wires::SocketWires;
-pub use wires::{Heard, Opening, Trouble, Wires};
+pub use socket_connections::SocketConnections;

@@ -2,18 +2,18 @@
 
 ghost use Rattle.std.specs.Prelude.{◌≡◌, ◌≤◌, ◌<◌, [], true, false, IfSome, IfNone};
 ghost use Rattle.links.specs.Links.{IsUnconnected};
-ghost use Rattle.links.specs.declared.stages.Wish.TheVariants as wish;
+ghost use Rattle.links.specs.declared.stages.LinkAction.TheVariants as wish;
 ghost use Rattle.links.specs.Links.{after_ended, after_failed, wish_of};
-ghost use Rattle.mio_sockets.specs.Keeping.{IsSettled, Writes, left_in};
+ghost use Rattle.mio_sockets.specs.Keeping.{IsSettled, left_in};
 ghost use Rattle.mio_sockets.specs.Looking.{Looks, LooksAs, LooksIn};
 ghost use Rattle.mio_sockets.specs.Waiting.{is_busy, is_opening, is_write, quiet_in, wait_in};
 ghost use Rattle.mio_sockets.specs.Wiring.{IsSameDesk, IsStored, KeepsLine, TakesFrame};
 ghost use Rattle.polled.specs.Telling.{Tells};
 ghost use Rattle.mio_sockets.specs.Wiring.{new_line};
 
-use crate::wires::{Heard, Opening, Wires};
-use links::{Link, Notice, Notices, Pushed, Stage, Wish};
-use multiplex::Taken;
+use crate::peer_connections::{ConnectionOutcome, Opening, PeerConnections};
+use links::{Link, LinkAction, LinkStage, Notice, Notices, PushOutcome};
+use multiplex::WriteOutcome;
 use std::alloc::Global;
 use std::marker::Model;
 use std::net::SocketAddr;
@@ -42,24 +42,24 @@ impl Model for Neighbour {
 
 /// What comes of a wish that was fulfilled.
 #[derive(Clone, Copy)]
-struct Done {
+struct ActionOutcome {
     /// Whether the next wish may be fulfilled at once.
     goes_on: bool,
     line: Option<Notice>,
 }
 
 /// Whether a connection is being opened.
-fn is_opening(stage: Stage) -> bool
+fn is_opening(stage: LinkStage) -> bool
     ensures { result ≡ is_opening stage }
 {
-    matches!(stage, Stage::Opening { .. })
+    matches!(stage, LinkStage::Opening { .. })
 }
 
 /// Whether bytes are to be written.
-fn is_write(wish: Wish) -> bool
+fn is_write(wish: LinkAction) -> bool
     ensures { result ≡ is_write wish }
 {
-    matches!(wish, Wish::Write)
+    matches!(wish, LinkAction::Write)
 }
 
 impl Neighbour {
@@ -99,7 +99,7 @@ impl Neighbour {
         ensures { result ≡ quiet_in self.now.link.stage now }
     {
         match self.link.stage() {
-            Stage::Open { quiet, .. } => now.saturating_sub(quiet),
+            LinkStage::Open { quiet, .. } => now.saturating_sub(quiet),
             _ => 0,
         }
     }
@@ -114,9 +114,9 @@ impl Neighbour {
         match self.link.wait(now) {
             Some(millis) => Some(millis),
             None => match self.link.wish(now) {
-                Wish::Rest => None,
-                Wish::Write => Some(STUCK.saturating_sub(self.quiet_for(now))),
-                Wish::Open | Wish::Close | Wish::GiveUp => Some(0),
+                LinkAction::Rest => None,
+                LinkAction::Write => Some(STUCK.saturating_sub(self.quiet_for(now))),
+                LinkAction::Open | LinkAction::Close | LinkAction::GiveUp => Some(0),
             },
         }
     }
@@ -149,13 +149,13 @@ impl Neighbour {
             return false;
         };
         match self.link.push(copy) {
-            Pushed::Waits | Pushed::DroppedOldest => true,
-            Pushed::NoMemory => false,
+            PushOutcome::Waits | PushOutcome::DroppedOldest => true,
+            PushOutcome::NoMemory => false,
         }
     }
 
     /// Says that the connection failed, and closes it.
-    fn fail<C: Wires>(&mut self, wires: &mut C, now: u64) -> Option<Notice>
+    fn fail<C: PeerConnections>(&mut self, wires: &mut C, now: u64) -> Option<Notice>
         ensures keeps { KeepsLine (C.wired wires.old) (C.wired wires.new) self.old self.new }
         ensures looks { Tells (C.looked wires.old) (C.looked wires.new) [] }
         ensures link { self.new.link ≡ after_failed self.old.link now }
@@ -166,7 +166,7 @@ impl Neighbour {
     }
 
     /// Says that the other side ended the connection, and closes it.
-    fn end<C: Wires>(&mut self, wires: &mut C, now: u64) -> Option<Notice>
+    fn end<C: PeerConnections>(&mut self, wires: &mut C, now: u64) -> Option<Notice>
         ensures keeps { KeepsLine (C.wired wires.old) (C.wired wires.new) self.old self.new }
         ensures looks { Tells (C.looked wires.old) (C.looked wires.new) [] }
         ensures link { self.new.link ≡ after_ended self.old.link now }
@@ -181,7 +181,7 @@ impl Neighbour {
     }
 
     /// Begins a connection.
-    fn open<C: Wires>(&mut self, wires: &mut C, now: u64) -> Done
+    fn open<C: PeerConnections>(&mut self, wires: &mut C, now: u64) -> ActionOutcome
         requires { IsUnconnected self.old.link.stage }
         ensures keeps { KeepsLine (C.wired wires.old) (C.wired wires.new) self.old self.new }
         ensures looks { Tells (C.looked wires.old) (C.looked wires.new) [] }
@@ -191,14 +191,14 @@ impl Neighbour {
         self.link.began(now);
         let begun = wires.begin(self.desk, self.address);
         let line = if begun { None } else { self.fail(wires, now) };
-        Done {
+        ActionOutcome {
             goes_on: false,
             line,
         }
     }
 
     /// Writes what the link has to send. A connection that takes nothing for three seconds failed.
-    fn write<C: Wires>(&mut self, wires: &mut C, now: u64) -> Done
+    fn write<C: PeerConnections>(&mut self, wires: &mut C, now: u64) -> ActionOutcome
         requires { wish_of self.old.link now ≡ wish.Write }
         ensures keeps { KeepsLine (C.wired wires.old) (C.wired wires.new) self.old self.new }
         ensures looks { Tells (C.looked wires.old) (C.looked wires.new) [] }
@@ -207,33 +207,33 @@ impl Neighbour {
     {
         if self.link.output().is_empty() {
             self.link.sent(now, 0);
-            return Done {
+            return ActionOutcome {
                 goes_on: true,
                 line: None,
             };
         }
         let taken = wires.write(self.desk, self.link.output());
         match taken {
-            Taken::Bytes { count } => {
+            WriteOutcome::Bytes { count } => {
                 self.link.sent(now, count);
-                Done {
+                ActionOutcome {
                     goes_on: true,
                     line: None,
                 }
             }
-            Taken::Later => {
+            WriteOutcome::Later => {
                 if self.quiet_for(now) >= STUCK {
-                    return Done {
+                    return ActionOutcome {
                         goes_on: false,
                         line: self.fail(wires, now),
                     };
                 }
-                Done {
+                ActionOutcome {
                     goes_on: false,
                     line: None,
                 }
             }
-            Taken::Broke => Done {
+            WriteOutcome::Broke => ActionOutcome {
                 goes_on: false,
                 line: self.fail(wires, now),
             },
@@ -241,57 +241,43 @@ impl Neighbour {
     }
 
     /// Fulfils what the link wishes now.
-    fn fulfil<C: Wires>(&mut self, wires: &mut C, now: u64) -> Done
+    fn fulfil<C: PeerConnections>(&mut self, wires: &mut C, now: u64) -> ActionOutcome
         ensures keeps { KeepsLine (C.wired wires.old) (C.wired wires.new) self.old self.new }
         ensures looks { Tells (C.looked wires.old) (C.looked wires.new) [] }
         ensures settled { result.goes_on ≡ false → IsSettled now self.new.link }
         ensures less { result.goes_on ≡ true → left_in self.new.link < left_in self.old.link }
     {
         match self.link.wish(now) {
-            Wish::Rest => Done {
+            LinkAction::Rest => ActionOutcome {
                 goes_on: false,
                 line: None,
             },
-            Wish::Open => self.open(wires, now),
-            Wish::Write => self.write(wires, now),
-            Wish::Close => {
+            LinkAction::Open => self.open(wires, now),
+            LinkAction::Write => self.write(wires, now),
+            LinkAction::Close => {
                 wires.close(self.desk);
                 self.link.closed();
-                Done {
+                ActionOutcome {
                     goes_on: true,
                     line: None,
                 }
             }
-            Wish::GiveUp => Done {
+            LinkAction::GiveUp => ActionOutcome {
                 goes_on: false,
                 line: self.fail(wires, now),
             },
         }
     }
 
-    /// Writes at once what the link has to send, where its connection is open and takes it. Gives
-    /// the line that is due, if one is.
-    pub fn write_now<C: Wires>(&mut self, wires: &mut C, now: u64) -> Option<Notice>
-        ensures keeps { KeepsLine (C.wired wires.old) (C.wired wires.new) self.old self.new }
-        ensures looks { Tells (C.looked wires.old) (C.looked wires.new) [] }
-        ensures writes { wish_of self.old.link now ≡ wish.Write
-            → Writes now self.old.link self.new.link }
-    {
-        match self.link.wish(now) {
-            Wish::Write => self.write(wires, now).line,
-            Wish::Rest | Wish::Open | Wish::Close | Wish::GiveUp => None,
-        }
-    }
-
     /// Tells the link what has become of its connection.
-    fn look<C: Wires>(&mut self, wires: &mut C, now: u64) -> Option<Notice>
+    fn look<C: PeerConnections>(&mut self, wires: &mut C, now: u64) -> Option<Notice>
         ensures keeps { KeepsLine (C.wired wires.old) (C.wired wires.new) self.old self.new }
         ensures looks { Looks C.looked wires.old wires.new
             (LooksAs self.old.desk self.old.link.stage now self.old.link self.new.link) }
     {
         match self.link.stage() {
-            Stage::Closed | Stage::Paused { .. } => None,
-            Stage::Opening { .. } => match wires.opening(self.desk) {
+            LinkStage::Closed | LinkStage::Paused { .. } => None,
+            LinkStage::Opening { .. } => match wires.opening(self.desk) {
                 Opening::Later => None,
                 Opening::Open => {
                     self.link.opened(now);
@@ -299,18 +285,18 @@ impl Neighbour {
                 }
                 Opening::Failed => self.fail(wires, now),
             },
-            Stage::Open { .. } => match wires.hear(self.desk) {
-                Heard::Nothing => None,
-                Heard::Foreign => self.notices.foreign(now),
-                Heard::Ended => self.end(wires, now),
-                Heard::Broke => self.fail(wires, now),
+            LinkStage::Open { .. } => match wires.hear(self.desk) {
+                ConnectionOutcome::Nothing => None,
+                ConnectionOutcome::Foreign => self.notices.foreign(now),
+                ConnectionOutcome::Ended => self.end(wires, now),
+                ConnectionOutcome::Broke => self.fail(wires, now),
             },
         }
     }
 
     /// Fulfils the link's wishes, one after the other, until it rests or its connection can take no
     /// more now.
-    fn fulfil_all<C: Wires>(&mut self, wires: &mut C, now: u64) -> Option<Notice>
+    fn fulfil_all<C: PeerConnections>(&mut self, wires: &mut C, now: u64) -> Option<Notice>
         ensures keeps { KeepsLine (C.wired wires.old) (C.wired wires.new) self.old self.new }
         ensures looks { Tells (C.looked wires.old) (C.looked wires.new) [] }
         ensures settled { IsSettled now self.new.link }
@@ -327,7 +313,7 @@ impl Neighbour {
 
     /// Tells the link what has become of its connection, and fulfils its wishes. The line that is
     /// due, if one is.
-    pub fn keep<C: Wires>(&mut self, wires: &mut C, now: u64) -> Option<Notice>
+    pub fn keep<C: PeerConnections>(&mut self, wires: &mut C, now: u64) -> Option<Notice>
         ensures keeps { KeepsLine (C.wired wires.old) (C.wired wires.new) self.old self.new }
         ensures looks { Looks C.looked wires.old wires.new
             (LooksIn self.old.desk self.old.link.stage) }

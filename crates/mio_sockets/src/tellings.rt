@@ -1,6 +1,6 @@
 //! The lines about other desks.
 
-use crate::wires::Trouble;
+use crate::peer_connections::ConnectionTrouble;
 use links::Notice;
 use sealed::ends::CallTrouble;
 use std::io;
@@ -14,18 +14,18 @@ use wire::Difference;
 pub struct Subject {
     pub desk: u8,
     pub address: SocketAddr,
-    pub trouble: Trouble,
+    pub trouble: ConnectionTrouble,
 }
 
 /// Writes that a desk can't be reached, and why.
 fn tell_unreachable<W: Write>(writer: &mut W, subject: Subject) -> io::Result<()> {
     let (desk, address) = (subject.desk, subject.address);
     match subject.trouble {
-        Trouble::System { kind } => writeln!(writer, "desk {desk} at {address}: {kind}"),
-        Trouble::Key {
+        ConnectionTrouble::System { kind } => writeln!(writer, "desk {desk} at {address}: {kind}"),
+        ConnectionTrouble::Key {
             trouble: CallTrouble::HasKey,
         } => writeln!(writer, "desk {desk} at {address} has a key"),
-        Trouble::Key { .. } => {
+        ConnectionTrouble::Key { .. } => {
             writeln!(writer, "desk {desk} at {address} has another key, or none")
         }
     }
@@ -36,13 +36,13 @@ pub fn tell_difference<W: Write>(writer: &mut W, difference: Difference) -> io::
     match difference {
         Difference::OtherEntry { desk, position } => writeln!(
             writer,
-            "desk {desk} has another command at {position}: no more commands are taken here; \
+            "desk {desk} has another command at {position}: no more commands are accepted here; \
              see HALL, 'Two desks differ'"
         )?,
         Difference::Shorter { desk, length } => writeln!(
             writer,
             "desk {desk} has {length} commands and had more, its file was lost or is an older \
-             one: no more commands are taken here; see HALL, 'Two desks differ'"
+             one: no more commands are accepted here; see HALL, 'Two desks differ'"
         )?,
     }
     writer.flush()

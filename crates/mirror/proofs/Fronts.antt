@@ -10,8 +10,8 @@ use Rattle.learner.specs.Laws.{IsPrefix}
 use Rattle.mirror.specs.Mirrors.{DiffersFirst, beyond}
 use Rattle.mirror.specs.Fronts.{Telling, TakesAs, TakesAll, BeginsOne, NoneDiffers}
 use Rattle.mirror.specs.Fronts.{LogsOfAgree, MirrorsHoldFronts}
-use Rattle.mirror.specs.declared.mirror.Taken.{Taken}
-use Rattle.mirror.specs.declared.mirror.Taken.TheVariants.{Grew, Known, Gap, Differs}
+use Rattle.mirror.specs.declared.mirror.MirrorGrowth.{MirrorGrowth}
+use Rattle.mirror.specs.declared.mirror.MirrorGrowth.TheVariants.{Grew, Known, Gap, Differs}
 
 tail_prefix : (x z : Entry) (xs zs : List Entry) → IsPrefix (x ∷ xs) (z ∷ zs) → IsPrefix xs zs
 tail_prefix x z xs zs p = let h = p.1 in (p.0, cc)
@@ -29,7 +29,7 @@ drop_prefix (suc k) [] ys p = (drop (suc k) ys, refl)
 drop_prefix (suc k) (x ∷ xs) [] p = absurd (let h = p.1 in cc)
 drop_prefix (suc k) (x ∷ xs) (y ∷ ys) p = drop_prefix k xs ys (tail_prefix x y xs ys p)
 
--- a prefix of a log goes on as another prefix of it does
+-- a prefix of a log continues as another prefix of it does
 goes_on : (held log m got : List Entry) → IsPrefix held log → IsPrefix m log
     → IsPrefix got (drop (length held) m) → IsPrefix (held ++ got) log
 goes_on [] log m got p q r = prefix_trans got m log r q
@@ -88,7 +88,8 @@ no_other held log m position count at p q d =
 
 -- ---- one call
 
-one_call : (held log m : List Entry) (position count : ℕ) (o : Option Taken) (next : List Entry)
+one_call : (held log m : List Entry) (position count : ℕ) (o : Option MirrorGrowth)
+    (next : List Entry)
     → IsPrefix held log → IsPrefix m log
     → TakesAs held position (take count (drop position m)) o next
     → IsPrefix next log × ((at : ℕ) → o ≡ Some (Differs at) → ⊥)
@@ -175,7 +176,7 @@ all_calls P agree (one ∷ more) ours held log after mine p t =
           (all_calls P agree more (λ i. ours (suc i)) t.0 log after mine first.0 t.2)
     ]
 
--- one of these tells of this log
+-- one of these is about this log
 record IsLogOf (ts : List Telling) (log : List Entry) : Type 0 where
   pub place : ℕ
   pub one : Telling

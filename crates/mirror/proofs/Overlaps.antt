@@ -1,4 +1,4 @@
--- Entries that are held and entries that are told, position by position.
+-- Entries that are held and entries that are reported, position by position.
 use Rattle.std.proofs.Common.{◌≡◌, ◌≢◌, ◌⊎◌, inl, inr, refl, sym, ap}
 use Rattle.std.proofs.Common.{◌∙◌, ℕ, zero, suc, ◌+◌, ◌<◌, ◌≤◌}
 use Rattle.std.proofs.Common.{true, false, List, [], ◌∷◌, length, Some, None, slice_get}
@@ -73,7 +73,7 @@ pub all_held : (held told : List Entry) (position end : ℕ)
 all_held held told position end before none i mine its less m s =
     before i mine its (omega (arith, less, past_end held end none)) m s
 
--- nothing more was told
+-- nothing more was reported
 pub all_told : (held told : List Entry) (position end : ℕ)
     → AreHeldBelow end held position told → position + length told ≤ end
     → AreHeldBelow (length held) held position told

@@ -7,23 +7,23 @@ use Rattle.sheets.specs.declared.Style.{Style}
 use Rattle.answers.specs.Answers.{sheet_at}
 use Rattle.learner.specs.Laws.{IsPrefix}
 use Rattle.mirror.specs.Mirrors.{Takes, TakesPart}
-use Rattle.mirror.specs.declared.mirror.Taken.{Taken}
-use Rattle.mirror.specs.declared.mirror.Taken.TheVariants.{Differs}
+use Rattle.mirror.specs.declared.mirror.MirrorGrowth.{MirrorGrowth}
+use Rattle.mirror.specs.declared.mirror.MirrorGrowth.TheVariants.{Differs}
 
--- entries that a log has from a position on, as many as were told, and what came of them: nothing
--- is said where memory was refused
+-- entries that a log has from a position on, as many as were reported, and what came of them:
+-- nothing is said where memory was refused
 pub record Telling : Type 0 where
   pub log : List Entry
   pub position : ℕ
   pub count : ℕ
-  pub outcome : Option Taken
+  pub outcome : Option MirrorGrowth
 
--- the entries that were told
+-- the entries that were reported
 abbrev pub told_by : Telling → List Entry
 told_by one = take one.count (drop one.position one.log)
 
 -- what a mirror holds before and after a call, by its contract
-abbrev pub TakesAs : List Entry → ℕ → List Entry → Option Taken → List Entry → Type 0
+abbrev pub TakesAs : List Entry → ℕ → List Entry → Option MirrorGrowth → List Entry → Type 0
 TakesAs held position told (Some taken) after = Takes held position told taken after
 TakesAs held position told None after = TakesPart held position told after
 
@@ -48,14 +48,15 @@ pub record BeginsOne (tellings : List Telling) (entries : List Entry) : Type 0 w
   pub here : slice_get tellings place ≡ Some one
   pub begins : IsPrefix entries one.log
 
--- none is told apart
+-- none is found to differ
 abbrev pub NoneDiffers : List Telling → Type 0
 NoneDiffers tellings =
     (place : ℕ) (one : Telling) (at : ℕ) → slice_get tellings place ≡ Some one
     → one.outcome ≡ Some (Differs at) → ⊥
 
--- Entries that are told of logs of which one begins the other, in any order and from any positions,
--- are never told apart, and a mirror that began with none holds the beginning of one of these logs.
+-- Entries that are reported of logs of which one begins the other, in any order and from any
+-- positions, are never found to differ, and a mirror that began with none holds the beginning of
+-- one of these logs.
 abbrev pub MirrorsHoldFronts : Type 0
 MirrorsHoldFronts =
     (tellings : List Telling) (after : List Entry) → LogsOfAgree tellings

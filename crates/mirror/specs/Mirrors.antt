@@ -3,17 +3,17 @@
 use Rattle.std.specs.Prelude.{ℕ, ◌≡◌, ◌≢◌, ◌+◌, ◌-◌, ◌<◌, ◌≤◌, List, ◌∷◌, ◌++◌, length, drop}
 use Rattle.std.specs.Prelude.{slice_get, Some}
 use Rattle.acceptor.specs.declared.entry.Entry.{Entry}
-use Rattle.mirror.specs.declared.mirror.Taken.{Taken}
-use Rattle.mirror.specs.declared.mirror.Taken.TheVariants.{Grew, Known, Gap, Differs}
+use Rattle.mirror.specs.declared.mirror.MirrorGrowth.{MirrorGrowth}
+use Rattle.mirror.specs.declared.mirror.MirrorGrowth.TheVariants.{Grew, Known, Gap, Differs}
 
--- at each position below this one that is held and was told, it is the same entry
+-- at each position below this one that is held and was reported, it is the same entry
 abbrev pub AreHeldBelow : ℕ → List Entry → ℕ → List Entry → Type 0
 AreHeldBelow end held position told =
     (place : ℕ) (mine its : Entry) → position + place < end
     → slice_get held (position + place) ≡ Some mine → slice_get told place ≡ Some its
     → mine ≡ its
 
--- another entry is held at this position than was told for it, and at none before it
+-- another entry is held at this position than was reported for it, and at none before it
 pub record DiffersFirst (held : List Entry) (position : ℕ) (told : List Entry) (at : ℕ)
     : Type 0 where
   pub place : ℕ
@@ -25,17 +25,17 @@ pub record DiffersFirst (held : List Entry) (position : ℕ) (told : List Entry)
   pub other : mine ≢ its
   pub before : AreHeldBelow at held position told
 
--- there is no gap, and no other entry is held than was told
+-- there is no gap, and no other entry is held than was reported
 abbrev pub Fits : List Entry → ℕ → List Entry → Type 0
 Fits held position told =
     (position ≤ length held) × AreHeldBelow (length held) held position told
 
--- those that were told for positions from the end of the held ones on
+-- those that were reported for positions from the end of the held ones on
 abbrev pub beyond : List Entry → ℕ → List Entry → List Entry
 beyond held position told = drop (length held - position) told
 
 -- what is held after it, where memory was not refused
-abbrev pub Takes : List Entry → ℕ → List Entry → Taken → List Entry → Type 0
+abbrev pub Takes : List Entry → ℕ → List Entry → MirrorGrowth → List Entry → Type 0
 Takes held position told Gap after = (length held < position) × (after ≡ held)
 Takes held position told (Differs at) after =
     (position ≤ length held) × DiffersFirst held position told at × (after ≡ held)

@@ -1,10 +1,11 @@
-//! What mirrors come to that are given logs of which one begins the other.
+//! What mirrors hold that are given logs of which one begins the other.
 
 ghost use Rattle.mirror.specs.Fronts.{MirrorsHoldFronts, FrontsPrintAlike};
 
-/// A mirror that began with no entry holds the beginning of a log, if all that it took is of logs
-/// of which one begins the other: whichever of them each time, from whichever position, in any
-/// order, and where memory was refused too. None of what it took was reported as Differs.
+/// A mirror that began with no entry, and was given entries only of logs of which one begins the
+/// other, holds the beginning of one of them, and never reported Differs. Each time the entries may
+/// be of any of these logs and from any position; they come in any order; and memory may have been
+/// refused.
 ///
 /// The sheets of two lists of which one begins the other are the same, byte for byte, at each
 /// position that both have.

@@ -5,4 +5,4 @@ mod laws;
 mod mirror;
 
 pub use laws::mirrors_hold_fronts;
-pub use mirror::{Mirror, Taken};
+pub use mirror::{Mirror, MirrorGrowth};

@@ -5,7 +5,7 @@ ghost use Rattle.commands.specs.History.{StandsFor, answer_to};
 
 use acceptor::NoMemory;
 use acceptor::entry::Entry;
-use answers::SheetFault;
+use answers::LogSheetFault;
 use answers::answers::{sheet_in, sheet_of};
 use commands::Meet;
 use formats::Event;
@@ -19,8 +19,8 @@ use wire::Entries;
 
 /// What came of entries that a mirror was given.
 #[derive(Clone, Copy, PartialEq, Eq, Debug)]
-pub enum Taken {
-    /// The entries are where the mirror ends, or overlap with what it holds and go on beyond its
+pub enum MirrorGrowth {
+    /// The entries are where the mirror ends, or overlap with what it holds and continue beyond its
     /// end. It has grown by those beyond its end.
     Grew,
     /// The mirror holds all of them already, at their positions. It is as it was.
@@ -158,24 +158,24 @@ impl Mirror {
     ///
     /// Where memory is refused, all that overlaps is as it is held, some are new, and of these the
     /// first ones were taken, or none, and not all. The same call then takes the others.
-    pub fn take(&mut self, position: u32, entries: Entries) -> Result<Taken, NoMemory>
+    pub fn take(&mut self, position: u32, entries: Entries) -> Result<MirrorGrowth, NoMemory>
         requires { position + length entries ≤ 65536 }
         ensures ok { IfOk result (λ taken. Takes self.old position entries taken self.new) }
         ensures err { OnErr result (TakesPart self.old position entries self.new) }
     {
         let held = self.log.len();
         if position > held {
-            return Ok(Taken::Gap);
+            return Ok(MirrorGrowth::Gap);
         }
         if let Some(at) = self.first_other(position, entries.as_slice()) {
-            return Ok(Taken::Differs { position: at });
+            return Ok(MirrorGrowth::Differs { position: at });
         }
         let known = held - position;
         if entries.as_slice().len() <= known as usize {
-            return Ok(Taken::Known);
+            return Ok(MirrorGrowth::Known);
         }
         self.put_all(after_first(entries.into_vec(), known))?;
-        Ok(Taken::Grew)
+        Ok(MirrorGrowth::Grew)
     }
 
     /// The first position at which another entry is given than the one that is held.
@@ -239,7 +239,7 @@ impl Mirror {
         event: Event,
         round: u8,
         style: Style,
-    ) -> Result<Vec<u8>, SheetFault>
+    ) -> Result<Vec<u8>, LogSheetFault>
         ensures there { OnOk result (position ≤ length self.now) }
         ensures sheet { IfOk result
             (λ text. sheet_at style self.now position event round ≡ Some text.items) }

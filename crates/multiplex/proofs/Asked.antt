@@ -10,20 +10,20 @@ use Rattle.std.specs.Prelude.{not, ◌&&◌, is_some}
 use Rattle.answers.specs.Seen.{Seen}
 use Rattle.store.specs.declared.home.Home.{Home}
 use Rattle.polled.specs.Telling.{Tells}
-use Rattle.guarded.specs.Guarding.{Guarding, WantsRead, begun}
+use Rattle.guarded.specs.LockedConnections.{LockedConnectionOf, WantsRead, begun}
 use Rattle.multiplex.specs.Musts.{Accepts, Admits, Attends, IsMove, IsWatched, IsWoken, MakesPlace}
 use Rattle.multiplex.specs.Musts.{WaitsToRead}
 use Rattle.multiplex.specs.Noting.{awakes}
 use Rattle.multiplex.specs.Musts.{AsksUntil, Ends, Follows, GoesOn, Musts, NoneIsSilent, Stand}
 use Rattle.multiplex.specs.Musts.{AreEndsOf, IsEndOf, OffersLast, joined, left_at, wait_by}
 use Rattle.multiplex.specs.Requests.{Asks, Request, Accepting, Closing, Waited, Watching}
-use Rattle.multiplex.specs.declared.clients.Accepted.TheVariants as accepted_is
+use Rattle.multiplex.specs.declared.clients.AcceptedClient.TheVariants as accepted_is
 use Rattle.polled.specs.declared.answers.Ready.{Ready}
-use Rattle.multiplex.specs.declared.ends.Over.{Over}
-use Rattle.multiplex.specs.declared.ends.Why.{Why}
+use Rattle.multiplex.specs.declared.ends.ServingEnd.{ServingEnd}
+use Rattle.multiplex.specs.declared.ends.EndReason.{EndReason}
 use Rattle.multiplex.specs.declared.table.Guest.{Guest}
-use Rattle.multiplex.specs.declared.table.Table.{Table}
-use Rattle.multiplex.specs.declared.table.Terms.{Terms}
+use Rattle.multiplex.specs.declared.table.ClientTable.{ClientTable}
+use Rattle.multiplex.specs.declared.table.ServingOptions.{ServingOptions}
 use Rattle.multiplex.specs.model.Asking.{AsksHosted, AsksMove, AsksSome, BeginsWithMove, ClosesAt}
 use Rattle.multiplex.specs.model.Asking.{IsWatchedIf, KeepsWoken, MayClose, WakesAll}
 use Rattle.multiplex.specs.Silence.{waited_for}
@@ -75,7 +75,7 @@ not_true b h is at = let n : false ≡ true = sym is ∙ h.1 at in absurd cc
 
 -- it waits for its turn, with all sent
 pub moves_none : {C : Type 0} (requests : C → Option (List Request)) (c : C) (k : ℕ)
-    (talk : Guarding) (writes reads : Bool)
+    (talk : LockedConnectionOf) (writes reads : Bool)
     → (IsTrue writes ↔ (talk.output ≢ [])) → writes ≡ false
     → (IsTrue reads ↔ WantsRead talk) → reads ≡ false
     → Asks requests c c (AsksMove k talk)
@@ -87,12 +87,12 @@ moves_none requests c k talk writes reads sends none hears deaf =
       refl,
     )))
 
-pub begins_more : (k : ℕ) (c : Guarding) (xs ys : List Request)
+pub begins_more : (k : ℕ) (c : LockedConnectionOf) (xs ys : List Request)
     → AsksMove k c xs → AsksSome ys → BeginsWithMove k c (xs ++ ys)
 begins_more k c xs ys h some = (xs, h, (ys, refl))
 
 pub begins_then : {C : Type 0} (requests : C → Option (List Request)) (c between later : C)
-    (k : ℕ) (talk : Guarding)
+    (k : ℕ) (talk : LockedConnectionOf)
     → Asks requests c between (AsksMove k talk) → Asks requests between later AsksSome
     → Asks requests c later (BeginsWithMove k talk)
 begins_then requests c between later k talk h j =
@@ -100,14 +100,14 @@ begins_then requests c between later k talk h j =
     (begins_more k talk) h j
 
 pub begins_alone : {C : Type 0} (requests : C → Option (List Request)) (c later : C)
-    (k : ℕ) (talk : Guarding)
+    (k : ℕ) (talk : LockedConnectionOf)
     → Asks requests c later (AsksMove k talk) → Asks requests c later (BeginsWithMove k talk)
 begins_alone requests c later k talk h =
     asks_as requests c later (AsksMove k talk) (BeginsWithMove k talk)
     (λ xs at. (xs, at, ([], sym (append-nil xs)))) h
 
 -- nobody can be watched any more
-pub hosted_unwatched : (k : ℕ) (old new : Guest) (w : Why) (xs ys : List Request)
+pub hosted_unwatched : (k : ℕ) (old new : Guest) (w : EndReason) (xs ys : List Request)
     → BeginsWithMove k old.talk xs → AsksHosted k old new (Some w) (xs ++ ys)
 hosted_unwatched k old new w xs ys h = record {
   first = h.0;
@@ -133,7 +133,7 @@ hosted_watched k old new xs ys h is = record {
 
 -- its connection is to be ended, before it is watched
 pub hosts_ended : {C : Type 0} (requests : C → Option (List Request)) (c later : C)
-    (k : ℕ) (old new : Guest) (w : Why)
+    (k : ℕ) (old new : Guest) (w : EndReason)
     → Asks requests c later (BeginsWithMove k old.talk)
     → Asks requests c later (AsksHosted k old new (Some w))
 hosts_ended requests c later k old new w h =
@@ -148,7 +148,7 @@ hosts_ended requests c later k old new w h =
     }) h
 
 pub hosts_unwatched : {C : Type 0} (requests : C → Option (List Request)) (c between later : C)
-    (k : ℕ) (old new : Guest) (w : Why) (more : List Request)
+    (k : ℕ) (old new : Guest) (w : EndReason) (more : List Request)
     → Asks requests c between (BeginsWithMove k old.talk)
     → Tells (requests between) (requests later) more
     → Asks requests c later (AsksHosted k old new (Some w))
@@ -237,11 +237,11 @@ attends_nobody k guests none =
       refl,
     )
 
-moves_as : (j k : ℕ) (c : Guarding) (asked : List Request) → j ≡ k → IsMove j c asked
+moves_as : (j k : ℕ) (c : LockedConnectionOf) (asked : List Request) → j ≡ k → IsMove j c asked
     → IsMove k c asked
 moves_as j k c asked is h = subst (λ n. IsMove n c asked) is h
 
-pub attends_stay : (k place : ℕ) (table : Table) (new : List Guest) (old later : Guest)
+pub attends_stay : (k place : ℕ) (table : ClientTable) (new : List Guest) (old later : Guest)
     (before after : List Guest) (asked : List Request)
     → About table place old later before after → old.number ≡ k
     → new ≡ set table.guests.items place later
@@ -269,7 +269,7 @@ attends_stay k place table new old later before after asked split number is h =
       all = h.all;
     })
 
-pub attends_leave : (k place : ℕ) (w : Why) (table mid : Table) (new : List Guest)
+pub attends_leave : (k place : ℕ) (w : EndReason) (table mid : ClientTable) (new : List Guest)
     (old later : Guest) (before after : List Guest) (xs ys : List Request)
     → About table place old later before after → old.number ≡ k → later.number ≡ old.number
     → mid.guests.items ≡ set table.guests.items place later
@@ -321,7 +321,8 @@ closes_one : (count : ℕ) (asked : List Request) → 512 ≤ count
 closes_one count asked full (inl h) = absurd (omega (arith, full, h.0))
 closes_one count asked full (inr h) = h
 
-pub admits_crowded : (t : Terms) (over : Option Over) (old mid : Table) (xs ys : List Request)
+pub admits_crowded : (t : ServingOptions) (over : Option ServingEnd) (old mid : ClientTable)
+    (xs ys : List Request)
     → 512 ≤ length old.guests.items
     → mid.next ≡ old.next
     → length mid.guests.items ≡ length old.guests.items - 1
@@ -345,7 +346,7 @@ admits_crowded t over old mid xs ys full next fewer h k =
 
 -- ---- a round is over
 
-pub none_silent : (patience : ℕ) (table : Table)
+pub none_silent : (patience : ℕ) (table : ClientTable)
     → position (is_silent patience table.time) table.guests.items ≡ None
     → NoneIsSilent patience table
 none_silent patience table none =
@@ -482,7 +483,8 @@ ends_all requests c later first old none h = (
 
 -- what is offered, and then ended
 pub offers_none : {C : Type 0} (requests : C → Option (List Request)) (c : C) (k : ℕ)
-    (talk : Guarding) (writes : Bool) → (IsTrue writes ↔ (talk.output ≢ [])) → writes ≡ false
+    (talk : LockedConnectionOf) (writes : Bool) → (IsTrue writes ↔ (talk.output ≢ []))
+    → writes ≡ false
     → Asks requests c c (OffersLast k talk.output)
 offers_none requests c k talk writes sends none =
     asks_none requests c (OffersLast k talk.output)
@@ -507,8 +509,10 @@ none_left (one ∷ guests) none = let some : false ≡ true = none (omega arith)
 
 -- it was waited as long as may be, and then more was asked
 pub musts_ask : {C L : Type 0} (requests : C → Option (List Request))
-    (due : L → ℕ → Option ℕ → Type 0) (kept : L → Option (List ℕ)) (t : Terms) (home : Home)
-    (x : Seen) (over : Option Over) (old new : Table) (links after : L) (c between later : C)
+    (due : L → ℕ → Option ℕ → Type 0) (kept : L → Option (List ℕ)) (t : ServingOptions)
+    (home : Home)
+    (x : Seen) (over : Option ServingEnd) (old new : ClientTable) (links after : L)
+    (c between later : C)
     (wait : ℕ) (ready : Ready) (more : List Request)
     → ((left : Option ℕ) × due links old.time left
     × (wait ≡ wait_by left (left_at old.own.ticker old.time)))
@@ -534,7 +538,8 @@ musts_ask requests due kept t home x over old new links after c between later wa
 -- ---- serving goes on
 
 pub goes_more : {L : Type 0} (due : L → ℕ → Option ℕ → Type 0) (kept : L → Option (List ℕ))
-    (t : Terms) (home : Home) (a m b : Stand L) (steps : List (List Request)) (asked : List Request)
+    (t : ServingOptions) (home : Home) (a m b : Stand L) (steps : List (List Request))
+    (asked : List Request)
     → GoesOn due kept t home a steps m
     → Musts due kept t home b.seen None m.table b.table m.links b.links asked
     → GoesOn due kept t home a (steps ++ asked ∷ []) b
@@ -556,19 +561,22 @@ joined_more (one ∷ steps) asked =
 
 -- what was asked in this many steps
 abbrev pub AsksSteps : {C L : Type 0} → (C → Option (List Request))
-    → (L → ℕ → Option ℕ → Type 0) → (L → Option (List ℕ)) → Terms → Home → ℕ → Stand L → Stand L
+    → (L → ℕ → Option ℕ → Type 0) → (L → Option (List ℕ)) → ServingOptions → Home → ℕ → Stand L
+    → Stand L
     → C → C → Type 0
 AsksSteps requests due kept t home count a b c later =
     (steps : List (List Request)) × (length steps ≡ count) × GoesOn due kept t home a steps b
     × Tells (requests c) (requests later) (joined steps)
 
 pub steps_none : {C L : Type 0} (requests : C → Option (List Request))
-    (due : L → ℕ → Option ℕ → Type 0) (kept : L → Option (List ℕ)) (t : Terms) (home : Home)
+    (due : L → ℕ → Option ℕ → Type 0) (kept : L → Option (List ℕ)) (t : ServingOptions)
+    (home : Home)
     (a : Stand L) (c : C) → AsksSteps requests due kept t home 0 a a c c
 steps_none requests due kept t home a c = ([], refl, refl, Tells-nil (requests c))
 
 pub steps_more : {C L : Type 0} (requests : C → Option (List Request))
-    (due : L → ℕ → Option ℕ → Type 0) (kept : L → Option (List ℕ)) (t : Terms) (home : Home)
+    (due : L → ℕ → Option ℕ → Type 0) (kept : L → Option (List ℕ)) (t : ServingOptions)
+    (home : Home)
     (count : ℕ) (a m b : Stand L) (c between later : C)
     → AsksSteps requests due kept t home count a m c between
     → Asks requests between later
@@ -585,8 +593,9 @@ steps_more requests due kept t home count a m b c between later h k = (
 
 -- serving is over without a further step
 pub until_here : {C L : Type 0} (requests : C → Option (List Request))
-    (due : L → ℕ → Option ℕ → Type 0) (kept : L → Option (List ℕ)) (t : Terms) (home : Home)
-    (over : Over) (count : ℕ) (a m : Stand L) (c later : C)
+    (due : L → ℕ → Option ℕ → Type 0) (kept : L → Option (List ℕ)) (t : ServingOptions)
+    (home : Home)
+    (over : ServingEnd) (count : ℕ) (a m : Stand L) (c later : C)
     → AsksSteps requests due kept t home count a m c later
     → Ends due kept t home over count m m []
     → Asks requests c later (AsksUntil due kept t home over a m)
@@ -605,8 +614,9 @@ until_here requests due kept t home over count a m c later h ends = (
 
 -- or by one
 pub until_step : {C L : Type 0} (requests : C → Option (List Request))
-    (due : L → ℕ → Option ℕ → Type 0) (kept : L → Option (List ℕ)) (t : Terms) (home : Home)
-    (over : Over) (count : ℕ) (a m b : Stand L) (c between later : C)
+    (due : L → ℕ → Option ℕ → Type 0) (kept : L → Option (List ℕ)) (t : ServingOptions)
+    (home : Home)
+    (over : ServingEnd) (count : ℕ) (a m b : Stand L) (c between later : C)
     → AsksSteps requests due kept t home count a m c between
     → Asks requests between later
     (Musts due kept t home b.seen (Some over) m.table b.table m.links b.links)

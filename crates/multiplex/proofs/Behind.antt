@@ -4,10 +4,10 @@ use Rattle.std.proofs.Common.{append-nil, Option, None, Some, Bool, true, false,
 use Rattle.std.proofs.lemmas.Bool.{eqb-false, eqb-true}
 use Rattle.connections.specs.Connections.{Served, begun_of, served_of}
 use Rattle.connections.proofs.Interleaving.{HoldsSome, at_first, begun_both}
-use Rattle.guarded.specs.Guarding.{Guarding, fresh_guard}
+use Rattle.guarded.specs.LockedConnections.{LockedConnectionOf, fresh_locked_connection}
 use Rattle.guarded.proofs.Guarded.{stream_of}
 use Rattle.guarded.proofs.Keeping.{Keeps, keeps_as, keeps_first}
-use Rattle.sealed.specs.declared.callers.Doors.{Doors}
+use Rattle.sealed.specs.declared.callers.Access.{Access}
 use Rattle.serving.specs.Connection.{Begun}
 use Rattle.serving.specs.Turns.{Talk, new_talk}
 use Rattle.store.specs.declared.home.Home.{Home}
@@ -19,14 +19,15 @@ use Rattle.multiplex.proofs.Giving.{took-both}
 use Rattle.multiplex.proofs.Seating.{IsFresh, came_now, other_came, put}
 
 -- what the stream of a client keeps, where it came, and nothing where it did not
-abbrev pub KeptBy : Option (List ℕ) → Doors → Guarding → List ℕ → List ℕ → List ℕ → List ℕ
+abbrev pub KeptBy : Option (List ℕ) → Access → LockedConnectionOf → List ℕ → List ℕ → List ℕ
+    → List ℕ
     → List Begun → Type 0
 KeptBy None doors g came handed answers sent begun =
     (came ≡ []) × (handed ≡ []) × (answers ≡ []) × (sent ≡ []) × (begun ≡ [])
 KeptBy (Some server) doors g came handed answers sent begun =
     Keeps doors server g came handed answers sent begun
 
-pub kept_as : (doors : Doors) (g : Guarding) (o o1 : Option (List ℕ))
+pub kept_as : (doors : Access) (g : LockedConnectionOf) (o o1 : Option (List ℕ))
     (came came1 handed handed1 answers answers1 sent sent1 : List ℕ) (begun begun1 : List Begun)
     → o ≡ o1 → came ≡ came1 → handed ≡ handed1 → answers ≡ answers1 → sent ≡ sent1
     → begun ≡ begun1 → KeptBy o doors g came handed answers sent begun
@@ -41,20 +42,22 @@ kept_as doors g o o1 came came1 handed handed1 answers answers1 sent sent1 begun
     (subst (λ z. KeptBy o doors g came handed answers sent z) eb k)))))
 
 -- a client of which all this was told, and these frames were begun, of all clients
-pub record Behind (home : Home) (doors : Doors) (k : ℕ) (told : List Happened)
-    (frames : List Served) (g : Guarding) : Type 0 where
+pub record Behind (home : Home) (doors : Access) (k : ℕ) (told : List Happened)
+    (frames : List Served) (g : LockedConnectionOf) : Type 0 where
   pub handed : List ℕ
   pub answers : List ℕ
   pub holds : HoldsSome home handed answers (served_of k frames) g.talk
   pub kept : KeptBy (came_with k told) doors g (gave k told) handed answers (took k told)
       (begun_of (served_of k frames))
 
-abbrev pub EachBehind : Home → Doors → List Happened → List Served → (ℕ → Guarding) → Type 0
+abbrev pub EachBehind : Home → Access → List Happened → List Served → (ℕ → LockedConnectionOf)
+    → Type 0
 EachBehind home doors told frames guards = (k : ℕ) → Behind home doors k told frames (guards k)
 
 -- ---- before all
 
-pub nothing_behind : (home : Home) (wire : Version) (doors : Doors) (g : Guarding) (k : ℕ)
+pub nothing_behind : (home : Home) (wire : Version) (doors : Access) (g : LockedConnectionOf)
+    (k : ℕ)
     → g.talk ≡ new_talk home wire → Behind home doors k [] [] g
 nothing_behind home wire doors g k is = record {
   handed = [];
@@ -75,8 +78,8 @@ same_seed k told js none =
     came_with-both k told js ∙ there_none (came_with k told) (came_with k js) none
 
 -- of which these came, these were taken, and these frames were begun
-pub more_behind : (home : Home) (doors : Doors) (k : ℕ) (told js : List Happened)
-    (frames fs : List Served) (g new : Guarding) (came sent more out : List ℕ)
+pub more_behind : (home : Home) (doors : Access) (k : ℕ) (told js : List Happened)
+    (frames fs : List Served) (g new : LockedConnectionOf) (came sent more out : List ℕ)
     (begun : List Begun) (h : Behind home doors k told frames g)
     → Gives k js came sent → begun_of (served_of k fs) ≡ begun
     → HoldsSome home (h.handed ++ more) (h.answers ++ out) (served_of k frames ++ served_of k fs)
@@ -105,8 +108,8 @@ more_behind home doors k told js frames fs g new came sent more out begun h give
     }
 
 -- of which nothing is this client's
-pub still_behind : (home : Home) (doors : Doors) (k : ℕ) (told js : List Happened)
-    (frames fs : List Served) (g : Guarding) → Gives k js [] [] → served_of k fs ≡ []
+pub still_behind : (home : Home) (doors : Access) (k : ℕ) (told js : List Happened)
+    (frames fs : List Served) (g : LockedConnectionOf) → Gives k js [] [] → served_of k fs ≡ []
     → Behind home doors k told frames g → Behind home doors k (told ++ js) (frames ++ fs) g
 still_behind home doors k told js frames fs g gives none h =
     more_behind home doors k told js frames fs g g [] [] [] [] [] h gives (ap begun_of none)
@@ -126,24 +129,26 @@ still_behind home doors k told js frames fs g gives none h =
 -- ---- a client came
 
 -- nothing came of one that did not come
-kept_first : (home : Home) (wire : Version) (doors : Doors) (random : List ℕ)
-    (o : Option (List ℕ)) (g : Guarding) (came handed answers sent : List ℕ) (begun : List Begun)
+kept_first : (home : Home) (wire : Version) (doors : Access) (random : List ℕ)
+    (o : Option (List ℕ)) (g : LockedConnectionOf) (came handed answers sent : List ℕ)
+    (begun : List Begun)
     → o ≡ None → KeptBy o doors g came handed answers sent begun
-    → Keeps doors random (fresh_guard doors random home wire) came handed answers sent begun
+    → Keeps doors random (fresh_locked_connection doors random home wire) came handed answers sent
+    begun
 kept_first home wire doors random o g came handed answers sent begun none kept =
     let k = subst (λ z. KeptBy z doors g came handed answers sent begun) none kept in
-    let new = fresh_guard doors random home wire in
+    let new = fresh_locked_connection doors random home wire in
     keeps_as doors random new [] [] [] [] came handed answers sent [] begun (sym k.0) (sym k.1)
     (sym k.2) (sym k.3) (sym k.4) (keeps_first home wire doors random new refl)
 
-first_behind : (home : Home) (wire : Version) (doors : Doors) (random : List ℕ) (k : ℕ)
-    (told js : List Happened) (frames : List Served) (guards : ℕ → Guarding)
+first_behind : (home : Home) (wire : Version) (doors : Access) (random : List ℕ) (k : ℕ)
+    (told js : List Happened) (frames : List Served) (guards : ℕ → LockedConnectionOf)
     → IsFresh home wire told guards k → Gives k js [] []
     → Behind home doors k told frames (guards k)
     → Behind home doors k (told ++ Came k random ∷ js) (frames ++ [])
-    (fresh_guard doors random home wire)
+    (fresh_locked_connection doors random home wire)
 first_behind home wire doors random k told js frames guards fresh gives h =
-    let new = fresh_guard doors random home wire in
+    let new = fresh_locked_connection doors random home wire in
     let now = told ++ Came k random ∷ js in
     let same : served_of k frames ≡ served_of k (frames ++ []) =
     ap (λ z. served_of k z) (sym (append-nil frames)) in
@@ -169,22 +174,22 @@ first_behind home wire doors random k told js frames guards fresh gives h =
           h.answers (took k told) (begun_of (served_of k frames)) fresh.absent h.kept);
     }
 
-pub came_behind : (home : Home) (wire : Version) (doors : Doors) (random : List ℕ) (next : ℕ)
-    (told js : List Happened) (frames : List Served) (guards : ℕ → Guarding)
+pub came_behind : (home : Home) (wire : Version) (doors : Access) (random : List ℕ) (next : ℕ)
+    (told js : List Happened) (frames : List Served) (guards : ℕ → LockedConnectionOf)
     → IsFresh home wire told guards next → ((k : ℕ) → Gives k js [] [])
     → EachBehind home doors told frames guards
     → EachBehind home doors (told ++ Came next random ∷ js) (frames ++ [])
-    (put next (fresh_guard doors random home wire) guards)
+    (put next (fresh_locked_connection doors random home wire) guards)
 came_behind home wire doors random next told js frames guards fresh gives each k =
     pick (eqb next k) refl
   where
     pick : (own : Bool) → eqb next k ≡ own
         → Behind home doors k (told ++ Came next random ∷ js) (frames ++ [])
-        (cond own (fresh_guard doors random home wire) (guards k))
+        (cond own (fresh_locked_connection doors random home wire) (guards k))
     pick true is =
         let same = eqb-true next k is in
         subst (λ n. Behind home doors n (told ++ Came next random ∷ js) (frames ++ [])
-        (fresh_guard doors random home wire)) same
+        (fresh_locked_connection doors random home wire)) same
         (first_behind home wire doors random next told js frames guards fresh (gives next)
         (each next))
     pick false is =
@@ -201,7 +206,7 @@ no_begun : (all : List Served) → begun_of all ≡ [] → all ≡ []
 no_begun [] none = refl
 no_begun (f ∷ fs) none = absurd cc
 
-pub client_of : (home : Home) (doors : Doors) (o : Option (List ℕ)) (g : Guarding)
+pub client_of : (home : Home) (doors : Access) (o : Option (List ℕ)) (g : LockedConnectionOf)
     (came handed answers sent : List ℕ) (all : List Served)
     → HoldsSome home handed answers all g.talk
     → KeptBy o doors g came handed answers sent (begun_of all)

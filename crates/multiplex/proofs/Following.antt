@@ -10,12 +10,12 @@ use Rattle.connections.specs.Connections.{AreServedInTurn, Connections, FollowEa
 use Rattle.connections.specs.Connections.{Point, Served, TurnOf, begun_of, place_of, served_of}
 use Rattle.connections.specs.Connections.{turns_of}
 use Rattle.connections.proofs.Interleaving.{HoldsSome, goes_on, makes_all}
-use Rattle.guarded.specs.Guarding.{Guarding, fresh_guard}
-use Rattle.guarded.specs.GuardTurns.{within}
-use Rattle.guarded.specs.GuardTurns as GuardTurns
+use Rattle.guarded.specs.LockedConnections.{LockedConnectionOf, fresh_locked_connection}
+use Rattle.guarded.specs.LockedTurns.{within}
+use Rattle.guarded.specs.LockedTurns as GuardTurns
 use Rattle.guarded.proofs.Holding.{GoesAll, turns_go}
 use Rattle.guarded.proofs.Keeping.{Keeps}
-use Rattle.sealed.specs.declared.callers.Doors.{Doors}
+use Rattle.sealed.specs.declared.callers.Access.{Access}
 use Rattle.serving.specs.Connection.{Begun, serve_frame}
 use Rattle.serving.specs.Making.{Outside, Way}
 use Rattle.serving.specs.OwnTicks.{tick_begun}
@@ -25,20 +25,22 @@ use Rattle.serving.specs.TurnLaw.{Took as TookOf}
 use Rattle.serving.proofs.Makings.{Makes-nil, Makes-trans}
 use Rattle.store.specs.declared.home.Home.{Home}
 use Rattle.multiplex.specs.EachClient.{AreDoneInTurn, Deed, EachClientIsServed, Frame, OwnTick}
+use Rattle.multiplex.specs.EachClient.{MakesBetween, Settling}
 use Rattle.multiplex.specs.EachClient.{came_with, frames_in, gave, own_ticks, point_in, sides_at}
 use Rattle.multiplex.specs.EachClient.{ticks_of, took}
 use Rattle.multiplex.specs.Happenings.{Closed, Happened, Round, Took}
 use Rattle.multiplex.specs.Noting.{fresh_notes}
 use Rattle.multiplex.specs.Passing.{Change, Changed, Changes, Clock, Comes, Lobby, NoSocket, Pass}
 use Rattle.multiplex.specs.Passing.{Room, Shut, Step, Stops, Stray, Takes, TakesLast, Ticked}
+use Rattle.multiplex.specs.Passing.{Settles}
 use Rattle.multiplex.specs.Passing.{TicksBy, TurnedAway, Unwatched, Visit, Visits, guest, lobby}
 use Rattle.multiplex.specs.Passing.{staying}
 use Rattle.multiplex.specs.Passing.{told, told_all, told_change, told_end, told_why, with_node}
-use Rattle.multiplex.specs.declared.ends.Over.{Over}
-use Rattle.multiplex.specs.declared.ends.Over.TheVariants as over
-use Rattle.multiplex.specs.declared.ends.Why.{Why}
+use Rattle.multiplex.specs.declared.ends.ServingEnd.{ServingEnd}
+use Rattle.multiplex.specs.declared.ends.ServingEnd.TheVariants as over
+use Rattle.multiplex.specs.declared.ends.EndReason.{EndReason}
 use Rattle.multiplex.specs.declared.table.Guest.{Guest}
-use Rattle.multiplex.specs.declared.table.Terms.{Terms}
+use Rattle.multiplex.specs.declared.table.ServingOptions.{ServingOptions}
 use Rattle.multiplex.proofs.Behind.{Behind, EachBehind, KeptBy, came_behind, client_of, kept_as}
 use Rattle.multiplex.proofs.Behind.{more_behind, nothing_behind, still_behind}
 use Rattle.multiplex.proofs.Giving.{Gives, end_gives, frames-both, turns_give}
@@ -114,18 +116,18 @@ went {V} {way} k talks p q (t ∷ ts) at h =
 -- ---- what a step leads to
 
 -- What is told of it grows by these. These deeds were done, and so it is with each client.
-record Led {V : Type 0} {way : Way V} (home : Home) (t : Terms) (before : List Happened)
+record Led {V : Type 0} {way : Way V} (home : Home) (t : ServingOptions) (before : List Happened)
     (frames : List Served) (a b : Room way) (js : List Happened) (ticks : List Bool)
-    (deeds : List Deed) (new : ℕ → Guarding) : Type 0 where
+    (deeds : List Deed) (new : ℕ → LockedConnectionOf) : Type 0 where
   done : AreDoneInTurn home (point_in a) deeds (point_in b)
   own : own_ticks deeds ≡ ticks
   stands : StandsIn home t.wire (before ++ js) new b.lobby
   each : EachBehind home t.doors (before ++ js) (frames ++ frames_in deeds) new
 
-abbrev LedSome : {V : Type 0} → {way : Way V} → Home → Terms → List Happened → List Served
+abbrev LedSome : {V : Type 0} → {way : Way V} → Home → ServingOptions → List Happened → List Served
     → Room way → Room way → List Happened → List Bool → Type 0
 LedSome home t before frames a b js ticks =
-    (deeds : List Deed) × (new : ℕ → Guarding)
+    (deeds : List Deed) × (new : ℕ → LockedConnectionOf)
     × Led home t before frames a b js ticks deeds new
 
 point_same : {V : Type 0} {way : Way V} (a b : Room way) → b.seen ≡ a.seen
@@ -133,8 +135,8 @@ point_same : {V : Type 0} {way : Way V} (a b : Room way) → b.seen ≡ a.seen
 point_same a b seen outside = cc
 
 -- nothing came of any client
-stays_so : {V : Type 0} {way : Way V} (home : Home) (t : Terms) (before : List Happened)
-    (frames : List Served) (guards : ℕ → Guarding) (a b : Room way) (js : List Happened)
+stays_so : {V : Type 0} {way : Way V} (home : Home) (t : ServingOptions) (before : List Happened)
+    (frames : List Served) (guards : ℕ → LockedConnectionOf) (a b : Room way) (js : List Happened)
     → b.seen ≡ a.seen → b.outside ≡ a.outside → ((k : ℕ) → Gives k js [] [])
     → StandsIn home t.wire before guards b.lobby → EachBehind home t.doors before frames guards
     → LedSome home t before frames a b js []
@@ -161,8 +163,8 @@ some_is None there = absurd cc
 some_is (Some x) there = (x, refl)
 
 -- its own stream goes on with its turns
-kept_own : {V : Type 0} {way : Way V} (doors : Doors) (server : List ℕ) (o : Option (List ℕ))
-    (g : Guarding) (turns inner : List Turn) (p q : GuardTurns.Place way)
+kept_own : {V : Type 0} {way : Way V} (doors : Access) (server : List ℕ) (o : Option (List ℕ))
+    (g : LockedConnectionOf) (turns inner : List Turn) (p q : GuardTurns.Place way)
     (came handed answers sent : List ℕ) (begun : List Begun) → o ≡ Some server → g ≡ p.guard
     → GoesAll doors server turns p q inner → KeptBy o doors g came handed answers sent begun
     → KeptBy o doors q.guard (came ++ received turns) (handed ++ received inner)
@@ -176,7 +178,7 @@ kept_own doors server o g turns inner p q came handed answers sent begun is at g
     (subst (λ z. Keeps doors server z came handed answers sent begun) at was))
 
 -- each other one's is as it was
-kept_other : (doors : Doors) (o : Option (List ℕ)) (g : Guarding)
+kept_other : (doors : Access) (o : Option (List ℕ)) (g : LockedConnectionOf)
     (came handed answers sent : List ℕ) (begun : List Begun)
     → KeptBy o doors g came handed answers sent begun
     → KeptBy o doors g (came ++ []) (handed ++ []) (answers ++ []) (sent ++ []) (begun ++ [])
@@ -186,8 +188,8 @@ kept_other doors o g came handed answers sent begun kept =
     (sym (append-nil answers)) (sym (append-nil sent)) (sym (append-nil begun)) kept
 
 -- so it is with each client
-visited : {V : Type 0} {way : Way V} (home : Home) (doors : Doors) (server : List ℕ)
-    (before js : List Happened) (frames fs : List Served) (guards : ℕ → Guarding) (k : ℕ)
+visited : {V : Type 0} {way : Way V} (home : Home) (doors : Access) (server : List ℕ)
+    (before js : List Happened) (frames fs : List Served) (guards : ℕ → LockedConnectionOf) (k : ℕ)
     (turns inner : List Turn) (p q : GuardTurns.Place way) (new : ℕ → Talk)
     (each : EachBehind home doors before frames guards)
     → came_with k before ≡ Some server → guards k ≡ p.guard → new k ≡ q.guard.talk
@@ -251,8 +253,9 @@ done_frames home a b (f ∷ fs) h =
     (h.0, (h.0, h.1, refl), done_frames home h.0 b fs h.2)
 
 -- One client had these turns, of which this is told. It stays, or leaves.
-after_turns : {V : Type 0} {way : Way V} (home : Home) (t : Terms) (before : List Happened)
-    (frames : List Served) (guards : ℕ → Guarding) (k : ℕ) (turns : List Turn) (js : List Happened)
+after_turns : {V : Type 0} {way : Way V} (home : Home) (t : ServingOptions) (before : List Happened)
+    (frames : List Served) (guards : ℕ → LockedConnectionOf) (k : ℕ) (turns : List Turn)
+    (js : List Happened)
     (a b : Room way) (front behind : List Guest) (old new : Guest)
     → StandsIn home t.wire before guards a.lobby → EachBehind home t.doors before frames guards
     → a.lobby.guests ≡ front ++ old ∷ behind → old.number ≡ k → new.number ≡ k
@@ -275,7 +278,8 @@ after_turns home t before frames guards k turns js a b front behind old new s ea
     let go = turns_go t.doors seed.0 turns p q follow in
     let talks = λ (j : ℕ). (guards j).talk in
     let moved =
-    went k talks (within p) (within q) go.0 (ap (λ (g : Guarding). g.talk) at) go.1.follow in
+    went k talks (within p) (within q) go.0 (ap (λ (g : LockedConnectionOf). g.talk) at) go.1.follow
+    in
     let after =
     goes_on home (λ (j : ℕ). (each j).handed) (λ (j : ℕ). (each j).answers)
     (λ (j : ℕ). served_of j frames) (numbered k go.0) (conns talks a.seen a.outside)
@@ -307,7 +311,7 @@ nothing_gives k = record { gave = refl; took = refl; earlier = refl }
 closed_gives : (j k : ℕ) → Gives k (Closed j ∷ []) [] []
 closed_gives j k = record { gave = refl; took = refl; earlier = refl }
 
-stop_gives : (e : Over) (k : ℕ) → Gives k (told_change (Stops e)) [] []
+stop_gives : (e : ServingEnd) (k : ℕ) → Gives k (told_change (Stops e)) [] []
 stop_gives over.All k = record { gave = refl; took = refl; earlier = refl }
 stop_gives over.Stopped k = record { gave = refl; took = refl; earlier = refl }
 stop_gives over.Down k = record { gave = refl; took = refl; earlier = refl }
@@ -316,13 +320,13 @@ stop_gives over.Tired k = record { gave = refl; took = refl; earlier = refl }
 stop_gives over.NoMemory k = record { gave = refl; took = refl; earlier = refl }
 
 -- a client came
-record Arrived (home : Home) (t : Terms) (before : List Happened) (frames : List Served)
-    (b : Lobby) (js : List Happened) (new : ℕ → Guarding) : Type 0 where
+record Arrived (home : Home) (t : ServingOptions) (before : List Happened) (frames : List Served)
+    (b : Lobby) (js : List Happened) (new : ℕ → LockedConnectionOf) : Type 0 where
   stands : StandsIn home t.wire (before ++ js) new b
   each : EachBehind home t.doors (before ++ js) (frames ++ []) new
 
-arrived : {V : Type 0} {way : Way V} (home : Home) (t : Terms) (before : List Happened)
-    (frames : List Served) (a b : Room way) (js : List Happened) (new : ℕ → Guarding)
+arrived : {V : Type 0} {way : Way V} (home : Home) (t : ServingOptions) (before : List Happened)
+    (frames : List Served) (a b : Room way) (js : List Happened) (new : ℕ → LockedConnectionOf)
     → b.seen ≡ a.seen → b.outside ≡ a.outside → Arrived home t before frames b.lobby js new
     → LedSome home t before frames a b js []
 arrived home t before frames a b js new seen outside h = (
@@ -336,14 +340,15 @@ arrived home t before frames a b js new seen outside h = (
   },
 )
 
-after_change : {V : Type 0} {way : Way V} (home : Home) (t : Terms) (before : List Happened)
-    (frames : List Served) (guards : ℕ → Guarding) (c : Change) (a b : Room way)
+after_change : {V : Type 0} {way : Way V} (home : Home) (t : ServingOptions)
+    (before : List Happened)
+    (frames : List Served) (guards : ℕ → LockedConnectionOf) (c : Change) (a b : Room way)
     → b.seen ≡ a.seen → b.outside ≡ a.outside → Changes home t c a.lobby b.lobby
     → StandsIn home t.wire before guards a.lobby → EachBehind home t.doors before frames guards
     → LedSome home t before frames a b (told_change c) []
 after_change home t before frames guards (Comes k random) a b seen outside h s each =
     let l = a.lobby in
-    let new = fresh_guard t.doors random home t.wire in
+    let new = fresh_locked_connection t.doors random home t.wire in
     let notes = fresh_notes h.0 in
     let left : b.lobby
     ≡ lobby (l.guests ++ guest l.next new notes l.time ∷ []) (l.next + 1) l.time l.own l.spent
@@ -370,7 +375,7 @@ after_change home t before frames guards (Comes k random) a b seen outside h s e
     }))
 after_change home t before frames guards (TurnedAway k random) a b seen outside h s each =
     let l = a.lobby in
-    let new = fresh_guard t.doors random home t.wire in
+    let new = fresh_locked_connection t.doors random home t.wire in
     arrived home t before frames a b (told_change (TurnedAway k random)) (put k new guards) seen
     outside
     (subst
@@ -434,15 +439,17 @@ after_change home t before frames guards (Stops e) a b seen outside h s each =
 
 -- ---- a client that is ready
 
-visit_gives : (k : ℕ) (turns : List Turn) (fate : Option Why) (j : ℕ) (own : Bool) → eqb k j ≡ own
+visit_gives : (k : ℕ) (turns : List Turn) (fate : Option EndReason) (j : ℕ) (own : Bool)
+    → eqb k j ≡ own
     → Gives j (told (Visit k turns fate)) (cond own (received turns) [])
     (cond own (handed_out turns) [])
 visit_gives k turns fate j own is =
     let h = turns_give j k own is turns (told_why k fate ++ told_end k fate) (end_gives j k fate) in
     record { gave = h.gave; took = h.took; earlier = h.earlier }
 
-after_visit : {V : Type 0} {way : Way V} (home : Home) (t : Terms) (before : List Happened)
-    (frames : List Served) (guards : ℕ → Guarding) (k : ℕ) (turns : List Turn) (fate : Option Why)
+after_visit : {V : Type 0} {way : Way V} (home : Home) (t : ServingOptions) (before : List Happened)
+    (frames : List Served) (guards : ℕ → LockedConnectionOf) (k : ℕ) (turns : List Turn)
+    (fate : Option EndReason)
     (a b : Room way) (front behind : List Guest) (old new : Guest)
     → StandsIn home t.wire before guards a.lobby → EachBehind home t.doors before frames guards
     → Visits k turns fate a b front behind old new
@@ -455,7 +462,7 @@ after_visit home t before frames guards k turns fate a b front behind old new s 
     (λ (l : Lobby). StandsIn home t.wire (before ++ told (Visit k turns fate))
     (put k new.talk guards) l) (sym h.left) (left fate kept))
   where
-    left : (f : Option Why)
+    left : (f : Option EndReason)
         → Stands home t.wire (before ++ told (Visit k turns fate)) (put k new.talk guards)
         (front ++ new ∷ behind) a.lobby.next
         → Stands home t.wire (before ++ told (Visit k turns fate)) (put k new.talk guards)
@@ -467,8 +474,8 @@ after_visit home t before frames guards k turns fate a b front behind old new s 
 
 -- ---- step by step
 
-after_step : {V : Type 0} {way : Way V} (home : Home) (t : Terms) (before : List Happened)
-    (frames : List Served) (guards : ℕ → Guarding) (s : Step) (a b : Room way)
+after_step : {V : Type 0} {way : Way V} (home : Home) (t : ServingOptions) (before : List Happened)
+    (frames : List Served) (guards : ℕ → LockedConnectionOf) (s : Step) (a b : Room way)
     → StandsIn home t.wire before guards a.lobby → EachBehind home t.doors before frames guards
     → Takes home t s a b → LedSome home t before frames a b (told s) (ticks_of (s ∷ []))
 after_step home t before frames guards (Changed c) a b stands each h =
@@ -493,6 +500,19 @@ after_step home t before frames guards (Ticked now starved) a b stands each h = 
 )
 after_step home t before frames guards (Visit k turns fate) a b stands each h =
     after_visit home t before frames guards k turns fate a b h.0 h.1 h.2 h.3 stands each h.4
+after_step home t before frames guards (Settles ok) a b stands each h = (
+  Settling ok ∷ [],
+  guards,
+  record {
+    done = (point_in b, (h.seen, h.node, h.handed), refl);
+    own = refl;
+    stands =
+        subst (λ (l : Lobby). StandsIn home t.wire (before ++ []) guards l) (sym h.left)
+        (stands_told home t.wire before [] guards a.lobby.guests a.lobby.next (λ k. refl) stands);
+    each = λ k.
+        still_behind home t.doors k before [] frames [] (guards k) (nothing_gives k) refl (each k);
+  },
+)
 
 -- ---- all steps
 
@@ -500,12 +520,14 @@ own_both : (ds es : List Deed) → own_ticks (ds ++ es) ≡ own_ticks ds ++ own_
 own_both [] es = refl
 own_both (Frame f ∷ ds) es = own_both ds es
 own_both (OwnTick starved ∷ ds) es = ap (λ z. starved ∷ z) (own_both ds es)
+own_both (Settling ok ∷ ds) es = own_both ds es
 
 ticks_first : (s : Step) (ss : List Step) → ticks_of (s ∷ []) ++ ticks_of ss ≡ ticks_of (s ∷ ss)
 ticks_first (Changed c) ss = refl
 ticks_first (Clock now) ss = refl
 ticks_first (Ticked now starved) ss = refl
 ticks_first (Visit k turns fate) ss = refl
+ticks_first (Settles ok) ss = refl
 
 done_both : {V : Type 0} {way : Way V} (home : Home) (a m b : Point way) (ds es : List Deed)
     → AreDoneInTurn home a ds m → AreDoneInTurn home m es b → AreDoneInTurn home a (ds ++ es) b
@@ -513,9 +535,10 @@ done_both home a m b [] es h k = subst (λ z. AreDoneInTurn home z es b) (sym h)
 done_both home a m b (Frame f ∷ ds) es h k = (h.0, h.1, done_both home h.0 m b ds es h.2 k)
 done_both home a m b (OwnTick starved ∷ ds) es h k =
     (h.0, h.1, done_both home h.0 m b ds es h.2 k)
+done_both home a m b (Settling ok ∷ ds) es h k = (h.0, h.1, done_both home h.0 m b ds es h.2 k)
 
-after_steps : {V : Type 0} {way : Way V} (home : Home) (t : Terms) (before : List Happened)
-    (frames : List Served) (guards : ℕ → Guarding) (ss : List Step) (a b : Room way)
+after_steps : {V : Type 0} {way : Way V} (home : Home) (t : ServingOptions) (before : List Happened)
+    (frames : List Served) (guards : ℕ → LockedConnectionOf) (ss : List Step) (a b : Room way)
     → StandsIn home t.wire before guards a.lobby → EachBehind home t.doors before frames guards
     → Pass home t a ss b → LedSome home t before frames a b (told_all ss) (ticks_of ss)
 after_steps {V} {way} home t before frames guards [] a b s each h =
@@ -565,22 +588,35 @@ makes_both hall a m b h k = (
   Makes-trans hall a.outside m.outside b.outside h.0 k.0 h.1 k.1,
 )
 
+between_more : {V : Type 0} {way : Way V} (hall : ℕ) (a m b : Point way) (settlings : List Bool)
+    → MakesSome hall a m → MakesBetween hall m settlings b → MakesBetween hall a settlings b
+between_more hall a m b [] h k = makes_both hall a m b h k
+between_more hall a m b (ok ∷ more) h k = (k.0, k.1, makes_both hall a m k.0 h k.2, k.3, k.4)
+
 makes_deeds : {V : Type 0} {way : Way V} (home : Home) (a b : Point way) (ds : List Deed)
-    → AreDoneInTurn home a ds b → MakesSome home.hall a b
+    → AreDoneInTurn home a ds b
+    → (settlings : List Bool) × MakesBetween home.hall a settlings b
 makes_deeds {V} {way} home a b [] is =
-    subst (λ (z : Point way). MakesSome home.hall a z) is ([], Makes-nil home.hall a.outside)
+    ([], subst (λ (z : Point way). MakesSome home.hall a z) is ([], Makes-nil home.hall a.outside))
 makes_deeds home a b (Frame f ∷ ds) h =
-    makes_both home.hall a h.0 b (makes_all home a h.0 (f ∷ []) h.1)
-    (makes_deeds home h.0 b ds h.2)
+    let later = makes_deeds home h.0 b ds h.2 in (
+      later.0,
+      between_more home.hall a h.0 b later.0 (makes_all home a h.0 (f ∷ []) h.1) later.1,
+    )
 makes_deeds home a b (OwnTick starved ∷ ds) h =
-    makes_both home.hall a h.0 b (makes_tick home starved a h.0 h.1)
-    (makes_deeds home h.0 b ds h.2)
+    let later = makes_deeds home h.0 b ds h.2 in (
+      later.0,
+      between_more home.hall a h.0 b later.0 (makes_tick home starved a h.0 h.1) later.1,
+    )
+makes_deeds home a b (Settling ok ∷ ds) h =
+    let later = makes_deeds home h.0 b ds h.2 in
+    (ok ∷ later.0, (a, h.0, ([], Makes-nil home.hall a.outside), h.1, later.1))
 
 -- ---- the law
 
 pub each_client : {V : Type 0} (d : DeskOf V) → EachClientIsServed d
 each_client d result home t period a b before after steps h =
-    let none = λ (k : ℕ). fresh_guard t.doors [] home t.wire in
+    let none = λ (k : ℕ). fresh_locked_connection t.doors [] home t.wire in
     let at_start : StandsIn home t.wire [] none a.lobby =
     subst (λ (l : Lobby). StandsIn home t.wire [] none l) (sym h.first)
     (record {

@@ -4,12 +4,13 @@ use Rattle.std.proofs.Common.{Option, None, Some, Bool, true, false, cond, eqb}
 use Rattle.serving.specs.TurnLaw.{Came as CameIn, Began, Rested, Took as TookOf, Turn}
 use Rattle.serving.specs.TurnLaw.{handed_out, received}
 use Rattle.connections.specs.Connections.{Served, served_of}
-use Rattle.multiplex.specs.EachClient.{Deed, Frame, OwnTick, came_with, frames_in, gave, took}
+use Rattle.multiplex.specs.EachClient.{Deed, Frame, OwnTick, Settling, came_with, frames_in, gave}
+use Rattle.multiplex.specs.EachClient.{took}
 use Rattle.multiplex.specs.Happenings.{Happened, Round, Came, Full, Named, Gave, Took, Ended, Broke}
 use Rattle.multiplex.specs.Happenings.{Closed, Failed}
 use Rattle.multiplex.specs.Passing.{told_end, told_turns, told_why}
-use Rattle.multiplex.specs.declared.ends.Why.{Why}
-use Rattle.multiplex.specs.declared.ends.Why.TheVariants as why
+use Rattle.multiplex.specs.declared.ends.EndReason.{EndReason}
+use Rattle.multiplex.specs.declared.ends.EndReason.TheVariants as why
 
 -- ---- two lists, one after the other
 
@@ -78,6 +79,7 @@ pub frames-both : (ds es : List Deed) → frames_in (ds ++ es) ≡ frames_in ds 
 frames-both [] es = refl
 frames-both (Frame f ∷ ds) es = ap (λ z. f ∷ z) (frames-both ds es)
 frames-both (OwnTick starved ∷ ds) es = frames-both ds es
+frames-both (Settling ok ∷ ds) es = frames-both ds es
 
 more_served : (own : Bool) (f : Served) (both first second : List Served)
     → both ≡ first ++ second → cond own (f ∷ both) both ≡ cond own (f ∷ first) first ++ second
@@ -141,7 +143,8 @@ turns_give k j own is (Began one ∷ ts) hs none = turns_give k j own is ts hs n
 turns_give k j own is (Rested ∷ ts) hs none = turns_give k j own is ts hs none
 
 -- how a visit ends brings no bytes
-pub end_gives : (k j : ℕ) (fate : Option Why) → Gives k (told_why j fate ++ told_end j fate) [] []
+pub end_gives : (k j : ℕ) (fate : Option EndReason)
+    → Gives k (told_why j fate ++ told_end j fate) [] []
 end_gives k j None = record { gave = refl; took = refl; earlier = refl }
 end_gives k j (Some why.Done) = record { gave = refl; took = refl; earlier = refl }
 end_gives k j (Some why.Ended) = record { gave = refl; took = refl; earlier = refl }

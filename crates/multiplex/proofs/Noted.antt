@@ -3,10 +3,10 @@ use Rattle.std.proofs.Common.{◌≡◌, refl, sym, ap, subst, ◌∙◌, ℕ, �
 use Rattle.std.proofs.Common.{◌∷◌, Option, None, Some}
 use Rattle.std.specs.Prelude.{not}
 use Rattle.answers.specs.Seen.{Seen}
-use Rattle.guarded.specs.Guarding.{Guarding, IsFree}
+use Rattle.guarded.specs.LockedConnections.{LockedConnectionOf, IsFree}
 use Rattle.serving.specs.Differing.{first_difference, first_frame}
-use Rattle.serving.specs.declared.differing.Awaited.{Awaited}
-use Rattle.serving.specs.declared.ends.End.{End}
+use Rattle.serving.specs.declared.differing.AwaitRequest.{AwaitRequest}
+use Rattle.serving.specs.declared.ends.ConnectionEnd.{ConnectionEnd}
 use Rattle.store.specs.declared.home.Home.{Home}
 use Rattle.wire.specs.Ranges.{IsDifference}
 use Rattle.wire.specs.declared.frame.Frame.{Frame}
@@ -16,21 +16,21 @@ use Rattle.multiplex.specs.Noting.{until_of}
 use Rattle.multiplex.specs.declared.notes.Notes.{Notes}
 
 -- the frame that is begun next is the first one that waits, where one may be begun
-pub next_free : (c : Guarding) → IsFree c → next_of c ≡ first_frame c.talk.waiting
+pub next_free : (c : LockedConnectionOf) → IsFree c → next_of c ≡ first_frame c.talk.waiting
 next_free c free =
     ap (λ z. next_if z c.talk.end c.output c.talk.waiting) free.fed
     ∙ ap (λ z. next_if false z c.output c.talk.waiting) free.unended
     ∙ ap (λ z. next_if false None z c.talk.waiting) free.taken
 
-pub next_some : (c : Guarding) (f : Frame)
+pub next_some : (c : LockedConnectionOf) (f : Frame)
     → IsFree c × (first_frame c.talk.waiting ≡ Some f) → next_of c ≡ Some f
 next_some c f h = next_free c h.0 ∙ h.1
 
-pub next_none : (c : Guarding) → (IsFree c → first_frame c.talk.waiting ≡ None)
+pub next_none : (c : LockedConnectionOf) → (IsFree c → first_frame c.talk.waiting ≡ None)
     → next_of c ≡ None
 next_none c none = pick c.starved c.talk.end c.output refl refl refl
   where
-    pick : (s : Bool) (e : Option End) (o : List ℕ) → c.starved ≡ s → c.talk.end ≡ e
+    pick : (s : Bool) (e : Option ConnectionEnd) (o : List ℕ) → c.starved ≡ s → c.talk.end ≡ e
         → c.output ≡ o → next_if s e o c.talk.waiting ≡ None
     pick true e o fed unended taken = refl
     pick false (Some e) o fed unended taken = refl
@@ -40,13 +40,14 @@ next_none c none = pick c.starved c.talk.end c.output refl refl refl
 
 -- ---- whether it is put off
 
-pub off_none : (home : Home) (x : Seen) (time : ℕ) (c : Guarding) (old new : Notes)
+pub off_none : (home : Home) (x : Seen) (time : ℕ) (c : LockedConnectionOf) (old new : Notes)
     → awaited_next home c ≡ None → new.until ≡ None → new.known ≡ old.known
     → PutsOff false home x time c old new
 off_none home x time c old new next until known =
     (ap (λ z. off_by x z time old.until) next, until, known)
 
-pub off_due : (home : Home) (x : Seen) (time : ℕ) (c : Guarding) (old new : Notes) (a : Awaited)
+pub off_due : (home : Home) (x : Seen) (time : ℕ) (c : LockedConnectionOf) (old new : Notes)
+    (a : AwaitRequest)
     (until : ℕ) → awaited_next home c ≡ Some a → until ≡ until_of a time old.until
     → true ≡ is_due x a until time → new.until ≡ None → new.known ≡ old.known
     → PutsOff false home x time c old new
@@ -57,7 +58,8 @@ off_due home x time c old new a until next at due none known = (
   known,
 )
 
-pub off_waits : (home : Home) (x : Seen) (time : ℕ) (c : Guarding) (old new : Notes) (a : Awaited)
+pub off_waits : (home : Home) (x : Seen) (time : ℕ) (c : LockedConnectionOf) (old new : Notes)
+    (a : AwaitRequest)
     (until : ℕ) → home ≡ c.talk.home → awaited_next home c ≡ Some a
     → until ≡ until_of a time old.until → false ≡ is_due x a until time
     → new.until ≡ Some until → new.known ≡ old.known → PutsOff true home x time c old new

@@ -9,14 +9,15 @@ use Rattle.ticking.specs.Ticking.{Look, Ticking}
 use Rattle.multiplex.specs.EachClient.{TicksNeedAPeriod, ticks_of}
 use Rattle.multiplex.specs.Passing.{Change, Changed, Changes, Clock, Comes, Lobby, NoSocket, Pass}
 use Rattle.multiplex.specs.Passing.{Room, Shut, Step, Stops, Stray, TakesLast, Ticked, TurnedAway}
+use Rattle.multiplex.specs.Passing.{Settles}
 use Rattle.multiplex.specs.Passing.{Unwatched, Visit, look_in, looked, ticks_after, ticks_at}
 use Rattle.multiplex.specs.declared.own_ticks.OwnTicks.{OwnTicks}
-use Rattle.multiplex.specs.declared.table.Terms.{Terms}
+use Rattle.multiplex.specs.declared.table.ServingOptions.{ServingOptions}
 
 abbrev HasNone : Lobby → Type 0
 HasNone l = l.own.ticker ≡ None
 
-after_change : (home : Home) (t : Terms) (c : Change) (a b : Lobby) → Changes home t c a b
+after_change : (home : Home) (t : ServingOptions) (c : Change) (a b : Lobby) → Changes home t c a b
     → b.own ≡ a.own
 after_change home t (Comes k random) a b h = ap (λ (l : Lobby). l.own) h.1.enters
 after_change home t (TurnedAway k random) a b h = ap (λ (l : Lobby). l.own) h.enters
@@ -36,7 +37,7 @@ still_none : (own : OwnTicks) (l : Look) (starved : Bool) → own.ticker ≡ Non
     → (ticks_after own l starved).ticker ≡ None
 still_none own l starved none = ap (λ z. looked z l) none
 
-pub no_ticks : {V : Type 0} {way : Way V} (home : Home) (t : Terms) (ss : List Step)
+pub no_ticks : {V : Type 0} {way : Way V} (home : Home) (t : ServingOptions) (ss : List Step)
     (a b : Room way) → HasNone a.lobby → Pass home t a ss b → ticks_of ss ≡ []
 no_ticks home t [] a b none h = refl
 no_ticks home t (Changed c ∷ ss) a b none h =
@@ -50,6 +51,8 @@ no_ticks home t (Ticked now starved ∷ ss) a b none h =
     absurd (not_due a.lobby.own.ticker (look_in a now) none h.1.due)
 no_ticks home t (Visit k turns fate ∷ ss) a b none h =
     no_ticks home t ss h.0 b (ap (λ (l : Lobby). l.own.ticker) h.1.4.left ∙ none) h.2
+no_ticks home t (Settles ok ∷ ss) a b none h =
+    no_ticks home t ss h.0 b (ap (λ (l : Lobby). l.own.ticker) h.1.left ∙ none) h.2
 
 pub ticks_need_a_period : {V : Type 0} (d : DeskOf V) → TicksNeedAPeriod d
 ticks_need_a_period d result home t a b before after steps h =

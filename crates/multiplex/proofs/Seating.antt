@@ -4,8 +4,8 @@ use Rattle.std.proofs.Common.{List, [], ◌∷◌, ◌++◌, Option, None, Some,
 use Rattle.std.proofs.lemmas.Bool.{eq-eqb, ne_eqb}
 use Rattle.std.specs.List.{AllByRecursion}
 use Rattle.std.specs.Prelude.{IsSome}
-use Rattle.guarded.specs.Guarding.{Guarding, fresh_guard}
-use Rattle.sealed.specs.declared.callers.Doors.{Doors}
+use Rattle.guarded.specs.LockedConnections.{LockedConnectionOf, fresh_locked_connection}
+use Rattle.sealed.specs.declared.callers.Access.{Access}
 use Rattle.serving.specs.Turns.{new_talk}
 use Rattle.store.specs.declared.home.Home.{Home}
 use Rattle.wire.specs.declared.values.Version.{Version}
@@ -33,24 +33,27 @@ put_other k x f j apart = ap (λ z. cond z x (f j)) (ne_eqb k j (λ e. apart (sy
 -- ---- the clients of a lobby
 
 -- a client that is there came
-pub record Hosted (told : List Happened) (guards : ℕ → Guarding) (g : Guest) : Type 0 where
+pub record Hosted (told : List Happened) (guards : ℕ → LockedConnectionOf)
+    (g : Guest) : Type 0 where
   pub at : guards g.number ≡ g.talk
   pub came : IsSome (came_with g.number told)
 
 -- one that did not come
-pub record IsFresh (home : Home) (wire : Version) (told : List Happened) (guards : ℕ → Guarding)
+pub record IsFresh (home : Home) (wire : Version) (told : List Happened)
+    (guards : ℕ → LockedConnectionOf)
     (k : ℕ) : Type 0 where
   pub talk : (guards k).talk ≡ new_talk home wire
   pub absent : came_with k told ≡ None
 
-pub record Stands (home : Home) (wire : Version) (told : List Happened) (guards : ℕ → Guarding)
+pub record Stands (home : Home) (wire : Version) (told : List Happened)
+    (guards : ℕ → LockedConnectionOf)
     (guests : List Guest) (next : ℕ) : Type 0 where
   pub hosted : AllByRecursion (Hosted told guards) guests
   pub fresh : (k : ℕ) → next ≤ k → IsFresh home wire told guards k
   pub low : AllByRecursion (Below next) guests
   pub apart : Apart guests
 
-abbrev pub StandsIn : Home → Version → List Happened → (ℕ → Guarding) → Lobby → Type 0
+abbrev pub StandsIn : Home → Version → List Happened → (ℕ → LockedConnectionOf) → Lobby → Type 0
 StandsIn home wire told guards l = Stands home wire told guards l.guests l.next
 
 -- ---- more is told, of which none came
@@ -70,7 +73,8 @@ still_absent : (k : ℕ) (told js : List Happened) → came_with k told ≡ None
 still_absent k told js before more =
     came_with-both k told js ∙ ap (λ o. first_there o (came_with k js)) before ∙ more
 
-pub stands_told : (home : Home) (wire : Version) (told js : List Happened) (guards : ℕ → Guarding)
+pub stands_told : (home : Home) (wire : Version) (told js : List Happened)
+    (guards : ℕ → LockedConnectionOf)
     (guests : List Guest) (next : ℕ) → ((k : ℕ) → came_with k js ≡ None)
     → Stands home wire told guards guests next → Stands home wire (told ++ js) guards guests next
 stands_told home wire told js guards guests next none h = record {
@@ -86,7 +90,7 @@ stands_told home wire told js guards guests next none h = record {
 
 -- ---- a client leaves, or had its turns
 
-pub leaves : (home : Home) (wire : Version) (told : List Happened) (guards : ℕ → Guarding)
+pub leaves : (home : Home) (wire : Version) (told : List Happened) (guards : ℕ → LockedConnectionOf)
     (before : List Guest) (g : Guest) (after : List Guest) (next : ℕ)
     → Stands home wire told guards (before ++ g ∷ after) next
     → Stands home wire told guards (before ++ after) next
@@ -97,7 +101,8 @@ leaves home wire told guards before g after next h = record {
   apart = without before g after h.apart;
 }
 
-still_hosted : (told : List Happened) (guards : ℕ → Guarding) (k : ℕ) (g : Guarding)
+still_hosted : (told : List Happened) (guards : ℕ → LockedConnectionOf) (k : ℕ)
+    (g : LockedConnectionOf)
     (gs : List Guest) → AllByRecursion (Other k) gs → AllByRecursion (Hosted told guards) gs
     → AllByRecursion (Hosted told (put k g guards)) gs
 still_hosted told guards k g [] far h = tt
@@ -107,7 +112,8 @@ still_hosted told guards k g (x ∷ gs) far h = (
 )
 
 -- the client in the middle had its turns, and stays
-pub stays : (home : Home) (wire : Version) (told : List Happened) (guards : ℕ → Guarding) (k : ℕ)
+pub stays : (home : Home) (wire : Version) (told : List Happened) (guards : ℕ → LockedConnectionOf)
+    (k : ℕ)
     (before : List Guest) (old new : Guest) (after : List Guest) (next : ℕ)
     → old.number ≡ k → new.number ≡ k → Stands home wire told guards (before ++ old ∷ after) next
     → Stands home wire told (put k new.talk guards) (before ++ new ∷ after) next
@@ -136,7 +142,7 @@ stays home wire told guards k before old new after next was is h =
           let same = put_other k new.talk guards j apart in
           let fresh = h.fresh j above in
           record {
-            talk = ap (λ (g : Guarding). g.talk) same ∙ fresh.talk;
+            talk = ap (λ (g : LockedConnectionOf). g.talk) same ∙ fresh.talk;
             absent = fresh.absent;
           };
       low =
@@ -161,13 +167,13 @@ other_came k j random js apart none =
     ap (λ b. cond b (Some random) (came_with k js)) (ne_eqb j k apart) ∙ none
 
 -- it has a connection now, or was turned away
-pub arrives : (home : Home) (wire : Version) (doors : Doors) (random : List ℕ)
-    (told js : List Happened) (guards : ℕ → Guarding) (guests : List Guest) (next : ℕ)
+pub arrives : (home : Home) (wire : Version) (doors : Access) (random : List ℕ)
+    (told js : List Happened) (guards : ℕ → LockedConnectionOf) (guests : List Guest) (next : ℕ)
     → ((k : ℕ) → came_with k js ≡ None) → Stands home wire told guards guests next
     → Stands home wire (told ++ Came next random ∷ js)
-    (put next (fresh_guard doors random home wire) guards) guests (next + 1)
+    (put next (fresh_locked_connection doors random home wire) guards) guests (next + 1)
 arrives home wire doors random told js guards guests next none h =
-    let new = fresh_guard doors random home wire in
+    let new = fresh_locked_connection doors random home wire in
     let now = told ++ Came next random ∷ js in
     record {
       hosted =
@@ -184,7 +190,7 @@ arrives home wire doors random told js guards guests next none h =
           let was = h.fresh k (omega (arith, above)) in
           let same = put_other next new guards k apart in
           record {
-            talk = ap (λ (g : Guarding). g.talk) same ∙ was.talk;
+            talk = ap (λ (g : LockedConnectionOf). g.talk) same ∙ was.talk;
             absent =
                 still_absent k told (Came next random ∷ js) was.absent
                 (other_came k next random js (λ e. apart (sym e)) (none k));
@@ -193,14 +199,16 @@ arrives home wire doors random told js guards guests next none h =
       apart = h.apart;
     }
 
-pub one_more : (home : Home) (wire : Version) (doors : Doors) (random : List ℕ)
-    (told : List Happened) (guards : ℕ → Guarding) (guests : List Guest) (next : ℕ) (notes : Notes)
+pub one_more : (home : Home) (wire : Version) (doors : Access) (random : List ℕ)
+    (told : List Happened) (guards : ℕ → LockedConnectionOf) (guests : List Guest) (next : ℕ)
+    (notes : Notes)
     (time : ℕ) → Stands home wire told guards guests next
     → Stands home wire (told ++ Came next random ∷ [])
-    (put next (fresh_guard doors random home wire) guards)
-    (guests ++ guest next (fresh_guard doors random home wire) notes time ∷ []) (next + 1)
+    (put next (fresh_locked_connection doors random home wire) guards)
+    (guests ++ guest next (fresh_locked_connection doors random home wire) notes time ∷ [])
+    (next + 1)
 one_more home wire doors random told guards guests next notes time h =
-    let g = fresh_guard doors random home wire in
+    let g = fresh_locked_connection doors random home wire in
     let all = arrives home wire doors random told [] guards guests next (λ k. refl) h in
     let here :
     Hosted (told ++ Came next random ∷ []) (put next g guards) (guest next g notes time) =

@@ -9,22 +9,23 @@ use Rattle.serving.specs.Kinds.{is_dear, is_message}
 use Rattle.serving.specs.Making.{Way}
 use Rattle.serving.specs.TurnLaw.{begun_in}
 use Rattle.store.specs.declared.home.Home.{Home}
-use Rattle.wire.specs.declared.frame.What.{What}
-use Rattle.wire.specs.declared.frame.What.TheVariants as what
+use Rattle.wire.specs.declared.frame.FrameBody.{FrameBody}
+use Rattle.wire.specs.declared.frame.FrameBody.TheVariants as what
 use Rattle.multiplex.specs.Passing.{AreMessages, Change, Changed, Changes, Clock, Comes, Lobby}
 use Rattle.multiplex.specs.Passing.{NoSocket, Pass, Room, Shares, SharesLast, SharesOne, Shut}
 use Rattle.multiplex.specs.Passing.{Step, Stops, Stray, TakesLast, Ticked, TurnedAway, Unwatched}
+use Rattle.multiplex.specs.Passing.{Settles}
 use Rattle.multiplex.specs.Passing.{Visit}
 use Rattle.multiplex.specs.SharedTurns.{AreShared, TurnsAreShared, begun_by, count_dear}
 use Rattle.multiplex.specs.SharedTurns.{count_others, rounds, visits}
-use Rattle.multiplex.specs.declared.table.Terms.{Terms}
+use Rattle.multiplex.specs.declared.table.ServingOptions.{ServingOptions}
 
 -- 1 where one was answered in this round
 abbrev one_if : Bool → ℕ
 one_if true = 1
 one_if false = 0
 
-same_spent : (home : Home) (t : Terms) (c : Change) (a b : Lobby) → Changes home t c a b
+same_spent : (home : Home) (t : ServingOptions) (c : Change) (a b : Lobby) → Changes home t c a b
     → b.spent ≡ a.spent
 same_spent home t (Comes k random) a b h = ap (λ (l : Lobby). l.spent) h.1.enters
 same_spent home t (TurnedAway k random) a b h = ap (λ (l : Lobby). l.spent) h.enters
@@ -76,7 +77,7 @@ adds_last (one ∷ []) more spent later h = record {
 adds_last (one ∷ (other ∷ xs)) more spent later h = absurd h
 
 -- a message of a desk asks for nothing dear
-small : (w : What) → is_message w ≡ true → is_dear w ≡ false
+small : (w : FrameBody) → is_message w ≡ true → is_dear w ≡ false
 small (what.Sheet event round position style) h = absurd cc
 small (what.Log position) h = absurd cc
 small (what.Prepare b pos) h = refl
@@ -140,7 +141,8 @@ at_most_one : (spent : Bool) → one_if spent ≤ 1
 at_most_one true = omega arith
 at_most_one false = omega arith
 
-grown : {V : Type 0} {way : Way V} (home : Home) (t : Terms) (steps : List Step) (a b : Room way)
+grown : {V : Type 0} {way : Way V} (home : Home) (t : ServingOptions) (steps : List Step)
+    (a b : Room way)
     → Pass home t a steps b → Grown steps a.lobby.spent b.lobby.spent
 grown {V} {way} home t [] a b h = record {
   frames = omega arith;
@@ -172,6 +174,10 @@ grown home t (Visit k turns fate ∷ ss) a b h =
       frames = omega (arith, one.frames, later.frames);
       dear = omega (arith, one.dear, later.dear);
     }
+grown home t (Settles ok ∷ ss) a b h =
+    let later = grown home t ss h.0 b h.2 in
+    let same = ap (λ (l : Lobby). one_if l.spent) h.1.left in
+    record { frames = later.frames; dear = omega (arith, later.dear, same) }
 
 pub turns_are_shared : {V : Type 0} (d : DeskOf V) → TurnsAreShared d
 turns_are_shared d home t a b steps h =

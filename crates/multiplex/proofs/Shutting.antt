@@ -5,8 +5,7 @@ use Rattle.std.proofs.Common.{Some, arith, get_or, true, false, ◌-◌, positio
 use Rattle.std.proofs.lemmas.Bool.{ltb-true}
 use Rattle.std.proofs.lemmas.List.Quantifiers.{position-Some}
 use Rattle.store.specs.declared.home.Home.{Home}
-use Rattle.wire.specs.declared.values.Version.{Version}
-use Rattle.guarded.specs.Guarding.{Guarding, begun, fresh_guard}
+use Rattle.guarded.specs.LockedConnections.{LockedConnectionOf, begun, fresh_locked_connection}
 use Rattle.std.specs.List.{AllByRecursion}
 use Rattle.polled.specs.Telling.{Tells}
 use Rattle.multiplex.specs.Happenings.{Happened, Broke, Came, Closed, Full, watched}
@@ -14,13 +13,13 @@ use Rattle.multiplex.specs.Passing.{Change, Changes, Comes, Lobby, NoSocket, Shu
 use Rattle.multiplex.specs.Passing.{TakesLast, Unwatched}
 use Rattle.multiplex.specs.Passing.{Enters, IsCause, guest, lobby, told_change}
 use Rattle.multiplex.specs.declared.dear.DearTurns.{DearTurns}
-use Rattle.multiplex.specs.declared.ends.Over.{Over}
-use Rattle.multiplex.specs.declared.ends.Why.{Why}
-use Rattle.multiplex.specs.declared.ends.Why.TheVariants as why
+use Rattle.multiplex.specs.declared.ends.ServingEnd.{ServingEnd}
+use Rattle.multiplex.specs.declared.ends.EndReason.{EndReason}
+use Rattle.multiplex.specs.declared.ends.EndReason.TheVariants as why
 use Rattle.multiplex.specs.declared.own_ticks.OwnTicks.{OwnTicks}
 use Rattle.multiplex.specs.declared.table.Guest.{Guest}
-use Rattle.multiplex.specs.declared.table.Table.{Table}
-use Rattle.multiplex.specs.declared.table.Terms.{Terms}
+use Rattle.multiplex.specs.declared.table.ClientTable.{ClientTable}
+use Rattle.multiplex.specs.declared.table.ServingOptions.{ServingOptions}
 use Rattle.multiplex.specs.model.Scenes.{AltersSome, ChangeAll, Empties, EndsLast, IsShut, Loses}
 use Rattle.multiplex.specs.model.Scenes.{Welcomes, told_changes}
 use Rattle.multiplex.specs.model.Visiting.{Sends}
@@ -30,14 +29,14 @@ use Rattle.wire.specs.declared.standing.Difference.{Difference}
 use Rattle.multiplex.specs.Noting.{first_notes}
 use Rattle.multiplex.specs.model.Scenes.{lobby_of}
 use Rattle.multiplex.specs.Silence.{waited_for}
-use Rattle.multiplex.specs.model.Tables.{AreKept, IsKept, IsLongestAt, KeepsAll, KeepsKept}
+use Rattle.multiplex.specs.model.Tables.{IsKept, IsLongestAt, KeepsAll, KeepsKept}
 use Rattle.multiplex.specs.model.Tables.{MakesRoom, is_silent}
 use Rattle.multiplex.proofs.Placed.{all_back, all_both, all_front}
 use Rattle.polled.proofs.Telling.{Tells-as, Tells-trans}
 use Rattle.multiplex.proofs.Telling.{changes_told_both}
 
 pub lobby_same : {gs hs : List Guest} {n m s t : ℕ} {w v : OwnTicks} {x y : Bool}
-    {d e : Option Difference} {o p : Option Over}
+    {d e : Option Difference} {o p : Option ServingEnd}
     → gs ≡ hs → n ≡ m → s ≡ t → w ≡ v → x ≡ y → d ≡ e → o ≡ p
     → lobby gs n s w x d o ≡ lobby hs m t v y e p
 lobby_same g n s w x d o = cc
@@ -45,20 +44,22 @@ lobby_same g n s w x d o = cc
 pub spent_same : (a b : DearTurns) → a ≡ b → a.spent ≡ b.spent
 spent_same a b is = ap (λ (d : DearTurns). d.spent) is
 
-pub ChangeAll-trans : (home : Home) (t : Terms) (a m b : Lobby) (cs ds : List Change)
+pub ChangeAll-trans : (home : Home) (t : ServingOptions) (a m b : Lobby) (cs ds : List Change)
     → ChangeAll home t a cs m → ChangeAll home t m ds b → ChangeAll home t a (cs ++ ds) b
 ChangeAll-trans home t a m b [] ds h k = subst (λ z. ChangeAll home t z ds b) (sym h) k
 ChangeAll-trans home t a m b (c ∷ cs) ds h k =
     (h.0, h.1, ChangeAll-trans home t h.0 m b cs ds h.2 k)
 
-pub alters_none : {C : Type 0} (happened : C → Option (List Happened)) (home : Home) (t : Terms)
-    (table : Table) (c later : C)
+pub alters_none : {C : Type 0} (happened : C → Option (List Happened)) (home : Home)
+    (t : ServingOptions)
+    (table : ClientTable) (c later : C)
     → Tells (happened c) (happened later) []
     → AltersSome happened home t None table table c later
 alters_none happened home t table c later told = ([], record { changed = refl; told = told })
 
-pub alters_both : {C : Type 0} (happened : C → Option (List Happened)) (home : Home) (t : Terms)
-    (over : Option Over) (old mid new : Table) (c between later : C)
+pub alters_both : {C : Type 0} (happened : C → Option (List Happened)) (home : Home)
+    (t : ServingOptions)
+    (over : Option ServingEnd) (old mid new : ClientTable) (c between later : C)
     → AltersSome happened home t None old mid c between
     → AltersSome happened home t over mid new between later
     → AltersSome happened home t over old new c later
@@ -75,8 +76,9 @@ alters_both happened home t over old mid new c between later h k = (
 )
 
 -- a change, before those that follow
-pub alters_after : {C : Type 0} (happened : C → Option (List Happened)) (home : Home) (t : Terms)
-    (over : Option Over) (one : Change) (old mid new : Table) (c between later : C)
+pub alters_after : {C : Type 0} (happened : C → Option (List Happened)) (home : Home)
+    (t : ServingOptions)
+    (over : Option ServingEnd) (one : Change) (old mid new : ClientTable) (c between later : C)
     → Changes home t one (lobby_of old None) (lobby_of mid None)
     → Tells (happened c) (happened between) (told_change one)
     → AltersSome happened home t over mid new between later
@@ -91,8 +93,9 @@ alters_after happened home t over one old mid new c between later is told k = (
 
 -- ---- a connection is ended
 
-shuts_one : {C : Type 0} (happened : C → Option (List Happened)) (home : Home) (t : Terms)
-    (w : Why) (over : Option Over) (old new : Table) (c later : C) (before after : List Guest)
+shuts_one : {C : Type 0} (happened : C → Option (List Happened)) (home : Home) (t : ServingOptions)
+    (w : EndReason) (over : Option ServingEnd) (old new : ClientTable) (c later : C)
+    (before after : List Guest)
     (gone : Guest)
     → IsCause t w (lobby_of old None) gone
     → Loses happened over old new c later before after gone
@@ -122,8 +125,8 @@ shuts_one happened home t w over old new c later before after gone cause h = (
 )
 
 -- that of the client at this place, for a cause that holds of whoever is there
-pub shuts : {C : Type 0} (happened : C → Option (List Happened)) (home : Home) (t : Terms)
-    (w : Why) (place : ℕ) (over : Option Over) (old new : Table) (c later : C)
+pub shuts : {C : Type 0} (happened : C → Option (List Happened)) (home : Home) (t : ServingOptions)
+    (w : EndReason) (place : ℕ) (over : Option ServingEnd) (old new : ClientTable) (c later : C)
     → ((before after : List Guest) (gone : Guest) → length before ≡ place
     → old.guests.items ≡ before ++ gone ∷ after → IsCause t w (lobby_of old None) gone)
     → IsShut happened place over old new c later
@@ -138,7 +141,7 @@ all_but P xs x ys h =
     all_both P xs ys (all_front P xs (x ∷ ys) h) (all_back P xs (x ∷ ys) h).1
 
 pub shut_keeps : {C : Type 0} (happened : C → Option (List Happened)) (place : ℕ)
-    (over : Option Over) (old new : Table) (c later : C)
+    (over : Option ServingEnd) (old new : ClientTable) (c later : C)
     → IsShut happened place over old new c later → KeepsAll old new
 shut_keeps happened place over old new c later h home wire kept = record {
   guests =
@@ -148,14 +151,10 @@ shut_keeps happened place over old new c later h home wire kept = record {
   differs = subst (λ z. IsDifference z) (sym h.4.differs) kept.differs;
 }
 
-pub keeps_both : (home : Home) (wire : Version) (old mid new : Table)
-    → KeepsKept home wire old mid → KeepsKept home wire mid new → KeepsKept home wire old new
-keeps_both home wire old mid new h k kept = k (h kept)
-
 -- ---- a client comes
 
 pub welcome_keeps : {C : Type 0} (happened : C → Option (List Happened)) (home : Home)
-    (t : Terms) (random : List ℕ) (x : Seen) (old new : Table) (c later : C)
+    (t : ServingOptions) (random : List ℕ) (x : Seen) (old new : ClientTable) (c later : C)
     → AllByRecursion (λ (len : ℕ). len ≤ 65536) x.told
     → Welcomes happened home t random x old new c later → KeepsKept home t.wire old new
 welcome_keeps happened home t random x old new c later most h kept = record {
@@ -166,7 +165,8 @@ welcome_keeps happened home t random x old new c later most h kept = record {
     either :
         ((new.guests.items
         ≡ old.guests.items
-        ++ guest old.next (fresh_guard t.doors random home t.wire) (first_notes x) old.time ∷ [])
+        ++ guest old.next (fresh_locked_connection t.doors random home t.wire)
+        (first_notes x) old.time ∷ [])
         × Tells (happened c) (happened later) [])
         ⊎ ((new.guests.items ≡ old.guests.items)
         × Tells (happened c) (happened later) (Closed old.next ∷ []))
@@ -180,8 +180,8 @@ welcome_keeps happened home t random x old new c later most h kept = record {
     either (inr k) =
         subst (λ z. AllByRecursion (IsKept home t.wire) z) (sym k.0) kept.guests
 
-pub enters : {C : Type 0} (happened : C → Option (List Happened)) (home : Home) (t : Terms)
-    (random : List ℕ) (x : Seen) (old new : Table) (c between later : C)
+pub enters : {C : Type 0} (happened : C → Option (List Happened)) (home : Home) (t : ServingOptions)
+    (random : List ℕ) (x : Seen) (old new : ClientTable) (c between later : C)
     → old.next < t.most → length old.guests.items < 512
     → Tells (happened c) (happened between) (Came old.next random ∷ [])
     → Welcomes happened home t random x old new between later
@@ -202,7 +202,8 @@ enters happened home t random x old new c between later wanted room told h = eit
     either :
         ((new.guests.items
         ≡ old.guests.items
-        ++ guest old.next (fresh_guard t.doors random home t.wire) (first_notes x) old.time ∷ [])
+        ++ guest old.next (fresh_locked_connection t.doors random home t.wire)
+        (first_notes x) old.time ∷ [])
         × Tells (happened between) (happened later) [])
         ⊎ ((new.guests.items ≡ old.guests.items)
         × Tells (happened between) (happened later) (Closed old.next ∷ []))
@@ -223,8 +224,9 @@ enters happened home t random x old new c between later wanted room told h = eit
       },
     )
 
-pub no_socket : {C : Type 0} (happened : C → Option (List Happened)) (home : Home) (t : Terms)
-    (over : Option Over) (old new : Table) (c between later : C)
+pub no_socket : {C : Type 0} (happened : C → Option (List Happened)) (home : Home)
+    (t : ServingOptions)
+    (over : Option ServingEnd) (old new : ClientTable) (c between later : C)
     → Tells (happened c) (happened between) (Full ∷ [])
     → AltersSome happened home t over old new between later
     → AltersSome happened home t over old new c later
@@ -232,29 +234,25 @@ no_socket happened home t over old new c between later told k =
     alters_after happened home t over NoSocket old old new c between later (refl, refl) told k
 
 -- the system refuses to name this one
-pub unwatched : {C : Type 0} (happened : C → Option (List Happened)) (home : Home) (t : Terms)
-    (k : ℕ) (table : Table) (c between : C) → Tells (happened c) (happened between) (Broke k ∷ [])
+pub unwatched : {C : Type 0} (happened : C → Option (List Happened)) (home : Home)
+    (t : ServingOptions)
+    (k : ℕ) (table : ClientTable) (c between : C)
+    → Tells (happened c) (happened between) (Broke k ∷ [])
     → AltersSome happened home t None table table c between
 unwatched happened home t k table c between told = (
   Unwatched k ∷ [],
   record { changed = (lobby_of table None, (refl, refl), refl); told = told },
 )
 
-pub may_watch : {C : Type 0} (happened : C → Option (List Happened)) (home : Home) (t : Terms)
-    (k : ℕ) (ok : Bool) (table : Table) (c between : C)
+pub may_watch : {C : Type 0} (happened : C → Option (List Happened)) (home : Home)
+    (t : ServingOptions)
+    (k : ℕ) (ok : Bool) (table : ClientTable) (c between : C)
     → Tells (happened c) (happened between) (watched k ok)
     → AltersSome happened home t None table table c between
 may_watch happened home t k true table c between told =
     alters_none happened home t table c between told
 may_watch happened home t k false table c between told =
     unwatched happened home t k table c between told
-
-pub no_guests : (home : Home) (wire : Version) (t : Table) → t.guests.items ≡ []
-    → t.differs ≡ None → AreKept home wire t
-no_guests home wire t none same = record {
-  guests = subst (λ z. AllByRecursion (IsKept home wire) z) (sym none) tt;
-  differs = subst (λ z. IsDifference z) (sym same) tt;
-}
 
 -- ---- why
 
@@ -276,7 +274,7 @@ longest_cause guests before gone after i len found h =
     subst (λ (z : Guest). AllByRecursion (λ (o : Guest). z.ready ≤ o.ready) guests)
     (at_place guests before gone after i gone len found) (h.first gone)
 
-pub room_cause : (t : Terms) (w : Why) (a : Lobby) (gone : Guest)
+pub room_cause : (t : ServingOptions) (w : EndReason) (a : Lobby) (gone : Guest)
     → a.over ≡ None → MakesRoom w a.guests
     → AllByRecursion (λ (o : Guest). gone.ready ≤ o.ready) a.guests → IsCause t w a gone
 room_cause t why.Crowded a gone going full longest = (going, full, longest)
@@ -299,7 +297,7 @@ silent_cause patience time guests before gone after i len found is =
     (at_place guests before gone after i gone len found) here)
 
 pub shut_fewer : {C : Type 0} (happened : C → Option (List Happened)) (place : ℕ)
-    (over : Option Over) (old new : Table) (c later : C)
+    (over : Option ServingEnd) (old new : ClientTable) (c later : C)
     → IsShut happened place over old new c later
     → length new.guests.items + 1 ≡ length old.guests.items
 shut_fewer happened place over old new c later h =
@@ -314,15 +312,17 @@ shut_fewer happened place over old new c later h =
 -- ---- all are ended
 
 -- these are in a lobby in place of those of a table, serving is over
-abbrev over_with : Table → Over → List Guest → Lobby
+abbrev over_with : ClientTable → ServingEnd → List Guest → Lobby
 over_with t over guests = lobby guests t.next t.time t.own t.dear.spent t.differs (Some over)
 
-some_none : (over : Over) → Some over ≡ None → ⊥
+some_none : (over : ServingEnd) → Some over ≡ None → ⊥
 some_none over e = absurd cc
 
 -- what is told once a client was offered what is to be sent to it, and which guest it is then
-record Offered {C : Type 0} (happened : C → Option (List Happened)) (home : Home) (t : Terms)
-    (over : Over) (mid : Table) (front : List Guest) (gone : Guest) (c later : C) : Type 0 where
+record Offered {C : Type 0} (happened : C → Option (List Happened)) (home : Home)
+    (t : ServingOptions)
+    (over : ServingEnd) (mid : ClientTable) (front : List Guest) (gone : Guest)
+    (c later : C) : Type 0 where
   guest : Guest
   number : guest.number ≡ gone.number
   changes : List Change
@@ -331,8 +331,9 @@ record Offered {C : Type 0} (happened : C → Option (List Happened)) (home : Ho
       (over_with mid over (front ++ guest ∷ []))
   told : Tells (happened c) (happened later) (told_changes changes)
 
-offered : {C : Type 0} (happened : C → Option (List Happened)) (home : Home) (t : Terms)
-    (over : Over) (mid : Table) (front : List Guest) (gone : Guest) (talk : Guarding) (ok : Bool)
+offered : {C : Type 0} (happened : C → Option (List Happened)) (home : Home) (t : ServingOptions)
+    (over : ServingEnd) (mid : ClientTable) (front : List Guest) (gone : Guest)
+    (talk : LockedConnectionOf) (ok : Bool)
     (c later : C) → Sends happened gone.number ok c later gone.talk talk
     → Offered happened home t over mid front gone c later
 offered happened home t over mid front gone talk true c later (inl k) =
@@ -353,7 +354,7 @@ offered happened home t over mid front gone talk true c later (inl k) =
             found = refl;
             number = refl;
             front = k.1;
-            same = ap (λ (z : Guarding). record gone { talk = z }) k.2;
+            same = ap (λ (z : LockedConnectionOf). record gone { talk = z }) k.2;
             left = refl;
           },
         ),
@@ -372,8 +373,10 @@ offered happened home t over mid front gone talk false c later k = record {
 }
 
 -- one more was ended, of those that are still there the last one
-pub empties_more : {C : Type 0} (happened : C → Option (List Happened)) (home : Home) (t : Terms)
-    (over : Over) (old mid new : Table) (gone : Guest) (talk : Guarding) (c between later : C)
+pub empties_more : {C : Type 0} (happened : C → Option (List Happened)) (home : Home)
+    (t : ServingOptions)
+    (over : ServingEnd) (old mid new : ClientTable) (gone : Guest) (talk : LockedConnectionOf)
+    (c between later : C)
     → mid.guests.items ≡ new.guests.items ++ gone ∷ [] → new.next ≡ mid.next
     → new.time ≡ mid.time → new.own ≡ mid.own → new.dear ≡ mid.dear → new.differs ≡ mid.differs
     → Empties happened home t over old mid c between
@@ -417,8 +420,9 @@ empties_more happened home t over old mid new gone talk c between later last nex
           (Tells-trans (happened between) (happened end) (happened later) _ _ o.told closed))),
     )
 
-pub empties_same : {C : Type 0} (happened : C → Option (List Happened)) (home : Home) (t : Terms)
-    (over : Over) (old mid new : Table) (c later : C)
+pub empties_same : {C : Type 0} (happened : C → Option (List Happened)) (home : Home)
+    (t : ServingOptions)
+    (over : ServingEnd) (old mid new : ClientTable) (c later : C)
     → mid.guests.items ≡ new.guests.items ++ [] → new.next ≡ mid.next → new.time ≡ mid.time
     → new.own ≡ mid.own → new.dear ≡ mid.dear → new.differs ≡ mid.differs
     → Empties happened home t over old mid c later

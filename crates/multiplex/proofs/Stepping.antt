@@ -14,25 +14,28 @@ use Rattle.store.specs.declared.home.Home.{Home}
 use Rattle.wire.specs.declared.values.Version.{Version}
 use Rattle.polled.specs.Telling.{Tells}
 use Rattle.multiplex.specs.Happenings.{Happened, Named, Round}
-use Rattle.multiplex.specs.Passing.{Change, Changed, Clock, IsStop, Lobby, Pass, Room, Step, Stops}
+use Rattle.multiplex.specs.Passing.{Change, Changed, Clock, IsStop, Lobby, Pass, Room, Settles}
+use Rattle.multiplex.specs.Passing.{Step}
+use Rattle.multiplex.specs.Passing.{Stops, over_settled, told as told_of}
 use Rattle.multiplex.specs.Passing.{Ticked, TicksBy, empty_lobby, first_ticks, lobby, shown}
 use Rattle.multiplex.specs.Passing.{ticks_after, ticks_at, told_all, told_change, told_over}
 use Rattle.multiplex.specs.declared.own_ticks.OwnTicks.{OwnTicks}
 use Rattle.multiplex.specs.declared.dear.DearTurns.{DearTurns}
-use Rattle.multiplex.specs.declared.ends.Over.{Over}
-use Rattle.multiplex.specs.declared.ends.Over.TheVariants as over_is
-use Rattle.multiplex.specs.declared.table.Table.{Table}
-use Rattle.multiplex.specs.declared.table.Terms.{Terms}
-use Rattle.multiplex.specs.model.Scenes.{AltersSome, Answers, ChangeAll, Does, Empties}
+use Rattle.multiplex.specs.declared.ends.ServingEnd.{ServingEnd}
+use Rattle.multiplex.specs.declared.ends.ServingEnd.TheVariants as over_is
+use Rattle.multiplex.specs.declared.table.ClientTable.{ClientTable}
+use Rattle.multiplex.specs.declared.table.ServingOptions.{ServingOptions}
+use Rattle.multiplex.specs.model.Scenes.{AltersSome, AnswersThenSettles, ChangeAll, Does, Empties}
 use Rattle.multiplex.specs.model.Scenes.{lobby_of}
 use Rattle.multiplex.specs.Scenes.{Scene, Serves, in_room, scene}
 use Rattle.multiplex.specs.model.Scenes.{room_of, told_changes}
 use Rattle.multiplex.specs.model.Ticks.{Desks, HasTicked, MayTick, desks}
+use Rattle.multiplex.specs.model.Visiting.{Rests, SettlesNode}
 use Rattle.multiplex.proofs.Shutting.{lobby_same}
 use Rattle.polled.proofs.Telling.{Tells-as, Tells-nil, Tells-trans}
 use Rattle.multiplex.proofs.Telling.{all_told_both}
 
-pub Pass-trans : {V : Type 0} {way : Way V} (home : Home) (t : Terms) (a m b : Room way)
+pub Pass-trans : {V : Type 0} {way : Way V} (home : Home) (t : ServingOptions) (a m b : Room way)
     (ss rs : List Step) → Pass home t a ss m → Pass home t m rs b → Pass home t a (ss ++ rs) b
 Pass-trans home t a m b [] rs h k = subst (λ z. Pass home t z rs b) (sym h) k
 Pass-trans home t a m b (s ∷ ss) rs h k = (h.0, h.1, Pass-trans home t h.0 m b ss rs h.2 k)
@@ -50,7 +53,7 @@ changes_told (c ∷ cs) = ap (λ z. told_change c ++ z) (changes_told cs)
 abbrev pub at_lobby : {V : Type 0} {way : Way V} → Room way → Lobby → Room way
 at_lobby a l = record { lobby = l; seen = a.seen; outside = a.outside }
 
-pub changes_pass : {V : Type 0} {way : Way V} (home : Home) (t : Terms) (a : Room way)
+pub changes_pass : {V : Type 0} {way : Way V} (home : Home) (t : ServingOptions) (a : Room way)
     (l b : Lobby) (cs : List Change)
     → ChangeAll home t l cs b
     → Pass home t (at_lobby a l) (changed_steps cs) (at_lobby a b)
@@ -58,16 +61,10 @@ changes_pass home t a l b [] h = ap (λ z. at_lobby a z) h
 changes_pass home t a l b (c ∷ cs) h =
     (at_lobby a h.0, (h.1, refl, refl), changes_pass home t a h.0 b cs h.2)
 
-pub does_none : {V U C : Type 0} (d : DeskOf V) (p : PeersOf U)
-    (happened : C → Option (List Happened)) (home : Home) (t : Terms) (table : Table)
-    (a : Scene V U C)
-    → Does d p happened home t None table table a a
-does_none d p happened home t table a =
-    ([], record { pass = refl; told = Tells-nil (happened a.clients) })
-
 pub does_both : {V U C : Type 0} (d : DeskOf V) (p : PeersOf U)
-    (happened : C → Option (List Happened)) (home : Home) (t : Terms) (over : Option Over)
-    (old mid new : Table) (a m b : Scene V U C)
+    (happened : C → Option (List Happened)) (home : Home) (t : ServingOptions)
+    (over : Option ServingEnd)
+    (old mid new : ClientTable) (a m b : Scene V U C)
     → Does d p happened home t None old mid a m → Does d p happened home t over mid new m b
     → Does d p happened home t over old new a b
 does_both d p happened home t over old mid new a m b h k = (
@@ -85,8 +82,9 @@ does_both d p happened home t over old mid new a m b h k = (
 
 -- the node and the other desks are as before, and the table was changed so
 pub does_changes : {V U C : Type 0} (d : DeskOf V) (p : PeersOf U)
-    (happened : C → Option (List Happened)) (home : Home) (t : Terms) (over : Option Over)
-    (old new : Table) (node : V) (peers : U) (c later : C)
+    (happened : C → Option (List Happened)) (home : Home) (t : ServingOptions)
+    (over : Option ServingEnd)
+    (old new : ClientTable) (node : V) (peers : U) (c later : C)
     → AltersSome happened home t over old new c later
     → Does d p happened home t over old new (scene node peers c) (scene node peers later)
 does_changes d p happened home t over old new node peers c later h = (
@@ -100,28 +98,91 @@ does_changes d p happened home t over old new node peers c later h = (
   },
 )
 
--- a client was named, and answered
-pub does_answer : {V U C : Type 0} (d : DeskOf V) (p : PeersOf U)
-    (happened : C → Option (List Happened)) (home : Home) (t : Terms) (k : ℕ) (over : Option Over)
-    (old new : Table) (node next : V) (peers more : U) (c named later : C)
-    → Tells (happened c) (happened named) (Named k ∷ [])
-    → Answers d p happened home t k over old new (scene node peers named) (scene next more later)
-    → Does d p happened home t over old new (scene node peers c) (scene next more later)
-does_answer d p happened home t k over old new node next peers more c named later told h = (
-  h.0 ∷ [],
+-- what was changed is settled, or that fails; the other desks are handed nothing by that
+does_settles : {V U C : Type 0} (d : DeskOf V) (p : PeersOf U)
+    (happened : C → Option (List Happened)) (home : Home) (t : ServingOptions) (ok : Bool)
+    (over : Option ServingEnd) (old new : ClientTable) (node next : V) (peers kept : U) (c : C)
+    → lobby_of new over ≡ lobby_of old over → p.handed kept ≡ p.handed peers
+    → SettlesNode d node ok next
+    → Pass home t (room_of d p t.wire old over (scene node peers c)) (Settles ok ∷ [])
+    (room_of d p t.wire new (over_settled ok over) (scene next kept c))
+does_settles d p happened home t ok over old new node next peers kept c same handed h = (
+  room_of d p t.wire new (over_settled ok over) (scene next kept c),
   record {
-    pass = (_, h.3, refl);
-    told =
-        Tells-as (happened c) (happened later) _ _
-        (sym h.2 ∙ sym (append-nil _))
-        (Tells-trans (happened c) (happened named) (happened later) _ _ told h.4);
+    seen = h.1;
+    node = h.0;
+    handed = handed;
+    left =
+        ap
+        (λ (l : Lobby).
+        lobby l.guests l.next l.time l.own l.spent l.differs (over_settled ok over)) same;
+  },
+  refl,
+)
+
+pub settled_then : {V U C : Type 0} (d : DeskOf V) (p : PeersOf U)
+    (happened : C → Option (List Happened)) (home : Home) (t : ServingOptions) (ok : Bool)
+    (old new : ClientTable) (node next : V) (peers kept : U) (c : C)
+    → lobby_of new None ≡ lobby_of old None → p.handed kept ≡ p.handed peers
+    → SettlesNode d node ok next
+    → Does d p happened home t (over_settled ok None) old new (scene node peers c)
+    (scene next kept c)
+settled_then d p happened home t ok old new node next peers kept c same handed h = (
+  Settles ok ∷ [],
+  record {
+    pass = does_settles d p happened home t ok None old new node next peers kept c same handed h;
+    told = Tells-nil (happened c);
   },
 )
 
+-- a client was named, and answered, and what it changed is settled
+pub does_answer : {V U C : Type 0} (d : DeskOf V) (p : PeersOf U)
+    (happened : C → Option (List Happened)) (home : Home) (t : ServingOptions) (k : ℕ)
+    (over : Option ServingEnd)
+    (old new : ClientTable) (node next : V) (peers more : U) (c named later : C)
+    → Tells (happened c) (happened named) (Named k ∷ [])
+    → AnswersThenSettles d p happened home t k over old new (scene node peers named)
+    (scene next more later)
+    → Does d p happened home t over old new (scene node peers c) (scene next more later)
+does_answer {V} d p happened home t k over old new node next peers more c named later told h =
+    by h.5
+  where
+    all : Tells (happened c) (happened later) (told_of h.3.0 ++ [])
+    all =
+        Tells-as (happened c) (happened later) _ _
+        (sym h.3.2 ∙ sym (append-nil _))
+        (Tells-trans (happened c) (happened named) (happened later) _ _ told h.3.4)
+
+    by : Rests d h.0 h.1 next
+        → Does d p happened home t over old new (scene node peers c) (scene next more later)
+    by (inl settles) = (
+      h.3.0 ∷ Settles h.1 ∷ [],
+      record {
+        pass = (
+          room_of d p t.wire new h.2 (scene h.0 more later),
+          h.3.3,
+          subst
+              (λ o. Pass home t (room_of d p t.wire new h.2 (scene h.0 more later))
+              (Settles h.1 ∷ []) (room_of d p t.wire new o (scene next more later))) (sym h.4)
+              (does_settles d p happened home t h.1 h.2 new new h.0 next more more later refl refl
+              settles),
+        );
+        told = all;
+      },
+    )
+    by (inr rests) =
+        subst
+        (λ (n : V). Does d p happened home t over old new (scene node peers c)
+        (scene n more later)) (sym rests.1)
+        (subst
+        (λ o. Does d p happened home t o old new (scene node peers c) (scene h.0 more later))
+        (sym (h.4 ∙ ap (λ ok. over_settled ok h.2) rests.0))
+        (h.3.0 ∷ [], record { pass = (_, h.3.3, refl); told = all }))
+
 -- serving is over by itself
 pub does_stop : {V U C : Type 0} (d : DeskOf V) (p : PeersOf U)
-    (happened : C → Option (List Happened)) (home : Home) (t : Terms) (over : Over)
-    (table : Table) (node : V) (peers : U) (c later : C)
+    (happened : C → Option (List Happened)) (home : Home) (t : ServingOptions) (over : ServingEnd)
+    (table : ClientTable) (node : V) (peers : U) (c later : C)
     → IsStop t over (lobby_of table None)
     → Tells (happened c) (happened later) (told_over over)
     → Does d p happened home t (Some over) table table (scene node peers c)
@@ -138,7 +199,7 @@ does_stop d p happened home t over table node peers c later is told = (
 -- ---- rounds
 
 -- the table at the end of a round
-abbrev pub timed : Table → ℕ → OwnTicks → DearTurns → Bool → Table
+abbrev pub timed : ClientTable → ℕ → OwnTicks → DearTurns → Bool → ClientTable
 timed table time own dear said =
     record {
       guests = table.guests;
@@ -155,11 +216,12 @@ outside_same : {V U : Type 0} (d : DeskOf V) (p : PeersOf U) (version : Version)
     → p.handed kept ≡ p.handed peers
     → outside d p version node kept ≡ outside d p version node peers
 outside_same d p version node peers kept same =
-    ap (λ z. outside_of (speaking d.handles version) node z) same
+    ap (λ z. outside_of (speaking d.handles d.settles version) node z) same
 
 -- no Tick was due
 does_clock : {V U C : Type 0} (d : DeskOf V) (p : PeersOf U)
-    (happened : C → Option (List Happened)) (home : Home) (t : Terms) (time : ℕ) (table : Table)
+    (happened : C → Option (List Happened)) (home : Home) (t : ServingOptions) (time : ℕ)
+    (table : ClientTable)
     (own : OwnTicks) (dear : DearTurns) (said : Bool) (node : V) (peers kept : U) (c between : C)
     → dear.spent ≡ false
     → p.handed kept ≡ p.handed peers → Tells (happened c) (happened between) (Round time ∷ [])
@@ -188,8 +250,9 @@ does_clock d p happened home t time table own dear said node peers kept c betwee
 
 -- a Tick was due, and taken
 does_tick : {V U C : Type 0} (d : DeskOf V) (p : PeersOf U)
-    (happened : C → Option (List Happened)) (t : Terms) (time : ℕ) (starved : Bool)
-    (over : Option Over) (table : Table) (own : OwnTicks) (dear : DearTurns) (said : Bool)
+    (happened : C → Option (List Happened)) (t : ServingOptions) (time : ℕ) (starved : Bool)
+    (over : Option ServingEnd) (table : ClientTable) (own : OwnTicks) (dear : DearTurns)
+    (said : Bool)
     (node next : V) (peers more kept : U) (c between : C)
     → dear.spent ≡ false
     → p.handed kept ≡ p.handed more → Tells (happened c) (happened between) (Round time ∷ [])
@@ -222,8 +285,9 @@ does_tick d p happened t time starved over table own dear said node next peers m
 -- a round is over, a Tick was taken where one was due, and the links were kept, by which nothing is
 -- handed out
 pub does_round : {V U C : Type 0} (d : DeskOf V) (p : PeersOf U)
-    (happened : C → Option (List Happened)) (t : Terms) (time : ℕ) (over : Option Over)
-    (table : Table) (own : OwnTicks) (dear : DearTurns) (said : Bool) (node next : V)
+    (happened : C → Option (List Happened)) (t : ServingOptions) (time : ℕ)
+    (over : Option ServingEnd)
+    (table : ClientTable) (own : OwnTicks) (dear : DearTurns) (said : Bool) (node next : V)
     (peers more kept : U) (c between : C)
     → dear.spent ≡ false
     → p.handed kept ≡ p.handed more → Tells (happened c) (happened between) (Round time ∷ [])
@@ -250,8 +314,9 @@ does_round d p happened t time over table own dear said node next peers more kep
 -- ---- from the first client to the end
 
 pub serves_all : {V U C : Type 0} (d : DeskOf V) (p : PeersOf U)
-    (happened : C → Option (List Happened)) (t : Terms) (period : Option ℕ) (over : Over)
-    (table mid last : Table) (node next : V) (peers more : U) (c between later : C)
+    (happened : C → Option (List Happened)) (t : ServingOptions) (period : Option ℕ)
+    (over : ServingEnd)
+    (table mid last : ClientTable) (node next : V) (peers more : U) (c between later : C)
     → lobby_of table None ≡ empty_lobby (first_ticks (d.home_of node) period (d.seen node))
     → Does d p happened (d.home_of node) t (Some over) table mid (scene node peers c)
     (scene next more between)
@@ -299,7 +364,8 @@ first_starved home (Some period) x = refl
 
 -- memory was refused before a client came
 pub serves_none : {V U C : Type 0} (d : DeskOf V) (p : PeersOf U)
-    (happened : C → Option (List Happened)) (t : Terms) (period : Option ℕ) (node : V) (peers : U)
+    (happened : C → Option (List Happened)) (t : ServingOptions) (period : Option ℕ) (node : V)
+    (peers : U)
     (c : C) → Serves d p happened t period
     (record { connections = 0; over = over_is.NoMemory; starved = false })
     (scene node peers c) (scene node peers c)

@@ -4,8 +4,8 @@ use Rattle.std.specs.Prelude.{IsTrue}
 use Rattle.std.specs.List.{flat_map}
 use Rattle.connections.specs.Connections.{begun_of}
 use Rattle.connections.proofs.Interleaving.{begun_both}
-use Rattle.sealed.specs.declared.callers.Doors.TheVariants.{Locked}
-use Rattle.guarded.specs.GuardLaw.{AreAllowed, IsAllowed, IsUnderHall, delivers}
+use Rattle.sealed.specs.declared.callers.Access.TheVariants.{Locked}
+use Rattle.guarded.specs.LockedLaw.{AreAllowed, IsAllowed, IsUnderHall, delivers}
 use Rattle.guarded.proofs.Delivering.{delivers_alike, under_hall, under_more}
 use Rattle.guarded.proofs.Holding.{BeginsAt}
 use Rattle.serving.specs.Asking.{request}

@@ -2,7 +2,7 @@
 use Rattle.std.proofs.Common.{◌≡◌, ◌≢◌, refl, sym, ap, subst, ◌∙◌, ℕ, List, [], ◌∷◌, ◌++◌}
 use Rattle.std.proofs.Common.{append_assoc, length, take, drop, get_or, set, suc, Option, None}
 use Rattle.std.proofs.Common.{Some}
-use Rattle.std.proofs.Common.{true, false, position, arith, ◌<◌}
+use Rattle.std.proofs.Common.{true, false, position, arith, ◌<◌, Bool, ◌↔◌}
 use Rattle.std.specs.List.{AllByRecursion}
 use Rattle.std.specs.Vec.{with_item}
 use Rattle.std.proofs.lemmas.Bool.{eqb-false, eqb-true}
@@ -11,7 +11,7 @@ use Rattle.std.proofs.lemmas.List.{set_split}
 use Rattle.answers.specs.declared.desk.Desk.{Ghosts as DeskOf}
 use Rattle.serving.specs.declared.peers.Peers.{Ghosts as PeersOf}
 use Rattle.serving.specs.TurnLaw.{Turn}
-use Rattle.guarded.specs.GuardTurns.{Follow}
+use Rattle.guarded.specs.LockedTurns.{Follow}
 use Rattle.store.specs.declared.home.Home.{Home}
 use Rattle.wire.specs.Ranges.{IsDifference}
 use Rattle.wire.specs.declared.standing.Difference.{Difference}
@@ -20,13 +20,16 @@ use Rattle.multiplex.specs.Noting.{AreNoted}
 use Rattle.polled.specs.Telling.{Tells}
 use Rattle.multiplex.specs.Happenings.{Happened, Closed}
 use Rattle.multiplex.specs.Passing.{Changed, IsLeft, Lobby, Shares, Stray, Takes, Visit, lobby}
-use Rattle.multiplex.specs.Passing.{over_after, over_by, staying, told_turns, told_why}
+use Rattle.multiplex.specs.Passing.{over_after, over_by, over_settled, staying, told_turns}
+use Rattle.multiplex.specs.Passing.{told_why}
 use Rattle.multiplex.specs.declared.dear.DearTurns.{DearTurns}
-use Rattle.multiplex.specs.declared.ends.Over.{Over}
-use Rattle.multiplex.specs.declared.ends.Why.{Why}
+use Rattle.multiplex.specs.declared.ends.ServingEnd.{ServingEnd}
+use Rattle.multiplex.specs.declared.ends.ServingEnd.TheVariants as over_is
+use Rattle.multiplex.specs.declared.ends.EndReason.{EndReason}
+use Rattle.multiplex.specs.declared.ends.EndReason.TheVariants as why
 use Rattle.multiplex.specs.declared.table.Guest.{Guest}
-use Rattle.multiplex.specs.declared.table.Table.{Table}
-use Rattle.multiplex.specs.declared.table.Terms.{Terms}
+use Rattle.multiplex.specs.declared.table.ClientTable.{ClientTable}
+use Rattle.multiplex.specs.declared.table.ServingOptions.{ServingOptions}
 use Rattle.multiplex.specs.model.Scenes.{Answers, Hosts, IsShut, at_guest, lobby_of}
 use Rattle.multiplex.specs.Scenes.{Scene, in_room}
 use Rattle.multiplex.specs.model.Scenes.{room_of, turned}
@@ -40,7 +43,8 @@ use Rattle.polled.proofs.Telling.{Tells-as, Tells-nil, Tells-trans}
 -- ---- nobody has the number
 
 pub answers_nobody : {V U C : Type 0} (d : DeskOf V) (p : PeersOf U)
-    (happened : C → Option (List Happened)) (home : Home) (t : Terms) (k : ℕ) (table : Table)
+    (happened : C → Option (List Happened)) (home : Home) (t : ServingOptions) (k : ℕ)
+    (table : ClientTable)
     (a : Scene V U C)
     → position (has_number k) table.guests.items ≡ None
     → Answers d p happened home t k None table table a a
@@ -64,13 +68,13 @@ answers_nobody d p happened home t k table a none = (
 -- ---- the table about a client
 
 -- the table about the client at this place, before its turns and behind them
-pub record About (table : Table) (place : ℕ) (old new : Guest) (before after : List Guest)
+pub record About (table : ClientTable) (place : ℕ) (old new : Guest) (before after : List Guest)
     : Type 0 where
   pub found : table.guests.items ≡ before ++ old ∷ after
   pub put : set table.guests.items place new ≡ before ++ new ∷ after
   pub front : length before ≡ place
 
-pub about : (table : Table) (place : ℕ) (old new : Guest)
+pub about : (table : ClientTable) (place : ℕ) (old new : Guest)
     → place < length table.guests.items
     → old ≡ get_or table.guests.items place old
     → (before : List Guest) × (after : List Guest) × About table place old new before after
@@ -91,7 +95,8 @@ about table place old new within is =
 -- ---- turns
 
 abbrev pub Visiting : {V U C : Type 0} → DeskOf V → PeersOf U → (C → Option (List Happened))
-    → Home → Terms → ℕ → Option Why → Table → Lobby → Scene V U C → Scene V U C → Type 0
+    → Home → ServingOptions → ℕ → Option EndReason → ClientTable → Lobby → Scene V U C → Scene V U C
+    → Type 0
 Visiting d p happened home t k fate table left a m =
     (turns : List Turn)
     × Takes home t (Visit k turns fate) (room_of d p t.wire table None a)
@@ -99,8 +104,9 @@ Visiting d p happened home t k fate table left a m =
     × Tells (happened a.clients) (happened m.clients) (told_turns k turns ++ told_why k fate)
 
 pub visiting : {V U C : Type 0} (d : DeskOf V) (p : PeersOf U)
-    (happened : C → Option (List Happened)) (home : Home) (t : Terms) (k : ℕ) (fate : Option Why)
-    (table : Table) (old new : Guest) (before after : List Guest) (left : Lobby)
+    (happened : C → Option (List Happened)) (home : Home) (t : ServingOptions) (k : ℕ)
+    (fate : Option EndReason)
+    (table : ClientTable) (old new : Guest) (before after : List Guest) (left : Lobby)
     (a m : Scene V U C)
     → table.guests.items ≡ before ++ old ∷ after → old.number ≡ k → old.talk.talk.wire ≡ t.wire
     → Hosts d p happened table.time fate (turned table.dear.spent table.differs)
@@ -150,8 +156,8 @@ visiting d p happened home t k fate table old new before after left a m found nu
 
 -- the client stays
 pub answers_stay : {V U C : Type 0} (d : DeskOf V) (p : PeersOf U)
-    (happened : C → Option (List Happened)) (home : Home) (t : Terms) (k : ℕ) (place : ℕ)
-    (table changed : Table) (old new : Guest) (before after : List Guest) (a m : Scene V U C)
+    (happened : C → Option (List Happened)) (home : Home) (t : ServingOptions) (k : ℕ) (place : ℕ)
+    (table changed : ClientTable) (old new : Guest) (before after : List Guest) (a m : Scene V U C)
     → About table place old new before after → old.number ≡ k → old.talk.talk.wire ≡ t.wire
     → changed.guests.items ≡ set table.guests.items place new → changed.next ≡ table.next
     → changed.time ≡ table.time → changed.own ≡ table.own
@@ -167,7 +173,7 @@ answers_stay d p happened home t k place table changed old new before after a m 
 
 pub stay_keeps : {V U C : Type 0} (d : DeskOf V) (p : PeersOf U)
     (happened : C → Option (List Happened)) (home : Home) (wire : Version) (place : ℕ)
-    (table changed : Table) (old new : Guest) (before after : List Guest) (a m : Scene V U C)
+    (table changed : ClientTable) (old new : Guest) (before after : List Guest) (a m : Scene V U C)
     → About table place old new before after
     → changed.guests.items ≡ set table.guests.items place new
     → Hosts d p happened table.time None (turned table.dear.spent table.differs)
@@ -216,8 +222,9 @@ split_same (z ∷ b) (w ∷ c) x y r s h l =
     }
 
 -- the connection at the place was ended behind the turns
-pub record Leaving {C : Type 0} (happened : C → Option (List Happened)) (over : Option Over)
-    (table mid changed : Table) (k : ℕ) (new : Guest) (before after : List Guest) (c later : C)
+pub record Leaving {C : Type 0} (happened : C → Option (List Happened)) (over : Option ServingEnd)
+    (table mid changed : ClientTable) (k : ℕ) (new : Guest) (before after : List Guest)
+    (c later : C)
     : Type 0 where
   pub left : lobby_of changed over
       ≡ lobby (before ++ after) table.next table.time table.own mid.dear.spent mid.differs
@@ -225,7 +232,8 @@ pub record Leaving {C : Type 0} (happened : C → Option (List Happened)) (over 
   pub told : Tells (happened c) (happened later) (Closed k ∷ [])
 
 pub leaving : {C : Type 0} (happened : C → Option (List Happened)) (place : ℕ)
-    (over : Option Over) (table mid changed : Table) (old new : Guest) (before after : List Guest)
+    (over : Option ServingEnd) (table mid changed : ClientTable) (old new : Guest)
+    (before after : List Guest)
     (c later : C)
     → About table place old new before after
     → mid.guests.items ≡ set table.guests.items place new → mid.next ≡ table.next
@@ -250,8 +258,9 @@ leaving happened place over table mid changed old new before after c later split
     }
 
 pub answers_leave : {V U C : Type 0} (d : DeskOf V) (p : PeersOf U)
-    (happened : C → Option (List Happened)) (home : Home) (t : Terms) (k : ℕ) (w : Why)
-    (place : ℕ) (over : Option Over) (table mid changed : Table) (old new : Guest)
+    (happened : C → Option (List Happened)) (home : Home) (t : ServingOptions) (k : ℕ)
+    (w : EndReason)
+    (place : ℕ) (over : Option ServingEnd) (table mid changed : ClientTable) (old new : Guest)
     (before after : List Guest) (a : Scene V U C) (node : V) (peers : U) (c later : C)
     → About table place old new before after → old.number ≡ k → old.talk.talk.wire ≡ t.wire
     → mid.guests.items ≡ set table.guests.items place new → mid.next ≡ table.next
@@ -292,7 +301,8 @@ answers_leave d p happened home t k w place over table mid changed old new befor
     )
 
 pub leave_keeps : {C : Type 0} (happened : C → Option (List Happened)) (home : Home)
-    (wire : Version) (place : ℕ) (over : Option Over) (table mid changed : Table) (old new : Guest)
+    (wire : Version) (place : ℕ) (over : Option ServingEnd) (table mid changed : ClientTable)
+    (old new : Guest)
     (before after : List Guest) (c later : C)
     → About table place old new before after
     → mid.guests.items ≡ set table.guests.items place new → mid.next ≡ table.next
@@ -312,15 +322,34 @@ leave_keeps happened home wire place over table mid changed old new before after
       differs = subst (λ (l : Lobby). IsDifference l.differs) (sym gone.left) differs;
     }
 
+-- ---- what was changed is settled then
+
+pub over_on : (ok : Bool) → ((ok ≡ false) ↔ (None ≡ Some why.Over))
+    → None ≡ over_settled ok None
+over_on true h = refl
+over_on false h = let n : None ≡ Some why.Over = h.0 refl in absurd cc
+
+pub over_kept : (ok : Bool) (w : EndReason) (over : Option ServingEnd)
+    → ((ok ≡ false) ↔ (Some w ≡ Some why.Over)) → (w ≡ why.Over → ⊥) → over ≡ over_settled ok over
+over_kept true w over h other = refl
+over_kept false w over h other =
+    let n : Some w ≡ Some why.Over = h.0 refl in absurd (other cc)
+
+pub over_down : (ok : Bool) (w : EndReason) (over : Option ServingEnd)
+    → ((ok ≡ false) ↔ (Some w ≡ Some why.Over)) → w ≡ why.Over
+    → Some over_is.Down ≡ over_settled ok over
+over_down ok w over h is = ap (λ z. over_settled z over) (sym (h.1 (ap Some is)))
+
 -- ---- where a client stands that has this number
 
-pub record Stands (home : Home) (wire : Version) (k : ℕ) (table : Table) (place : ℕ) (old : Guest)
+pub record Stands (home : Home) (wire : Version) (k : ℕ) (table : ClientTable) (place : ℕ)
+    (old : Guest)
     : Type 0 where
   pub within : place < length table.guests.items
   pub number : old.number ≡ k
   pub same : old.talk.talk.wire ≡ wire
 
-pub stands : (home : Home) (wire : Version) (k : ℕ) (table : Table) (place : ℕ) (old : Guest)
+pub stands : (home : Home) (wire : Version) (k : ℕ) (table : ClientTable) (place : ℕ) (old : Guest)
     → position (has_number k) table.guests.items ≡ Some place
     → old ≡ get_or table.guests.items place old → AreKept home wire table
     → Stands home wire k table place old
@@ -338,14 +367,15 @@ stands home wire k table place old found is kept =
     }
 
 -- that client, and the table about it before its turns and behind them
-pub record Met (wire : Version) (k : ℕ) (table : Table) (place : ℕ) (old new : Guest) : Type 0 where
+pub record Met (wire : Version) (k : ℕ) (table : ClientTable) (place : ℕ)
+    (old new : Guest) : Type 0 where
   pub before : List Guest
   pub after : List Guest
   pub split : About table place old new before after
   pub number : old.number ≡ k
   pub same : old.talk.talk.wire ≡ wire
 
-pub met : (home : Home) (wire : Version) (k : ℕ) (table : Table) (place : ℕ) (old new : Guest)
+pub met : (home : Home) (wire : Version) (k : ℕ) (table : ClientTable) (place : ℕ) (old new : Guest)
     → position (has_number k) table.guests.items ≡ Some place
     → old ≡ get_or table.guests.items place old → AreKept home wire table
     → Met wire k table place old new
@@ -361,7 +391,7 @@ met home wire k table place old new found is kept =
     }
 
 -- the table with the client behind its turns
-abbrev pub visited : Table → ℕ → Guest → DearTurns → Option Difference → Table
+abbrev pub visited : ClientTable → ℕ → Guest → DearTurns → Option Difference → ClientTable
 visited table place new dear differs =
     record {
       guests = with_item table.guests place new;

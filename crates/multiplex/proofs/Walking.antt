@@ -8,7 +8,7 @@ use Rattle.std.proofs.Common.{None, Some}
 use Rattle.answers.specs.declared.desk.Desk.{Ghosts as DeskOf}
 use Rattle.serving.specs.declared.peers.Peers.{Ghosts as PeersOf}
 use Rattle.answers.specs.Seen.{Seen}
-use Rattle.sealed.specs.Calls.{caller_of, is_over}
+use Rattle.sealed.specs.ServerSeals.{caller_of, is_over}
 use Rattle.store.specs.declared.home.Home.{Home}
 use Rattle.wire.specs.declared.standing.Difference.{Difference}
 use Rattle.serving.specs.Making.{Way}
@@ -18,14 +18,15 @@ use Rattle.serving.specs.Turns as Turns
 use Rattle.serving.specs.Connection.{Begun, serve_frame}
 use Rattle.serving.specs.Differing.{awaited_by, differs_by, first_difference, first_frame}
 use Rattle.serving.specs.Differing.{known_after}
-use Rattle.serving.specs.declared.differing.Awaited.{Awaited}
-use Rattle.serving.specs.declared.ends.End.{End}
+use Rattle.serving.specs.declared.differing.AwaitRequest.{AwaitRequest}
+use Rattle.serving.specs.declared.ends.ConnectionEnd.{ConnectionEnd}
 use Rattle.serving.specs.Kinds.{dear_next, is_dear, message_next}
 use Rattle.serving.specs.TurnLaw.{Came as CameIn, Began, Rested, Took as TookOf, Turn, begun_in}
-use Rattle.guarded.specs.Guarding.{Advances, Answers, Guarding, HearsDesk, IsDear, IsDone, IsFree}
-use Rattle.guarded.specs.Guarding.{Receives, Rests}
-use Rattle.guarded.specs.Guarding.{WantsRead, after_sent, moment}
-use Rattle.guarded.specs.GuardTurns.{Follow, Place}
+use Rattle.guarded.specs.LockedConnections.{Advances, Answers, LockedConnectionOf, HearsDesk}
+use Rattle.guarded.specs.LockedConnections.{IsDear, IsDone, IsFree}
+use Rattle.guarded.specs.LockedConnections.{Receives, Rests}
+use Rattle.guarded.specs.LockedConnections.{WantsRead, after_sent, moment}
+use Rattle.guarded.specs.LockedTurns.{Follow, Place}
 use Rattle.guarded.specs.Permitting.{permission_of}
 use Rattle.wire.specs.declared.fault.WireFault.{WireFault}
 use Rattle.wire.specs.declared.frame.Frame.{Frame}
@@ -33,8 +34,8 @@ use Rattle.polled.specs.Telling.{Tells}
 use Rattle.multiplex.specs.Happenings.{Happened, Gave, Took}
 use Rattle.multiplex.specs.Passing.{AreMessages, IsFate, IsLeft, Settled, Shares, SharesLast}
 use Rattle.multiplex.specs.Passing.{SharesOne, pieces, told_turns, told_why}
-use Rattle.multiplex.specs.declared.ends.Why.{Why}
-use Rattle.multiplex.specs.declared.ends.Why.TheVariants as why
+use Rattle.multiplex.specs.declared.ends.EndReason.{EndReason}
+use Rattle.multiplex.specs.declared.ends.EndReason.TheVariants as why
 use Rattle.multiplex.specs.Dear.{answered, asked, is_next, put_off}
 use Rattle.multiplex.specs.declared.dear.DearTurns.{DearTurns}
 use Rattle.multiplex.specs.Noting.{AreDue, Ears, IsDueFrame, IsOff, PutsOff, awaited_of, ears}
@@ -43,7 +44,8 @@ use Rattle.multiplex.specs.Noting.{listened_to, next_of, off_by, until_of}
 use Rattle.multiplex.specs.Noting.{put_off as puts_off}
 use Rattle.multiplex.specs.declared.notes.Notes.{Notes}
 use Rattle.multiplex.specs.model.Visiting.{BeginsDue, Beholds, Beside, Goes, HearsDesks}
-use Rattle.multiplex.specs.model.Visiting.{IsLeftOrDone, MayBegin, MayShare, Moves, Reads, beside}
+use Rattle.multiplex.specs.model.Visiting.{HasBegun, IsLeftOrDone, MayBegin, MayShare, Moves, Reads}
+use Rattle.multiplex.specs.model.Visiting.{beside}
 use Rattle.multiplex.specs.model.Visiting.{Sends, ServesNext, ServesOne, SettledOrDone, Spot}
 use Rattle.multiplex.specs.model.Visiting.{TalksOn}
 use Rattle.multiplex.specs.model.Visiting.{broken}
@@ -79,7 +81,7 @@ begun_both (Rested ∷ ts) us = begun_both ts us
 begun_both (TookOf bytes ∷ ts) us = begun_both ts us
 
 pub goes_both : {V U C : Type 0} (d : DeskOf V) (p : PeersOf U)
-    (happened : C → Option (List Happened)) (k : ℕ) (cause : Option Why)
+    (happened : C → Option (List Happened)) (k : ℕ) (cause : Option EndReason)
     (n q : ℕ) (xs ys : List Begun)
     (a m b : Spot V U C)
     → Goes d p happened k None n xs a m → Goes d p happened k cause q ys m b
@@ -105,18 +107,20 @@ goes_both d p happened k cause n q xs ys a m b h g = (
   },
 )
 
--- that all is done is not told
-pub goes_done : {V U C : Type 0} (d : DeskOf V) (p : PeersOf U)
-    (happened : C → Option (List Happened)) (k : ℕ) (most : ℕ) (begun : List Begun)
-    (a b : Spot V U C)
-    → Goes d p happened k None most begun a b → Goes d p happened k (Some why.Done) most begun a b
-goes_done d p happened k most begun a b h = (
+-- a cause of which nothing is told
+goes_as : {V U C : Type 0} (d : DeskOf V) (p : PeersOf U)
+    (happened : C → Option (List Happened)) (k : ℕ) (w : EndReason) (most : ℕ) (begun : List Begun)
+    (a b : Spot V U C) → [] ≡ told_why k (Some w)
+    → Goes d p happened k None most begun a b → Goes d p happened k (Some w) most begun a b
+goes_as d p happened k w most begun a b untold h = (
   h.0,
   record {
     few = h.1.few;
     begins = h.1.begins;
     follow = h.1.follow;
-    told = h.1.told;
+    told =
+        subst (λ z. Tells (happened a.clients) (happened b.clients) (told_turns k h.0 ++ z)) untold
+        h.1.told;
     home = h.1.home;
     wire = h.1.wire;
   },
@@ -124,9 +128,9 @@ goes_done d p happened k most begun a b h = (
 
 -- no turn was taken, since this failed, or nothing did
 pub no_turn : {V U C : Type 0} (d : DeskOf V) (p : PeersOf U)
-    (happened : C → Option (List Happened)) (k : ℕ) (cause : Option Why)
+    (happened : C → Option (List Happened)) (k : ℕ) (cause : Option EndReason)
     (most : ℕ) (node : V)
-    (peers : U) (c later : C) (old new : Guarding)
+    (peers : U) (c later : C) (old new : LockedConnectionOf)
     → new ≡ old → Tells (happened c) (happened later) (told_why k cause)
     → Goes d p happened k cause most [] (spot node peers c old) (spot node peers later new)
 no_turn d p happened k cause most node peers c later old new is told =
@@ -147,7 +151,7 @@ no_turn d p happened k cause most node peers c later old new is told =
 pub took : {V U C : Type 0} (d : DeskOf V) (p : PeersOf U)
     (happened : C → Option (List Happened)) (k : ℕ) (most : ℕ) (node : V)
     (peers : U) (c later : C)
-    (old new : Guarding) (bytes : List ℕ)
+    (old new : LockedConnectionOf) (bytes : List ℕ)
     → old.output ≡ bytes ++ new.output → new ≡ after_sent old (length bytes)
     → Tells (happened c) (happened later) (Took k bytes ∷ [])
     → Goes d p happened k None most [] (spot node peers c old) (spot node peers later new)
@@ -159,8 +163,8 @@ took d p happened k most node peers c later old new bytes parts is told = (
     follow =
         (_, (parts, is, record { seen = refl; outside = refl }), refl);
     told = told;
-    home = ap (λ (t : Guarding). t.talk.home) is;
-    wire = ap (λ (t : Guarding). t.talk.wire) is;
+    home = ap (λ (t : LockedConnectionOf). t.talk.home) is;
+    wire = ap (λ (t : LockedConnectionOf). t.talk.wire) is;
   },
 )
 
@@ -176,17 +180,17 @@ same_talk old new is = record {
   wire = ap (λ (t : Talk). t.wire) is;
 }
 
-after_piece : (piece : List ℕ) (old new : Guarding) → Receives piece old new
+after_piece : (piece : List ℕ) (old new : LockedConnectionOf) → Receives piece old new
     → IsSameDesks old.talk new.talk
 after_piece piece old new (inl h) = same_talk old.talk new.talk h.talk
 after_piece piece old new (inr h) = record { home = h.1.talk.0.home; wire = h.1.talk.0.wire }
 
-after_waits : (served : Talk) (old new : Guarding) → Answers served old new
+after_waits : (served : Talk) (old new : LockedConnectionOf) → Answers served old new
     → new.talk.waiting ≡ served.waiting
 after_waits served old new (inl h) = ap (λ (t : Talk). t.waiting) h.talk
 after_waits served old new (inr h) = ap (λ (t : Talk). t.waiting) h.talk
 
-after_answer : (served : Talk) (old new : Guarding) → Answers served old new
+after_answer : (served : Talk) (old new : LockedConnectionOf) → Answers served old new
     → IsSameDesks served new.talk
 after_answer served old new (inl h) = same_talk served new.talk h.talk
 after_answer served old new (inr h) = record {
@@ -197,7 +201,7 @@ after_answer served old new (inr h) = record {
 pub came : {V U C : Type 0} (d : DeskOf V) (p : PeersOf U)
     (happened : C → Option (List Happened)) (k : ℕ) (node : V) (peers : U)
     (c later : C)
-    (old new : Guarding) (piece : List ℕ)
+    (old new : LockedConnectionOf) (piece : List ℕ)
     → WantsRead old → Receives piece old new
     → Tells (happened c) (happened later) (Gave k piece ∷ [])
     → Goes d p happened k None 1 [] (spot node peers c old) (spot node peers later new)
@@ -214,8 +218,9 @@ came d p happened k node peers c later old new piece wants reads told = (
   },
 )
 
-same_home : (old new : Guarding) → Rests old new → IsSameDesks old.talk new.talk
-same_home old new (inl h) = same_talk old.talk new.talk (ap (λ (g : Guarding). g.talk) h.1)
+same_home : (old new : LockedConnectionOf) → Rests old new → IsSameDesks old.talk new.talk
+same_home old new (inl h) = same_talk old.talk new.talk
+    (ap (λ (g : LockedConnectionOf). g.talk) h.1)
 same_home old new (inr h) = record {
   home = ap (λ (t : Talk). t.home) h.talk.ends;
   wire = ap (λ (t : Talk). t.wire) h.talk.ends;
@@ -224,7 +229,7 @@ same_home old new (inr h) = record {
 -- the frame that is begun, if one is
 abbrev pub begun_by : {V U : Type 0} (d : DeskOf V) (p : PeersOf U)
     (differs : Option Difference) (went : Bool) (node next : V)
-    (peers more : U) (old new : Guarding)
+    (peers more : U) (old new : LockedConnectionOf)
     → Advances d p differs went (moment node peers old) (moment next more new) → List Begun
 begun_by d p differs true node next peers more old new h = h.2.0 ∷ []
 begun_by d p differs false node next peers more old new h = []
@@ -232,7 +237,7 @@ begun_by d p differs false node next peers more old new h = []
 pub advanced : {V U C : Type 0} (d : DeskOf V) (p : PeersOf U)
     (happened : C → Option (List Happened)) (k : ℕ) (most : ℕ) (differs : Option Difference)
     (went : Bool) (node next : V)
-    (peers more : U) (c : C) (old new : Guarding)
+    (peers more : U) (c : C) (old new : LockedConnectionOf)
     → (h : Advances d p differs went (moment node peers old) (moment next more new))
     → Goes d p happened k None most (begun_by d p differs went node next peers more old new h)
     (spot node peers c old) (spot next more c new)
@@ -276,14 +281,14 @@ advanced d p happened k most differs false node next peers more c old new h = (
 -- a frame that is begun is the one that was asked about
 is_asked : {V U : Type 0} (d : DeskOf V) (p : PeersOf U) (differs : Option Difference)
     (node next : V) (peers more : U)
-    (old new : Guarding)
+    (old new : LockedConnectionOf)
     (h : Advances d p differs true (moment node peers old) (moment next more new))
     → is_dear h.2.0.frame.what ≡ true → IsDear old
 is_asked d p differs node next peers more old new h is =
     record { free = h.0; next = ap dear_next h.2.1.next ∙ is }
 
 -- where one is asked about, it is begun
-is_begun : (old new : Guarding) → IsDear old → Rests old new → ⊥
+is_begun : (old new : LockedConnectionOf) → IsDear old → Rests old new → ⊥
 is_begun old new dear (inl h) = h.0 dear.free
 is_begun old new dear (inr h) =
     let n : false ≡ true = sym (ap dear_next h.talk.served) ∙ dear.next in absurd cc
@@ -291,7 +296,7 @@ is_begun old new dear (inr h) =
 -- a frame was begun, or none, that asks for nothing dear
 pub shares_cheap : {V U : Type 0} (d : DeskOf V) (p : PeersOf U) (differs : Option Difference)
     (went : Bool) (node next : V)
-    (peers more : U) (old new : Guarding) (spent : Bool)
+    (peers more : U) (old new : LockedConnectionOf) (spent : Bool)
     (h : Advances d p differs went (moment node peers old) (moment next more new))
     → (IsDear old → ⊥)
     → SharesLast (begun_by d p differs went node next peers more old new h) spent spent
@@ -306,7 +311,7 @@ shares_cheap d p differs true node next peers more old new spent h cheap =
 -- one that does was begun, where none was before in this round
 pub shares_dear : {V U : Type 0} (d : DeskOf V) (p : PeersOf U) (differs : Option Difference)
     (went : Bool) (node next : V)
-    (peers more : U) (old new : Guarding) (spent later : Bool)
+    (peers more : U) (old new : LockedConnectionOf) (spent later : Bool)
     (h : Advances d p differs went (moment node peers old) (moment next more new))
     → IsDear old → spent ≡ false → later ≡ true
     → SharesLast (begun_by d p differs went node next peers more old new h) spent later
@@ -317,7 +322,7 @@ shares_dear d p differs true node next peers more old new spent later h dear fre
     (sym (sym (ap dear_next h.2.1.next) ∙ dear.next)) (fresh, used)
 
 -- where no frame is begun any more, all that came is served, or it is done
-unfree : (fed : Bool) (out : List ℕ) (g : Guarding) → g.starved ≡ fed → g.output ≡ out
+unfree : (fed : Bool) (out : List ℕ) (g : LockedConnectionOf) → g.starved ≡ fed → g.output ≡ out
     → (IsFree g → ⊥) → SettledOrDone g
 unfree fed (x ∷ xs) g starved is busy =
     inl (inl (λ e. let n : [] ≡ x ∷ xs = sym e ∙ is in absurd cc))
@@ -330,14 +335,14 @@ unfree false [] g starved is busy =
     })
 
 -- what is let in of the stream is served, and more may be let in, or not
-run_dry : (shut : Bool) (g : Guarding) → is_over g.called ≡ shut → g.starved ≡ false
+run_dry : (shut : Bool) (g : LockedConnectionOf) → is_over g.called ≡ shut → g.starved ≡ false
     → g.output ≡ [] → Turns.WantsRead g.talk → SettledOrDone g
 run_dry true g is fed taken wants =
     inr (record { over = inr (inr (is, wants)); taken = taken })
 run_dry false g is fed taken wants =
     inl (inr (record { fed = fed; taken = taken; hears = is; served = wants }))
 
-run_out : (f : Option WireFault) (old : Guarding) (new : Talk) → old.talk.stream.fault ≡ f
+run_out : (f : Option WireFault) (old : LockedConnectionOf) (new : Talk) → old.talk.stream.fault ≡ f
     → old.starved ≡ false → old.output ≡ [] → Turns.RunsOut old.talk new
     → SettledOrDone (record old { talk = new })
 run_out None old new is fed taken h =
@@ -360,18 +365,18 @@ run_out (Some e) old new is fed taken h =
     some_not : broken_by (Some e) ≡ None → ⊥
     some_not n = absurd cc
 
-pub at_rest : (old new : Guarding) → Rests old new → SettledOrDone new
+pub at_rest : (old new : LockedConnectionOf) → Rests old new → SettledOrDone new
 at_rest old new (inl h) =
-    subst (λ (g : Guarding). SettledOrDone g) (sym h.1)
+    subst (λ (g : LockedConnectionOf). SettledOrDone g) (sym h.1)
     (unfree old.starved old.output old refl refl h.0)
 at_rest old new (inr h) =
-    subst (λ (g : Guarding). SettledOrDone g) (sym h.same)
+    subst (λ (g : LockedConnectionOf). SettledOrDone g) (sym h.same)
     (run_out old.talk.stream.fault old new.talk refl h.free.fed h.free.taken h.talk)
 
 pub after_send : {V U C : Type 0} (d : DeskOf V) (p : PeersOf U)
     (happened : C → Option (List Happened)) (k : ℕ) (most : ℕ) (ok : Bool)
     (node : V) (peers : U)
-    (c later : C) (old new : Guarding)
+    (c later : C) (old new : LockedConnectionOf)
     → Sends happened k ok c later old new
     → Goes d p happened k (broken ok) most [] (spot node peers c old) (spot node peers later new)
 after_send d p happened k most true node peers c later old new (inl h) =
@@ -382,9 +387,9 @@ after_send d p happened k most false node peers c later old new h =
     no_turn d p happened k (Some why.Broke) most node peers c later old new h.0 h.1
 
 pub after_read : {V U C : Type 0} (d : DeskOf V) (p : PeersOf U)
-    (happened : C → Option (List Happened)) (k : ℕ) (cause : Option Why)
+    (happened : C → Option (List Happened)) (k : ℕ) (cause : Option EndReason)
     (node : V) (peers : U)
-    (c later : C) (old new : Guarding)
+    (c later : C) (old new : LockedConnectionOf)
     → WantsRead old → Reads happened k cause c later old new
     → Goes d p happened k cause 1 [] (spot node peers c old) (spot node peers later new)
 after_read d p happened k None node peers c later old new wants (inl h) =
@@ -395,9 +400,9 @@ after_read d p happened k (Some w) node peers c later old new wants h =
     no_turn d p happened k (Some w) 1 node peers c later old new h.0 h.1
 
 pub after_move : {V U C : Type 0} (d : DeskOf V) (p : PeersOf U)
-    (happened : C → Option (List Happened)) (k : ℕ) (cause : Option Why)
+    (happened : C → Option (List Happened)) (k : ℕ) (cause : Option EndReason)
     (node : V) (peers : U)
-    (c later : C) (old new : Guarding)
+    (c later : C) (old new : LockedConnectionOf)
     → Moves happened k cause c later old new
     → Goes d p happened k cause 1 [] (spot node peers c old) (spot node peers later new)
 after_move d p happened k cause node peers c later old new (inl h) =
@@ -410,8 +415,8 @@ after_move d p happened k cause node peers c later old new (inr (inr h)) =
     (sym h.0) (no_turn d p happened k None 1 node peers c later old new h.1 h.2)
 
 -- why it is ended, where a write or a read ends it
-pub move_ends : {C : Type 0} (happened : C → Option (List Happened)) (k : ℕ) (w : Why)
-    (c later : C) (old new : Guarding)
+pub move_ends : {C : Type 0} (happened : C → Option (List Happened)) (k : ℕ) (w : EndReason)
+    (c later : C) (old new : LockedConnectionOf)
     → Moves happened k (Some w) c later old new → IsFate (Some w) new
 move_ends happened k w c later old new (inl h) = by_break h.0 h.1
   where
@@ -428,7 +433,8 @@ fresh_of : (s b : Bool) → true ≡ not (s || b) → s ≡ false
 fresh_of true b is = absurd cc
 fresh_of false b is = refl
 
-pub may_by : (number : ℕ) (has_key : Bool) (old new : DearTurns) (result : Bool) (c : Guarding)
+pub may_by : (number : ℕ) (has_key : Bool) (old new : DearTurns) (result : Bool)
+    (c : LockedConnectionOf)
     → IsDear c → result ≡ is_next number has_key old → new ≡ asked number has_key old
     → MayShare result c old.spent new.spent
 may_by number has_key old new true c dear is after =
@@ -445,12 +451,13 @@ may_by number has_key old new false c dear is after = (
       ∙ ap (λ b. (if b then answered number old else put_off has_key old).spent) (sym is),
 )
 
-pub may_cheap : (c : Guarding) (spent : Bool) → (IsTrue false ↔ IsDear c)
+pub may_cheap : (c : LockedConnectionOf) (spent : Bool) → (IsTrue false ↔ IsDear c)
     → MayShare true c spent spent
 may_cheap c spent h = inl (λ dear. let n : false ≡ true = h.1 dear in absurd cc, refl)
 
 -- why no frame is begun
-stays_off : (off : Bool) (home : Home) (x : Seen) (time : ℕ) (c : Guarding) (old new : Notes)
+stays_off : (off : Bool) (home : Home) (x : Seen) (time : ℕ) (c : LockedConnectionOf)
+    (old new : Notes)
     (spent later : Bool) → PutsOff off home x time c old new
     → ((off ≡ true) × (false ≡ false) × (later ≡ spent))
     ⊎ ((off ≡ false) × MayShare false c spent later)
@@ -462,25 +469,28 @@ stays_off false home x time c old new spent later p (inl h) =
     let n : false ≡ true = h.0 in absurd cc
 stays_off false home x time c old new spent later p (inr h) = (h.1.1, inl h.1.0)
 
-off_known : (off : Bool) (home : Home) (x : Seen) (time : ℕ) (c : Guarding) (old new : Notes)
+off_known : (off : Bool) (home : Home) (x : Seen) (time : ℕ) (c : LockedConnectionOf)
+    (old new : Notes)
     → PutsOff off home x time c old new → new.known ≡ old.known
 off_known true home x time c old new p = p.2
 off_known false home x time c old new p = p.2
 
 -- what was told is as before
-pub may_known : (may : Bool) (home : Home) (x : Seen) (time : ℕ) (c : Guarding) (old new : Notes)
+pub may_known : (may : Bool) (home : Home) (x : Seen) (time : ℕ) (c : LockedConnectionOf)
+    (old new : Notes)
     (spent later : Bool) → MayBegin may home x time c old new spent later
     → new.known ≡ old.known
 may_known may home x time c old new spent later h = off_known h.0 home x time c old new h.1
 
 -- where one may be begun
-record MayGo (home : Home) (x : Seen) (time : ℕ) (c : Guarding) (old new : Notes)
+record MayGo (home : Home) (x : Seen) (time : ℕ) (c : LockedConnectionOf) (old new : Notes)
     (spent later : Bool) : Type 0 where
   due : puts_off home x c time old ≡ false
   until : new.until ≡ None
   shares : MayShare true c spent later
 
-goes_by : (off : Bool) (home : Home) (x : Seen) (time : ℕ) (c : Guarding) (old new : Notes)
+goes_by : (off : Bool) (home : Home) (x : Seen) (time : ℕ) (c : LockedConnectionOf)
+    (old new : Notes)
     (spent later : Bool) → PutsOff off home x time c old new
     → ((off ≡ true) × (true ≡ false) × (later ≡ spent))
     ⊎ ((off ≡ false) × MayShare true c spent later)
@@ -494,7 +504,7 @@ goes_by false home x time c old new spent later p (inl h) =
 goes_by false home x time c old new spent later p (inr h) =
     record { due = p.0; until = p.1; shares = h.1 }
 
-may_go : (home : Home) (x : Seen) (time : ℕ) (c : Guarding) (old new : Notes)
+may_go : (home : Home) (x : Seen) (time : ℕ) (c : LockedConnectionOf) (old new : Notes)
     (spent later : Bool) → MayBegin true home x time c old new spent later
     → MayGo home x time c old new spent later
 may_go home x time c old new spent later h =
@@ -502,9 +512,9 @@ may_go home x time c old new spent later h =
 
 pub put_off_serves : {V U C : Type 0} (d : DeskOf V) (p : PeersOf U)
     (happened : C → Option (List Happened)) (k time : ℕ) (spent later : Bool) (old new : Notes)
-    (node : V) (peers : U) (c : C) (talk : Guarding)
+    (node : V) (peers : U) (c : C) (talk : LockedConnectionOf)
     → MayBegin false (d.home_of node) (d.seen node) time talk old new spent later
-    → ServesOne d p happened k time None spent later old new (spot node peers c talk)
+    → ServesOne d p happened k time None false spent later old new (spot node peers c talk)
     (spot node peers c talk)
 put_off_serves d p happened k time spent later old new node peers c talk h =
     let off =
@@ -514,10 +524,12 @@ put_off_serves d p happened k time spent later old new node peers c talk h =
       off.0,
       tt,
       inr off.1,
+      tt,
     )
 
 shares_next : {V U : Type 0} (d : DeskOf V) (p : PeersOf U) (differs : Option Difference)
-    (went : Bool) (node next : V) (peers more : U) (old new : Guarding) (spent later : Bool)
+    (went : Bool) (node next : V) (peers more : U) (old new : LockedConnectionOf)
+    (spent later : Bool)
     (h : Advances d p differs went (moment node peers old) (moment next more new))
     → MayShare true old spent later
     → SharesLast (begun_by d p differs went node next peers more old new h) spent later
@@ -529,13 +541,13 @@ shares_next d p differs went node next peers more old new spent later h (inr may
     shares_dear d p differs went node next peers more old new spent later h may.0 may.1 may.2
 
 -- no frame is to be begun
-pub rest_serves : {V U C : Type 0} (d : DeskOf V) (p : PeersOf U)
+rest_serves : {V U C : Type 0} (d : DeskOf V) (p : PeersOf U)
     (happened : C → Option (List Happened)) (k time : ℕ) (differs : Option Difference)
     (spent later : Bool) (notes after : Notes) (node next : V)
-    (peers more : U) (c : C) (old new : Guarding)
+    (peers more : U) (c : C) (old new : LockedConnectionOf)
     → MayBegin true (d.home_of node) (d.seen node) time old notes after spent later
     → Advances d p differs false (moment node peers old) (moment next more new)
-    → ServesOne d p happened k time None spent later notes after (spot node peers c old)
+    → ServesOne d p happened k time None false spent later notes after (spot node peers c old)
     (spot next more c new)
 rest_serves d p happened k time differs spent later notes after node next peers more c old new may
     h =
@@ -545,10 +557,11 @@ rest_serves d p happened k time differs spent later notes after node next peers 
       shares_next d p differs false node next peers more old new spent later h go.shares,
       tt,
       inl (at_rest old new h.2),
+      tt,
     )
 
 -- a frame that is not put off is due, if it is an Await
-due_by : (x : Seen) (time : ℕ) (until : Option ℕ) (a : Option Awaited)
+due_by : (x : Seen) (time : ℕ) (until : Option ℕ) (a : Option AwaitRequest)
     → off_by x a time until ≡ false → IsDueFrame x time until a
 due_by x time until None h = tt
 due_by x time until (Some a) h = by_not (is_due x a (until_of a time until) time) h
@@ -557,7 +570,8 @@ due_by x time until (Some a) h = by_not (is_due x a (until_of a time until) time
     by_not true n = refl
     by_not false n = absurd cc
 
-due_next : (home : Home) (x : Seen) (time : ℕ) (notes : Notes) (c : Guarding) (frame : Frame)
+due_next : (home : Home) (x : Seen) (time : ℕ) (notes : Notes) (c : LockedConnectionOf)
+    (frame : Frame)
     → home ≡ c.talk.home → next_of c ≡ Some frame → puts_off home x c time notes ≡ false
     → IsDueFrame x time notes.until (awaited_by c.talk.home frame)
 due_next home x time notes c frame same next h =
@@ -565,25 +579,22 @@ due_next home x time notes c frame same next h =
     (subst (λ z. off_by x (awaited_by z frame) time notes.until ≡ false) same
     (subst (λ z. off_by x (awaited_of home z) time notes.until ≡ false) next h))
 
--- one is begun, and then what is to be sent is offered, or nothing is
-pub next_serves : {V U C : Type 0} (d : DeskOf V) (p : PeersOf U)
+-- one is begun
+next_serves : {V U C : Type 0} (d : DeskOf V) (p : PeersOf U)
     (happened : C → Option (List Happened)) (k time : ℕ) (differs : Option Difference)
-    (cause : Option Why) (spent later : Bool) (notes after : Notes)
-    (node next : V) (peers more : U) (c last : C) (old mid new : Guarding)
+    (spent later : Bool) (notes after : Notes) (node next : V) (peers more : U) (c : C)
+    (old new : LockedConnectionOf)
     → d.home_of node ≡ old.talk.home
     → MayBegin true (d.home_of node) (d.seen node) time old notes after spent later
-    → Advances d p differs true (moment node peers old) (moment next more mid)
-    → Goes d p happened k cause 0 [] (spot next more c mid) (spot next more last new)
-    → ServesOne d p happened k time cause spent later notes after (spot node peers c old)
-    (spot next more last new)
-next_serves d p happened k time differs cause spent later notes after node next peers more c last
-    old mid new home may h goes =
+    → Advances d p differs true (moment node peers old) (moment next more new)
+    → ServesOne d p happened k time None true spent later notes after (spot node peers c old)
+    (spot next more c new)
+next_serves d p happened k time differs spent later notes after node next peers more c old new home
+    may h =
     let go = may_go (d.home_of node) (d.seen node) time old notes after spent later may in (
       h.2.0 ∷ [],
-      goes_both d p happened k cause 0 0 (h.2.0 ∷ []) [] (spot node peers c old)
-          (spot next more c mid) (spot next more last new)
-          (advanced d p happened k 0 differs true node next peers more c old mid h) goes,
-      shares_next d p differs true node next peers more old mid spent later h go.shares,
+      advanced d p happened k 0 differs true node next peers more c old new h,
+      shares_next d p differs true node next peers more old new spent later h go.shares,
       (
         h.0,
         (
@@ -593,13 +604,33 @@ next_serves d p happened k time differs cause spent later notes after node next 
         ),
       ),
       tt,
+      tt,
     )
+
+-- and so it is told
+pub one_serves : {V U C : Type 0} (d : DeskOf V) (p : PeersOf U)
+    (happened : C → Option (List Happened)) (k time : ℕ) (differs : Option Difference)
+    (went : Bool) (spent later : Bool) (notes after : Notes) (node next : V) (peers more : U)
+    (c : C) (old new : LockedConnectionOf)
+    → d.home_of node ≡ old.talk.home
+    → MayBegin true (d.home_of node) (d.seen node) time old notes after spent later
+    → Advances d p differs went (moment node peers old) (moment next more new)
+    → ServesOne d p happened k time None went spent later notes after (spot node peers c old)
+    (spot next more c new)
+one_serves d p happened k time differs true spent later notes after node next peers more c old new
+    home may h =
+    next_serves d p happened k time differs spent later notes after node next peers more c old new
+    home may h
+one_serves d p happened k time differs false spent later notes after node next peers more c old new
+    home may h =
+    rest_serves d p happened k time differs spent later notes after node next peers more c old new
+    may h
 
 -- ---- messages of desks are served before it
 
 pub hears_none : {V U C : Type 0} (d : DeskOf V) (p : PeersOf U)
     (happened : C → Option (List Happened)) (k : ℕ) (known : List ℕ) (differs : Option Difference)
-    (node : V) (peers : U) (c : C) (talk : Guarding)
+    (node : V) (peers : U) (c : C) (talk : LockedConnectionOf)
     → HearsDesks d p happened k (ears (d.seen node) known differs) known differs
     (spot node peers c talk) (spot node peers c talk)
 hears_none d p happened k known differs node peers c talk = (
@@ -619,13 +650,13 @@ heard_last : (home : Home) (e : Ears) (xs : List Begun) (one : Begun)
 heard_last home e [] one = refl
 heard_last home e (x ∷ xs) one = heard_last home (hear home e x) xs one
 
-never_rests : (old new : Guarding) → HearsDesk old → Rests old new → ⊥
+never_rests : (old new : LockedConnectionOf) → HearsDesk old → Rests old new → ⊥
 never_rests old new hears (inl r) = r.0 hears.free
 never_rests old new hears (inr r) =
     let n : false ≡ true = sym (ap message_next r.talk.served) ∙ hears.next in absurd cc
 
 -- where a frame may be begun after one, that one left the connection open
-still_open : (served : Talk) (old new : Guarding) → Answers served old new → IsFree new
+still_open : (served : Talk) (old new : LockedConnectionOf) → Answers served old new → IsFree new
     → served.end ≡ None
 still_open served old new (inl h) free =
     let n : true ≡ false = sym h.starved ∙ free.fed in absurd cc
@@ -633,12 +664,12 @@ still_open served old new (inr h) free =
     sym (ap (λ (t : Talk). t.end) h.talk) ∙ free.unended
 
 seen_then : {V U : Type 0} (d : DeskOf V) (p : PeersOf U) (differs : Option Difference)
-    (node next : V) (peers more : U) (old new : Guarding)
+    (node next : V) (peers more : U) (old new : LockedConnectionOf)
     (h : Advances d p differs true (moment node peers old) (moment next more new))
     → IsFree new → d.seen next ≡ (serve_frame old.talk.home (d.seen node) h.2.0).seen
 seen_then d p differs node next peers more old new h free =
     (subst
-    (λ (e : Option End). Turns.LeavesAt e old.talk.home
+    (λ (e : Option ConnectionEnd). Turns.LeavesAt e old.talk.home
     (Turns.sides_at d p old.talk.wire (Turns.moment node peers old.talk))
     (Turns.sides_at d p old.talk.wire (Turns.moment next more h.1)) h.2.0 h.1.frames)
     (still_open h.1 old new h.3 free) h.2.2).0.node
@@ -649,7 +680,7 @@ record HeardOne (home : Home) (e : Ears) (one : Begun) (known : List ℕ)
   lengths : known ≡ (hear home e one).known
   first : differs ≡ (hear home e one).differs
 
-heard_one : (home : Home) (x : Seen) (c : Guarding) (notes after : Notes)
+heard_one : (home : Home) (x : Seen) (c : LockedConnectionOf) (notes after : Notes)
     (differs later : Option Difference) (e : Ears) (one : Begun)
     → next_of c ≡ Some one.frame → one.may ≡ permission_of c.called.doors (caller_of c.called)
     → x ≡ e.seen → notes.known ≡ e.known → differs ≡ e.differs
@@ -682,12 +713,12 @@ heard_one home x c notes after differs later e one next may seen known was liste
           (differs_by home one.may e.seen.desk.log e.known one.frame)) was;
     }
 
-until_kept : (home : Home) (c : Guarding) (notes : Notes) (next : Option Frame)
+until_kept : (home : Home) (c : LockedConnectionOf) (notes : Notes) (next : Option Frame)
     → (listened_to home c notes next).until ≡ notes.until
 until_kept home c notes None = refl
 until_kept home c notes (Some f) = refl
 
-pub until_same : (home : Home) (c : Guarding) (notes after : Notes)
+pub until_same : (home : Home) (c : LockedConnectionOf) (notes after : Notes)
     → after ≡ listened home c notes → after.until ≡ notes.until
 until_same home c notes after is =
     ap (λ (n : Notes). n.until) is ∙ until_kept home c notes (next_of c)
@@ -695,7 +726,7 @@ until_same home c notes after is =
 pub hears_more : {V U C : Type 0} (d : DeskOf V) (p : PeersOf U)
     (happened : C → Option (List Happened)) (k : ℕ) (e : Ears) (went : Bool) (a : Spot V U C)
     (notes after : Notes) (differs later : Option Difference) (node next : V) (peers more : U)
-    (c : C) (old new : Guarding)
+    (c : C) (old new : LockedConnectionOf)
     → d.home_of node ≡ a.talk.talk.home
     → HearsDesks d p happened k e notes.known differs a (spot node peers c old) → HearsDesk old
     → after ≡ listened (d.home_of node) old notes
@@ -740,7 +771,7 @@ fewer_wait w v frame is =
     omega (arith, counted)
 
 pub hears_fewer : {V U : Type 0} (d : DeskOf V) (p : PeersOf U) (differs : Option Difference)
-    (went : Bool) (node next : V) (peers more : U) (old new : Guarding) → HearsDesk old
+    (went : Bool) (node next : V) (peers more : U) (old new : LockedConnectionOf) → HearsDesk old
     → Advances d p differs went (moment node peers old) (moment next more new)
     → length new.talk.waiting < length old.talk.waiting
 hears_fewer d p differs true node next peers more old new hears h =
@@ -750,7 +781,7 @@ hears_fewer d p differs false node next peers more old new hears h =
     absurd (never_rests old new hears h.2)
 
 due_after : (home : Home) (x y : Seen) (time : ℕ) (same : Home) (until was : Option ℕ)
-    (c : Guarding) (last : List Begun) → same ≡ home → until ≡ was → (IsFree c → x ≡ y)
+    (c : LockedConnectionOf) (last : List Begun) → same ≡ home → until ≡ was → (IsFree c → x ≡ y)
     → BeginsDue same x time until c last → AreDue home y time was last
 due_after home x y time same until was c [] place moment at h = tt
 due_after home x y time same until was c (one ∷ more) place moment at h =
@@ -759,14 +790,16 @@ due_after home x y time same until was c (one ∷ more) place moment at h =
     (subst (λ z. AreDue same z time until (one ∷ more)) (at h.0) h.1))
 
 pub hears_then : {V U C : Type 0} (d : DeskOf V) (p : PeersOf U)
-    (happened : C → Option (List Happened)) (k time : ℕ) (cause : Option Why) (spent later : Bool)
-    (notes mid new : Notes) (differs after : Option Difference) (a m b : Spot V U C)
+    (happened : C → Option (List Happened)) (k time : ℕ) (cause : Option EndReason)
+    (served spent later : Bool) (notes mid new : Notes) (differs after : Option Difference)
+    (a m b : Spot V U C)
     → mid.until ≡ notes.until → new.known ≡ mid.known
     → HearsDesks d p happened k (ears (d.seen a.node) notes.known differs) mid.known after a m
-    → ServesOne d p happened k time cause spent later mid new m b
-    → ServesNext d p happened k time cause (beside spent notes differs) (beside later new after)
-    a b
-hears_then d p happened k time cause spent later notes mid new differs after a m b until known h g =
+    → ServesOne d p happened k time cause served spent later mid new m b
+    → ServesNext d p happened k time cause served (beside spent notes differs)
+    (beside later new after) a b
+hears_then d p happened k time cause served spent later notes mid new differs after a m b until
+    known h g =
     let shares : Shares (h.0 ++ g.0) spent later =
     record { messages = h.0; last = g.0; all = refl; heard = h.2; shares = g.2 } in (
       h.0 ++ g.0,
@@ -780,28 +813,95 @@ hears_then d p happened k time cause spent later notes mid new differs after a m
             m.talk.talk.home mid.until notes.until m.talk g.0 h.1.1.home until h.4 g.3;
       },
       g.4,
+      g.5,
     )
+
+-- ---- with a client, of which nothing was told meanwhile
+
+told_nothing : (k : ℕ) (turns : List Turn) (before : List Happened)
+    → Tells (Some before) (Some before) (told_turns k turns ++ told_why k None)
+    → before ≡ before ++ (told_turns k turns ++ told_why k None)
+told_nothing k turns before h = h
+
+pub serves_beside : {V U C : Type 0} (d : DeskOf V) (p : PeersOf U)
+    (happened : C → Option (List Happened)) (k time : ℕ) (served : Bool) (was at : Beside)
+    (node next : V) (peers more : U) (c : C) (old new : LockedConnectionOf)
+    → ServesNext d p Some k time None served was at (spot node peers [] old)
+    (spot next more [] new)
+    → ServesNext d p happened k time None served was at (spot node peers c old)
+    (spot next more c new)
+serves_beside d p happened k time served was at node next peers more c old new h = (
+  h.0,
+  (
+    h.1.0,
+    record {
+      few = h.1.1.few;
+      begins = h.1.1.begins;
+      follow = h.1.1.follow;
+      told =
+          Tells-as (happened c) (happened c) [] _ (told_nothing k h.1.0 [] h.1.1.told)
+          (Tells-nil (happened c));
+      home = h.1.1.home;
+      wire = h.1.1.wire;
+    },
+  ),
+  h.2,
+  h.3,
+  h.4,
+  h.5,
+)
+
+-- ---- and then what is to be sent is offered, where a frame of the client was begun
+
+left_sent : (served : Bool) (x : Seen) (time : ℕ) (last : List Begun) (old new : LockedConnectionOf)
+    (until : Option ℕ) → HasBegun served last → (served ≡ false → new ≡ old)
+    → IsLeftOrDone x time last old until → IsLeftOrDone x time last new until
+left_sent true x time [] old new until begun rests h = absurd begun
+left_sent true x time (one ∷ more) old new until begun rests h = tt
+left_sent false x time last old new until begun rests h =
+    subst (λ c. IsLeftOrDone x time last c until) (sym (rests refl)) h
+
+pub serves_sent : {V U C : Type 0} (d : DeskOf V) (p : PeersOf U)
+    (happened : C → Option (List Happened)) (k time : ℕ) (ok served : Bool) (was at : Beside)
+    (a : Spot V U C) (node : V) (peers : U) (c later : C) (talk last : LockedConnectionOf)
+    → ServesNext d p happened k time None served was at a (spot node peers c talk)
+    → Sends happened k ok c later talk last → (served ≡ false → last ≡ talk)
+    → ServesNext d p happened k time (broken ok) served was at a (spot node peers later last)
+serves_sent d p happened k time ok served was at a node peers c later talk last h sends rests = (
+  h.0,
+  subst
+      (λ z. Goes d p happened k (broken ok) 0 z a (spot node peers later last))
+      (append-nil h.0)
+      (goes_both d p happened k (broken ok) 0 0 h.0 [] a (spot node peers c talk)
+      (spot node peers later last) h.1
+      (after_send d p happened k 0 ok node peers c later talk last sends)),
+  h.2,
+  h.3,
+  left_sent served (d.seen node) time h.2.last talk last at.notes.until h.5 rests h.4,
+  h.5,
+)
 
 -- ---- whether it is done
 
-undone_is : (talk : Guarding) → SettledOrDone talk → (IsDone talk → ⊥) → Settled talk
+undone_is : (talk : LockedConnectionOf) → SettledOrDone talk → (IsDone talk → ⊥) → Settled talk
 undone_is talk (inl h) undone = h
 undone_is talk (inr h) undone = absurd (undone h)
 
-left_is : (x : Seen) (time : ℕ) (begun : List Begun) (talk : Guarding) (until : Option ℕ)
+left_is : (x : Seen) (time : ℕ) (begun : List Begun) (talk : LockedConnectionOf) (until : Option ℕ)
     → IsLeftOrDone x time begun talk until → (IsDone talk → ⊥)
     → IsLeft x time begun talk until
 left_is x time [] talk until (inl h) undone = inl (undone_is talk h undone)
 left_is x time [] talk until (inr h) undone = inr h
 left_is x time (one ∷ more) talk until h undone = tt
 
-pub not_done : (c : Guarding) (done : Bool) → (IsTrue done ↔ IsDone c) → done ≡ false → IsDone c → ⊥
+pub not_done : (c : LockedConnectionOf) (done : Bool) → (IsTrue done ↔ IsDone c) → done ≡ false
+    → IsDone c → ⊥
 not_done c done h is at = let n : false ≡ true = sym is ∙ h.1 at in absurd cc
 
 -- a write failed, or a read did, or the client has gone
 pub talk_moved : {V U C : Type 0} (d : DeskOf V) (p : PeersOf U)
-    (happened : C → Option (List Happened)) (k time : ℕ) (w : Why) (at : Beside) (node : V)
-    (peers : U) (c later : C) (old new : Guarding)
+    (happened : C → Option (List Happened)) (k time : ℕ) (w : EndReason) (at : Beside) (node : V)
+    (peers : U) (c later : C) (old new : LockedConnectionOf)
     → Moves happened k (Some w) c later old new
     → TalksOn d p happened k time (Some w) at at (spot node peers c old)
     (spot node peers later new)
@@ -819,13 +919,14 @@ talk_moved d p happened k time w at node peers c later old new h = (
 
 -- a frame was served after that, or none
 pub talk_served : {V U C : Type 0} (d : DeskOf V) (p : PeersOf U)
-    (happened : C → Option (List Happened)) (k time : ℕ) (cause : Option Why) (was at : Beside)
-    (node : V) (peers : U) (c between : C) (old mid : Guarding) (b : Spot V U C)
+    (happened : C → Option (List Happened)) (k time : ℕ) (cause : Option EndReason) (served : Bool)
+    (was at : Beside) (node : V) (peers : U) (c between : C) (old mid : LockedConnectionOf)
+    (b : Spot V U C)
     → Moves happened k None c between old mid
-    → ServesNext d p happened k time cause was at (spot node peers between mid) b
+    → ServesNext d p happened k time cause served was at (spot node peers between mid) b
     → IsFate cause b.talk
     → TalksOn d p happened k time cause was at (spot node peers c old) b
-talk_served d p happened k time cause was at node peers c between old mid b h g fate =
+talk_served d p happened k time cause served was at node peers c between old mid b h g fate =
     let moved = after_move d p happened k None node peers c between old mid h in (
       g.0,
       goes_both d p happened k cause 1 0 [] g.0 (spot node peers c old)
@@ -840,21 +941,43 @@ talk_served d p happened k time cause was at node peers c between old mid b h g 
 
 -- and all is done
 pub talk_done : {V U C : Type 0} (d : DeskOf V) (p : PeersOf U)
-    (happened : C → Option (List Happened)) (k time : ℕ) (was at : Beside)
-    (node : V) (peers : U) (c between : C) (old mid : Guarding) (b : Spot V U C)
+    (happened : C → Option (List Happened)) (k time : ℕ) (served : Bool) (was at : Beside)
+    (node : V) (peers : U) (c between : C) (old mid : LockedConnectionOf) (b : Spot V U C)
     → Moves happened k None c between old mid
-    → ServesNext d p happened k time None was at (spot node peers between mid) b
+    → ServesNext d p happened k time None served was at (spot node peers between mid) b
     → IsDone b.talk
     → TalksOn d p happened k time (Some why.Done) was at (spot node peers c old) b
-talk_done d p happened k time was at node peers c between old mid b h g done =
-    talk_served d p happened k time (Some why.Done) was at node peers c between old mid b h
-    (g.0, goes_done d p happened k 0 g.0 _ b g.1, g.2, g.3, g.4) done
+talk_done d p happened k time served was at node peers c between old mid b h g done =
+    talk_served d p happened k time (Some why.Done) served was at node peers c between old mid b h
+    (g.0, goes_as d p happened k why.Done 0 g.0 _ b refl g.1, g.2, g.3, g.4, g.5) done
+
+-- what was changed can't be settled
+pub talk_unsettled : {V U C : Type 0} (d : DeskOf V) (p : PeersOf U)
+    (happened : C → Option (List Happened)) (k time : ℕ) (served : Bool) (was at : Beside)
+    (node : V) (peers : U) (c between : C) (old mid : LockedConnectionOf) (b : Spot V U C)
+    → Moves happened k None c between old mid
+    → ServesNext d p happened k time None served was at (spot node peers between mid) b
+    → TalksOn d p happened k time (Some why.Over) was at (spot node peers c old) b
+talk_unsettled d p happened k time served was at node peers c between old mid b h g =
+    talk_served d p happened k time (Some why.Over) served was at node peers c between old mid b h
+    (g.0, goes_as d p happened k why.Over 0 g.0 _ b refl g.1, g.2, g.3, g.4, g.5) tt
+
+-- ---- what stands of a settling once a client is to be ended
+
+pub goes_on_settled : (ok : Bool) → ((ok ≡ false) ↔ (None ≡ Some why.Over)) → ok ≡ true
+goes_on_settled true h = refl
+goes_on_settled false h = let n : None ≡ Some why.Over = h.0 refl in absurd cc
+
+pub settled_so : (ok : Bool) (fate : Option EndReason) → ok ≡ true → fate ≢ Some why.Over
+    → ((ok ≡ false) ↔ (fate ≡ Some why.Over))
+settled_so true fate is other = (λ n. absurd cc, λ n. absurd (other n))
+settled_so false fate is other = absurd cc
 
 -- ---- it is asked to be named again
 
 goes_told : {V U C : Type 0} (d : DeskOf V) (p : PeersOf U)
-    (happened : C → Option (List Happened)) (k : ℕ) (cause : Option Why) (begun : List Begun)
-    (a : Spot V U C) (node : V) (peers : U) (c later : C) (talk : Guarding)
+    (happened : C → Option (List Happened)) (k : ℕ) (cause : Option EndReason) (begun : List Begun)
+    (a : Spot V U C) (node : V) (peers : U) (c later : C) (talk : LockedConnectionOf)
     → Goes d p happened k None 1 begun a (spot node peers c talk)
     → Tells (happened c) (happened later) (told_why k cause)
     → Goes d p happened k cause 1 begun a (spot node peers later talk)
@@ -866,7 +989,7 @@ goes_told d p happened k cause begun a node peers c later talk h told =
 
 pub hosts_on : {V U C : Type 0} (d : DeskOf V) (p : PeersOf U)
     (happened : C → Option (List Happened)) (k time : ℕ) (was at : Beside) (a : Spot V U C)
-    (node : V) (peers : U) (c last : C) (talk : Guarding)
+    (node : V) (peers : U) (c last : C) (talk : LockedConnectionOf)
     → TalksOn d p happened k time None was at a (spot node peers c talk)
     → Tells (happened c) (happened last) []
     → TalksOn d p happened k time None was at a (spot node peers last talk)
@@ -881,7 +1004,7 @@ hosts_on d p happened k time was at a node peers c last talk h told = (
 
 pub hosts_broken : {V U C : Type 0} (d : DeskOf V) (p : PeersOf U)
     (happened : C → Option (List Happened)) (k time : ℕ) (was at : Beside) (a : Spot V U C)
-    (node : V) (peers : U) (c last : C) (talk : Guarding)
+    (node : V) (peers : U) (c last : C) (talk : LockedConnectionOf)
     → TalksOn d p happened k time None was at a (spot node peers c talk)
     → Tells (happened c) (happened last) (told_why k (Some why.Broke))
     → TalksOn d p happened k time (Some why.Broke) was at a (spot node peers last talk)

@@ -3,11 +3,11 @@ use Rattle.std.specs.Prelude.{◌≡◌, ℕ, ◌==◌, Bool, if◌then◌else�
 use Rattle.std.specs.Prelude.{Option, None, Some, IsTrue}
 use Rattle.answers.specs.declared.desk.Desk.{Ghosts as DeskOf}
 use Rattle.store.specs.declared.home.Home.{Home}
-use Rattle.sealed.specs.declared.callers.Doors.{Doors}
-use Rattle.sealed.specs.declared.callers.Doors.TheVariants.{Locked}
-use Rattle.sealed.specs.declared.callers.Locks.{Locks}
-use Rattle.guarded.specs.Guarding.{Guarding}
-use Rattle.guarded.specs.GuardLaw.{IsGuardedStream, IsUnderHall, delivers}
+use Rattle.sealed.specs.declared.callers.Access.{Access}
+use Rattle.sealed.specs.declared.callers.Access.TheVariants.{Locked}
+use Rattle.sealed.specs.declared.callers.DeskKeys.{DeskKeys}
+use Rattle.guarded.specs.LockedConnections.{LockedConnectionOf}
+use Rattle.guarded.specs.LockedLaw.{IsGuardedStream, IsUnderHall, delivers}
 use Rattle.serving.specs.Connection.{Sides, asked}
 use Rattle.serving.specs.Making.{Way, speaking}
 use Rattle.serving.specs.OwnTicks.{unanswered}
@@ -15,10 +15,11 @@ use Rattle.connections.specs.Connections.{AreServedInTurn, IsServedOf, MakesSome
 use Rattle.connections.specs.Connections.{begun_of, served_of}
 use Rattle.multiplex.specs.Happenings.{Happened, Round, Came, Full, Named, Gave, Took, Ended, Broke}
 use Rattle.multiplex.specs.Happenings.{Closed, Failed}
-use Rattle.multiplex.specs.Passing.{Changed, Clock, IsServedEach, Room, Step, Ticked, TicksBy}
-use Rattle.multiplex.specs.Passing.{Visit, told_all}
-use Rattle.multiplex.specs.declared.ends.ServedEach.{ServedEach}
-use Rattle.multiplex.specs.declared.table.Terms.{Terms}
+use Rattle.answers.specs.Seen.{settled}
+use Rattle.multiplex.specs.Passing.{Changed, Clock, IsServedEach, Room, Settles, Step, Ticked}
+use Rattle.multiplex.specs.Passing.{TicksBy, Visit, told_all}
+use Rattle.multiplex.specs.declared.ends.ServingsOutcome.{ServingsOutcome}
+use Rattle.multiplex.specs.declared.table.ServingOptions.{ServingOptions}
 
 -- the bytes that a client gave, and those that it took, of all that happened
 abbrev pub gave : ℕ → List Happened → List ℕ
@@ -54,22 +55,25 @@ point_in a = record { seen = a.seen; outside = a.outside }
 -- ---- what was done
 
 -- in order: a frame of a client was begun, and served, or the desk gave itself a Tick, for which
--- memory was refused or was not
+-- memory was refused or was not, or what was done by then was settled, or that failed
 pub data Deed : Type 0 where
   Frame : Served → Deed
   OwnTick : Bool → Deed
+  Settling : Bool → Deed
 
 -- the frames among these, all of clients
 abbrev pub frames_in : List Deed → List Served
 frames_in [] = []
 frames_in (Frame f ∷ ds) = f ∷ frames_in ds
 frames_in (OwnTick starved ∷ ds) = frames_in ds
+frames_in (Settling ok ∷ ds) = frames_in ds
 
 -- the desk's own Ticks among these, and among steps
 abbrev pub own_ticks : List Deed → List Bool
 own_ticks [] = []
 own_ticks (Frame f ∷ ds) = own_ticks ds
 own_ticks (OwnTick starved ∷ ds) = starved ∷ own_ticks ds
+own_ticks (Settling ok ∷ ds) = own_ticks ds
 
 abbrev pub ticks_of : List Step → List Bool
 ticks_of [] = []
@@ -77,9 +81,16 @@ ticks_of (Changed c ∷ ss) = ticks_of ss
 ticks_of (Clock now ∷ ss) = ticks_of ss
 ticks_of (Ticked now starved ∷ ss) = starved ∷ ticks_of ss
 ticks_of (Visit k turns fate ∷ ss) = ticks_of ss
+ticks_of (Settles ok ∷ ss) = ticks_of ss
 
 abbrev pub sides_at : {V : Type 0} → {way : Way V} → Point way → Sides way
 sides_at p = unanswered p.seen p.outside
+
+-- the node has settled, or that failed, and the other desks were handed nothing by that
+abbrev pub SettlesTo : {V : Type 0} → {way : Way V} → Bool → Point way → Point way → Type 0
+SettlesTo {V} {way} ok a b =
+    (b.seen ≡ settled ok a.seen) × way.settles a.outside.node ok b.outside.node
+    × (b.outside.handed ≡ a.outside.handed)
 
 -- the one after the other, whichever clients the frames are of: each by the node as the one before
 -- it left the node
@@ -90,6 +101,16 @@ AreDoneInTurn {V} {way} home a (Frame f ∷ ds) b =
     (m : Point way) × AreServedInTurn home a (f ∷ []) m × AreDoneInTurn home m ds b
 AreDoneInTurn {V} {way} home a (OwnTick starved ∷ ds) b =
     (m : Point way) × TicksBy starved home (sides_at a) (sides_at m) × AreDoneInTurn home m ds b
+AreDoneInTurn {V} {way} home a (Settling ok ∷ ds) b =
+    (m : Point way) × SettlesTo ok a m × AreDoneInTurn home m ds b
+
+-- calls and pushes, with these settlings among them, that lead from the one point to the other
+abbrev pub MakesBetween : {V : Type 0} → {way : Way V} → ℕ → Point way → List Bool → Point way
+    → Type 0
+MakesBetween hall a [] b = MakesSome hall a b
+MakesBetween {V} {way} hall a (ok ∷ more) b =
+    (m : Point way) × (n : Point way) × MakesSome hall a m × SettlesTo ok m n
+    × MakesBetween hall n more b
 
 -- the random bytes that were drawn for a client, if it came
 abbrev pub came_with : ℕ → List Happened → Option (List ℕ)
@@ -112,9 +133,9 @@ came_with k (Failed ∷ hs) = came_with k hs
 -- was let in are these frames, those that wait, and a rest. What it took, and then what was still
 -- to be sent when its connection was ended, is the desk's preface, where there is one, and then
 -- what is sent of the answers to these frames, in order, and of nothing else.
-pub record IsServedBehind (home : Home) (doors : Doors) (server came sent : List ℕ)
+pub record IsServedBehind (home : Home) (doors : Access) (server came sent : List ℕ)
     (all : List Served) : Type 0 where
-  pub guard : Guarding
+  pub guard : LockedConnectionOf
   pub handed : List ℕ
   pub answers : List ℕ
   pub rest : List ℕ
@@ -122,7 +143,7 @@ pub record IsServedBehind (home : Home) (doors : Doors) (server came sent : List
   pub served : IsServedOf home handed answers all rest guard.talk
 
 -- and of one that never came nothing came
-abbrev pub IsServedClient : Home → Doors → Option (List ℕ) → List ℕ → List ℕ → List Served → Type 0
+abbrev pub IsServedClient : Home → Access → Option (List ℕ) → List ℕ → List ℕ → List Served → Type 0
 IsServedClient home doors None came sent all = (came ≡ []) × (sent ≡ []) × (all ≡ [])
 IsServedClient home doors (Some server) came sent all =
     IsServedBehind home doors server came sent all
@@ -130,18 +151,18 @@ IsServedClient home doors (Some server) came sent all =
 -- ---- the laws
 
 -- Of every serving of many clients: the frames that were begun are served and the desk's own Ticks
--- are taken one after the other, whichever clients the frames are of, and the calls of all of them
--- lead from the first node to the last. Each client is served what its own frames come to, as far
--- as it may ask, and nothing else.
+-- are taken one after the other, whichever clients the frames are of, and the calls of all of them,
+-- with what is settled between them, lead from the first node to the last. Each client is served
+-- what its own frames come to, as far as it may ask, and nothing else.
 abbrev pub EachClientIsServed : {V : Type 0} → DeskOf V → Type 0
 EachClientIsServed d =
-    (result : ServedEach) (home : Home) (t : Terms) (period : Option ℕ)
-    (a b : Room (speaking d.handles t.wire)) (before after : Option (List Happened))
+    (result : ServingsOutcome) (home : Home) (t : ServingOptions) (period : Option ℕ)
+    (a b : Room (speaking d.handles d.settles t.wire)) (before after : Option (List Happened))
     (steps : List Step)
     → IsServedEach result home t period a b before after steps
     → (deeds : List Deed)
     × AreDoneInTurn home (point_in a) deeds (point_in b)
-    × MakesSome home.hall (point_in a) (point_in b)
+    × ((settlings : List Bool) × MakesBetween home.hall (point_in a) settlings (point_in b))
     × (own_ticks deeds ≡ ticks_of steps)
     × ((k : ℕ)
     → IsServedClient home t.doors (came_with k (told_all steps)) (gave k (told_all steps))
@@ -151,7 +172,7 @@ EachClientIsServed d =
 -- one of the hall's keys, of what the client gave.
 abbrev pub EachDeliversUnderHall : Type 0
 EachDeliversUnderHall =
-    (home : Home) (locks : Locks) (server came sent : List ℕ) (earlier later : List Served)
+    (home : Home) (locks : DeskKeys) (server came sent : List ℕ) (earlier later : List Served)
     (one : Served)
     → IsServedBehind home (Locked locks) server came sent (earlier ++ one ∷ later)
     → IsTrue (delivers (asked home one.one))
@@ -160,6 +181,7 @@ EachDeliversUnderHall =
 -- without a period the desk never gives itself a Tick
 abbrev pub TicksNeedAPeriod : {V : Type 0} → DeskOf V → Type 0
 TicksNeedAPeriod d =
-    (result : ServedEach) (home : Home) (t : Terms) (a b : Room (speaking d.handles t.wire))
+    (result : ServingsOutcome) (home : Home) (t : ServingOptions)
+    (a b : Room (speaking d.handles d.settles t.wire))
     (before after : Option (List Happened)) (steps : List Step)
     → IsServedEach result home t None a b before after steps → ticks_of steps ≡ []

@@ -2,12 +2,12 @@
 use Rattle.std.specs.Prelude.{ℕ, Bool, true, false, List, [], ◌∷◌, take}
 use Rattle.polled.specs.declared.answers.Ready.{Ready}
 use Rattle.polled.specs.declared.answers.Ready.TheVariants as ready_is
-use Rattle.multiplex.specs.declared.clients.Accepted.{Accepted}
-use Rattle.multiplex.specs.declared.clients.Accepted.TheVariants as accepted_is
-use Rattle.polled.specs.declared.answers.Given.{Given}
-use Rattle.polled.specs.declared.answers.Given.TheVariants as given_is
-use Rattle.polled.specs.declared.answers.Taken.{Taken}
-use Rattle.polled.specs.declared.answers.Taken.TheVariants as taken_is
+use Rattle.multiplex.specs.declared.clients.AcceptedClient.{AcceptedClient}
+use Rattle.multiplex.specs.declared.clients.AcceptedClient.TheVariants as accepted_is
+use Rattle.polled.specs.declared.answers.ReadOutcome.{ReadOutcome}
+use Rattle.polled.specs.declared.answers.ReadOutcome.TheVariants as given_is
+use Rattle.polled.specs.declared.answers.WriteOutcome.{WriteOutcome}
+use Rattle.polled.specs.declared.answers.WriteOutcome.TheVariants as taken_is
 
 -- A client is named by the number under which it was accepted.
 pub data Happened : Type 0 where
@@ -36,20 +36,20 @@ ready (ready_is.Peer k) = Named k ∷ []
 ready (ready_is.Round now) = Round now ∷ []
 ready ready_is.Failed = Failed ∷ []
 
-abbrev pub accepted : ℕ → Accepted → List Happened
+abbrev pub accepted : ℕ → AcceptedClient → List Happened
 accepted k (accepted_is.Came random) = Came k random ∷ []
 accepted k accepted_is.Nobody = []
 accepted k accepted_is.Full = Full ∷ []
 
 -- the bytes that were read are first in the buffer
-abbrev pub given : ℕ → Given → List ℕ → List Happened
+abbrev pub given : ℕ → ReadOutcome → List ℕ → List Happened
 given k (given_is.Bytes count) buffer = Gave k (take count buffer) ∷ []
 given k given_is.Later buffer = []
 given k given_is.Ended buffer = Ended k ∷ []
 given k given_is.Broke buffer = Broke k ∷ []
 
 -- the bytes that were taken are first among those that were given
-abbrev pub taken : ℕ → Taken → List ℕ → List Happened
+abbrev pub taken : ℕ → WriteOutcome → List ℕ → List Happened
 taken k (taken_is.Bytes count) bytes = Took k (take count bytes) ∷ []
 taken k taken_is.Later bytes = []
 taken k taken_is.Broke bytes = Broke k ∷ []

@@ -3,7 +3,7 @@ use Rattle.std.specs.Prelude.{◌≡◌, ◌≢◌, ◌⊎◌, ◌≤◌, ◌<�
 use Rattle.std.specs.Prelude.{Option, None, Some, Bool, true, false, IfSome, ◌↔◌}
 use Rattle.std.specs.List.{AllByRecursion}
 use Rattle.answers.specs.Seen.{Seen}
-use Rattle.guarded.specs.Guarding.{Guarding, WantsRead, begun}
+use Rattle.guarded.specs.LockedConnections.{LockedConnectionOf, WantsRead, begun}
 use Rattle.multiplex.specs.Dear.{fresh_dear}
 use Rattle.multiplex.specs.Noting.{awakes}
 use Rattle.store.specs.declared.home.Home.{Home}
@@ -12,17 +12,17 @@ use Rattle.multiplex.specs.Requests.{Request, Waited, Accepting, Reading, Writin
 use Rattle.multiplex.specs.Requests.{Closing}
 use Rattle.polled.specs.declared.answers.Ready.{Ready}
 use Rattle.polled.specs.declared.answers.Ready.TheVariants as ready_is
-use Rattle.multiplex.specs.declared.clients.Accepted.{Accepted}
-use Rattle.multiplex.specs.declared.clients.Accepted.TheVariants as accepted_is
-use Rattle.polled.specs.declared.answers.Given.{Given}
-use Rattle.polled.specs.declared.answers.Taken.{Taken}
-use Rattle.multiplex.specs.declared.ends.Over.{Over}
-use Rattle.multiplex.specs.declared.ends.Over.TheVariants as over_is
+use Rattle.multiplex.specs.declared.clients.AcceptedClient.{AcceptedClient}
+use Rattle.multiplex.specs.declared.clients.AcceptedClient.TheVariants as accepted_is
+use Rattle.polled.specs.declared.answers.ReadOutcome.{ReadOutcome}
+use Rattle.polled.specs.declared.answers.WriteOutcome.{WriteOutcome}
+use Rattle.multiplex.specs.declared.ends.ServingEnd.{ServingEnd}
+use Rattle.multiplex.specs.declared.ends.ServingEnd.TheVariants as over_is
 use Rattle.multiplex.specs.declared.own_ticks.OwnTicks.{OwnTicks}
 use Rattle.multiplex.specs.declared.table.Guest.{Guest}
-use Rattle.multiplex.specs.declared.table.Table.{Table}
+use Rattle.multiplex.specs.declared.table.ClientTable.{ClientTable}
 use Rattle.multiplex.specs.Silence.{waited_for}
-use Rattle.multiplex.specs.declared.table.Terms.{Terms}
+use Rattle.multiplex.specs.declared.table.ServingOptions.{ServingOptions}
 use Rattle.ticking.specs.Ticking.{Ticking, left}
 
 -- ---- how long it is waited
@@ -45,10 +45,10 @@ wait_by links own = shorter own (shorter links 1000)
 
 -- all that is to be sent to it is offered to it; or else it is read from, where all that came is
 -- served; or else nothing is asked
-abbrev pub IsMove : ℕ → Guarding → List Request → Type 0
+abbrev pub IsMove : ℕ → LockedConnectionOf → List Request → Type 0
 IsMove k c asked =
-    ((c.output ≢ []) × ((t : Taken) × (asked ≡ Writing k (length c.output) t ∷ [])))
-    ⊎ ((WantsRead c × ((g : Given) × (asked ≡ Reading k g ∷ [])))
+    ((c.output ≢ []) × ((t : WriteOutcome) × (asked ≡ Writing k (length c.output) t ∷ [])))
+    ⊎ ((WantsRead c × ((g : ReadOutcome) × (asked ≡ Reading k g ∷ [])))
     ⊎ ((c.output ≡ []) × (WantsRead c → ⊥) × (asked ≡ [])))
 
 -- all that came is served and all is sent, or an Await is put off
@@ -101,7 +101,7 @@ Attends k old new asked =
 
 -- Where the system has no socket for it, one of those that are open is let go, if there is one. It
 -- is turned away where there is no memory for it.
-abbrev pub MakesPlace : ℕ → ℕ → Accepted → List Request → Type 0
+abbrev pub MakesPlace : ℕ → ℕ → AcceptedClient → List Request → Type 0
 MakesPlace k count accepted_is.Full more =
     ((count ≡ 0) × (more ≡ [])) ⊎ ((j : ℕ) × (more ≡ Closing j ∷ []))
 MakesPlace k count (accepted_is.Came random) more = (more ≡ []) ⊎ (more ≡ Closing k ∷ [])
@@ -110,17 +110,17 @@ MakesPlace k count accepted_is.Nobody more = more ≡ []
 -- it is accepted, where this many connections are open
 abbrev pub Accepts : ℕ → ℕ → List Request → Type 0
 Accepts k count asked =
-    (a : Accepted) × (more : List Request) × (asked ≡ Accepting k a ∷ more)
+    (a : AcceptedClient) × (more : List Request) × (asked ≡ Accepting k a ∷ more)
     × MakesPlace k count a more
 
 -- where as many are open as may be, one of them is let go first, by which serving may be over
-abbrev pub Crowds : ℕ → ℕ → Option Over → List Request → Type 0
+abbrev pub Crowds : ℕ → ℕ → Option ServingEnd → List Request → Type 0
 Crowds k count over asked =
     (j : ℕ) × (more : List Request) × (asked ≡ Closing j ∷ more)
     × (((over ≢ None) × (more ≡ [])) ⊎ Accepts k (count - 1) more)
 
 -- nothing is asked where no other client is wanted
-abbrev pub Admits : Terms → Option Over → Table → List Request → Type 0
+abbrev pub Admits : ServingOptions → Option ServingEnd → ClientTable → List Request → Type 0
 Admits t over old asked =
     ((t.most ≤ old.next) × (asked ≡ []))
     ⊎ (((length old.guests.items < 512) × Accepts old.next (length old.guests.items) asked)
@@ -130,7 +130,7 @@ Admits t over old asked =
 -- ---- a round is over
 
 -- each client was ready within the time for which it is waited for
-abbrev pub NoneIsSilent : ℕ → Table → Type 0
+abbrev pub NoneIsSilent : ℕ → ClientTable → Type 0
 NoneIsSilent patience table =
     AllByRecursion
     (λ (g : Guest). table.time - g.ready ≤ waited_for patience (begun g.talk)) table.guests.items
@@ -148,18 +148,20 @@ IsWoken home x time asked g =
     → ((before : List Request) × (told : Bool) × (after : List Request)
     × (asked ≡ before ++ Watching g.number true told ∷ after))
 
--- the links are kept, those are woken whose Await is to be answered, and clients that are silent
--- for too long are let go
-pub record EndsRound (t : Terms) (home : Home) (now : ℕ) (over : Option Over) (x : Seen)
-    (new : Table) (kept : Option (List ℕ)) (asked : List Request) : Type 0 where
+-- where serving goes on, the links are kept, those are woken whose Await is to be answered, and
+-- clients that are silent for too long are let go
+pub record EndsRound (t : ServingOptions) (home : Home) (now : ℕ) (over : Option ServingEnd)
+    (x : Seen)
+    (new : ClientTable) (kept : Option (List ℕ)) (asked : List Request) : Type 0 where
   pub time : new.time ≡ now
-  pub links : WereKeptAt now kept
+  pub links : over ≡ None → WereKeptAt now kept
   pub woken : over ≡ None → AllByRecursion (IsWoken home x now asked) new.guests.items
   pub silent : over ≡ None → NoneIsSilent t.patience new
 
 -- ---- a step
 
-abbrev pub Follows : Terms → Home → Seen → Option Over → Table → Table → Option (List ℕ) → Ready
+abbrev pub Follows : ServingOptions → Home → Seen → Option ServingEnd → ClientTable → ClientTable
+    → Option (List ℕ) → Ready
     → List Request → Type 0
 Follows t home x over old new kept ready_is.Waits more = Admits t over old more
 Follows t home x over old new kept (ready_is.Peer k) more =
@@ -173,7 +175,8 @@ Follows t home x over old new kept ready_is.Failed more =
 -- done. What the links say of when they are to be kept again is first. This is seen of the desk
 -- behind the step.
 pub record Musts {L : Type 0} (due : L → ℕ → Option ℕ → Type 0) (kept : L → Option (List ℕ))
-    (t : Terms) (home : Home) (x : Seen) (over : Option Over) (old new : Table) (links later : L)
+    (t : ServingOptions) (home : Home) (x : Seen) (over : Option ServingEnd) (old new : ClientTable)
+    (links later : L)
     (asked : List Request) : Type 0 where
   pub left : Option ℕ
   pub says : due links old.time left
@@ -187,15 +190,16 @@ pub record Musts {L : Type 0} (due : L → ℕ → Option ℕ → Type 0) (kept 
 -- what is between two steps: the clients whose connections are open, the links, and what is seen of
 -- the desk
 pub record Stand (L : Type 0) : Type 0 where
-  pub table : Table
+  pub table : ClientTable
   pub links : L
   pub seen : Seen
 
-abbrev pub stand : {L : Type 0} → Table → L → Seen → Stand L
+abbrev pub stand : {L : Type 0} → ClientTable → L → Seen → Stand L
 stand table links seen = record { table = table; links = links; seen = seen }
 
 -- steps after each of which serving goes on, with what was asked at each
-abbrev pub GoesOn : {L : Type 0} → (L → ℕ → Option ℕ → Type 0) → (L → Option (List ℕ)) → Terms
+abbrev pub GoesOn : {L : Type 0} → (L → ℕ → Option ℕ → Type 0) → (L → Option (List ℕ))
+    → ServingOptions
     → Home → Stand L → List (List Request) → Stand L → Type 0
 GoesOn due kept t home a [] b = a ≡ b
 GoesOn {L} due kept t home a (asked ∷ steps) b =
@@ -208,8 +212,9 @@ joined (asked ∷ steps) = asked ++ joined steps
 
 -- After this many steps serving is over: as many clients as were asked for came and left; or it
 -- took 2^64 - 1 steps; or a further step, at which this was asked, ended it.
-abbrev pub Ends : {L : Type 0} → (L → ℕ → Option ℕ → Type 0) → (L → Option (List ℕ)) → Terms
-    → Home → Over → ℕ → Stand L → Stand L → List Request → Type 0
+abbrev pub Ends : {L : Type 0} → (L → ℕ → Option ℕ → Type 0) → (L → Option (List ℕ))
+    → ServingOptions
+    → Home → ServingEnd → ℕ → Stand L → Stand L → List Request → Type 0
 Ends due kept t home over count a b last =
     ((over ≡ over_is.All) × (a.table.guests.items ≡ []) × (t.most ≤ a.table.next) × (b ≡ a)
     × (last ≡ []))
@@ -218,7 +223,8 @@ Ends due kept t home over count a b last =
 
 -- all that is asked while it is served
 pub record AsksUntil {L : Type 0} (due : L → ℕ → Option ℕ → Type 0) (kept : L → Option (List ℕ))
-    (t : Terms) (home : Home) (over : Over) (a b : Stand L) (asked : List Request) : Type 0 where
+    (t : ServingOptions) (home : Home) (over : ServingEnd) (a b : Stand L)
+    (asked : List Request) : Type 0 where
   pub steps : List (List Request)
   pub mid : Stand L
   pub last : List Request
@@ -229,7 +235,7 @@ pub record AsksUntil {L : Type 0} (due : L → ℕ → Option ℕ → Type 0) (k
 -- all that is to be sent to a client is offered to it, where there is such
 abbrev pub OffersLast : ℕ → List ℕ → List Request → Type 0
 OffersLast k output asked =
-    ((output ≢ []) × ((t : Taken) × (asked ≡ Writing k (length output) t ∷ [])))
+    ((output ≢ []) × ((t : WriteOutcome) × (asked ≡ Writing k (length output) t ∷ [])))
     ⊎ ((output ≡ []) × (asked ≡ []))
 
 -- and then its connection is ended
@@ -246,18 +252,19 @@ AreEndsOf (g ∷ guests) asked =
     × (asked ≡ first ++ last)
 
 -- before the first client
-abbrev pub IsFresh : OwnTicks → Table → Type 0
+abbrev pub IsFresh : OwnTicks → ClientTable → Type 0
 IsFresh own t =
     (t.guests.items ≡ []) × (t.next ≡ 0) × (t.time ≡ 0) × (t.own ≡ own) × (t.dear ≡ fresh_dear)
     × (t.differs ≡ None)
 
 -- from the first client to the last
 pub record ServesDuly {L : Type 0} (due : L → ℕ → Option ℕ → Type 0) (kept : L → Option (List ℕ))
-    (t : Terms) (home : Home) (over : Over) (own : OwnTicks) (first last : L) (before_it : Seen)
+    (t : ServingOptions) (home : Home) (over : ServingEnd) (own : OwnTicks) (first last : L)
+    (before_it : Seen)
     (asked : List Request) : Type 0 where
-  pub before : Table
+  pub before : ClientTable
   pub fresh : IsFresh own before
-  pub after : Table
+  pub after : ClientTable
   pub served : List Request
   pub seen : Seen
   pub until : AsksUntil due kept t home over (stand before first before_it)
@@ -267,8 +274,9 @@ pub record ServesDuly {L : Type 0} (due : L → ℕ → Option ℕ → Type 0) (
   pub all : asked ≡ served ++ ends
 
 -- nothing is asked where there was no memory to begin
-abbrev pub AsksDuly : {L : Type 0} → (L → ℕ → Option ℕ → Type 0) → (L → Option (List ℕ)) → Terms
-    → Home → Over → OwnTicks → L → L → Seen → List Request → Type 0
+abbrev pub AsksDuly : {L : Type 0} → (L → ℕ → Option ℕ → Type 0) → (L → Option (List ℕ))
+    → ServingOptions
+    → Home → ServingEnd → OwnTicks → L → L → Seen → List Request → Type 0
 AsksDuly due kept t home over own first last x asked =
     ((over ≡ over_is.NoMemory) × (asked ≡ []))
     ⊎ ServesDuly due kept t home over own first last x asked

@@ -3,13 +3,14 @@ use Rattle.std.specs.Prelude.{◌≡◌, ◌≢◌, ◌⊎◌, ◌≤◌, ◌<�
 use Rattle.std.specs.Prelude.{Option, None, Some, suc, Bool, true, false, ◌||◌, IsTrue, IsFalse}
 use Rattle.std.specs.Prelude.{if◌then◌else◌}
 use Rattle.std.specs.List.{AllByRecursion}
-use Rattle.answers.specs.Seen.{Seen}
-use Rattle.guarded.specs.Guarding.{Guarding, IsDear, IsDone, WantsRead, after_sent, begun}
-use Rattle.guarded.specs.Guarding.{fresh_guard}
-use Rattle.guarded.specs.GuardTurns.{Follow, Place}
+use Rattle.answers.specs.Seen.{Seen, settled}
+use Rattle.guarded.specs.LockedConnections.{LockedConnectionOf, IsDear, IsDone, WantsRead}
+use Rattle.guarded.specs.LockedConnections.{after_sent, begun}
+use Rattle.guarded.specs.LockedConnections.{fresh_locked_connection}
+use Rattle.guarded.specs.LockedTurns.{Follow, Place}
 use Rattle.store.specs.declared.home.Home.{Home}
-use Rattle.serving.specs.declared.ends.End.{End}
-use Rattle.serving.specs.declared.ends.End.TheVariants as end
+use Rattle.serving.specs.declared.ends.ConnectionEnd.{ConnectionEnd}
+use Rattle.serving.specs.declared.ends.ConnectionEnd.TheVariants as end
 use Rattle.serving.specs.Connection.{Begun, Sides}
 use Rattle.serving.specs.Kinds.{is_dear, is_message}
 use Rattle.serving.specs.Making.{Outside, Way}
@@ -19,18 +20,18 @@ use Rattle.ticking.specs.Ticking.{Look, Ticking, after, is_due, look, new_ticker
 use Rattle.multiplex.specs.Happenings.{Happened, Round, Came, Full, Named, Gave, Took, Ended, Broke}
 use Rattle.polled.specs.Telling.{Tells}
 use Rattle.multiplex.specs.Happenings.{Closed, Failed}
-use Rattle.multiplex.specs.declared.ends.ServedEach.{ServedEach}
-use Rattle.multiplex.specs.declared.ends.Over.{Over}
-use Rattle.multiplex.specs.declared.ends.Over.TheVariants as over
-use Rattle.multiplex.specs.declared.ends.Why.{Why}
-use Rattle.multiplex.specs.declared.ends.Why.TheVariants as why
+use Rattle.multiplex.specs.declared.ends.ServingsOutcome.{ServingsOutcome}
+use Rattle.multiplex.specs.declared.ends.ServingEnd.{ServingEnd}
+use Rattle.multiplex.specs.declared.ends.ServingEnd.TheVariants as over
+use Rattle.multiplex.specs.declared.ends.EndReason.{EndReason}
+use Rattle.multiplex.specs.declared.ends.EndReason.TheVariants as why
 use Rattle.wire.specs.declared.standing.Difference.{Difference}
 use Rattle.multiplex.specs.Noting.{AreDue, IsHeard, IsOff, ears, fresh_notes, hear_all}
 use Rattle.multiplex.specs.Silence.{ready_after, waited_for}
 use Rattle.multiplex.specs.declared.notes.Notes.{Notes}
 use Rattle.multiplex.specs.declared.table.Guest.{Guest}
 use Rattle.multiplex.specs.declared.own_ticks.OwnTicks.{OwnTicks}
-use Rattle.multiplex.specs.declared.table.Terms.{Terms}
+use Rattle.multiplex.specs.declared.table.ServingOptions.{ServingOptions}
 
 -- ---- the desk's own Ticks
 
@@ -74,9 +75,10 @@ pub record Lobby : Type 0 where
   pub own : OwnTicks
   pub spent : Bool
   pub differs : Option Difference
-  pub over : Option Over
+  pub over : Option ServingEnd
 
-abbrev pub lobby : List Guest → ℕ → ℕ → OwnTicks → Bool → Option Difference → Option Over → Lobby
+abbrev pub lobby : List Guest → ℕ → ℕ → OwnTicks → Bool → Option Difference → Option ServingEnd
+    → Lobby
 lobby guests next time own spent differs over =
     record {
       guests = guests;
@@ -92,7 +94,7 @@ lobby guests next time own spent differs over =
 abbrev pub empty_lobby : OwnTicks → Lobby
 empty_lobby own = lobby [] 0 0 own false None None
 
-abbrev pub guest : ℕ → Guarding → Notes → ℕ → Guest
+abbrev pub guest : ℕ → LockedConnectionOf → Notes → ℕ → Guest
 guest number talk notes ready =
     record { number = number; talk = talk; notes = notes; ready = ready }
 
@@ -103,7 +105,7 @@ pub record Room {V : Type 0} (way : Way V) : Type 0 where
   pub outside : Outside way
 
 -- a connection, with the node as it is seen
-abbrev pub with_node : {V : Type 0} → {way : Way V} → Room way → Guarding → Place way
+abbrev pub with_node : {V : Type 0} → {way : Way V} → Room way → LockedConnectionOf → Place way
 with_node a talk = record { guard = talk; seen = a.seen; outside = a.outside }
 
 -- ---- steps
@@ -119,17 +121,19 @@ pub data Change : Type 0 where
   Unwatched : ℕ → Change
   Stray : ℕ → Change
   TakesLast : ℕ → Option (List ℕ) → Change
-  Shut : ℕ → Why → Change
-  Stops : Over → Change
+  Shut : ℕ → EndReason → Change
+  Stops : ServingEnd → Change
 
 -- a step: such a change; or a round is over at which no Tick is due; or one is over at which the
 -- desk gave itself a Tick, for which memory was refused or was not; or a client was ready, its
--- connection took these turns, and perhaps it was ended
+-- connection took these turns, and perhaps it was ended; or what was changed by then was settled,
+-- or that failed
 pub data Step : Type 0 where
   Changed : Change → Step
   Clock : ℕ → Step
   Ticked : ℕ → Bool → Step
-  Visit : ℕ → List Turn → Option Why → Step
+  Visit : ℕ → List Turn → Option EndReason → Step
+  Settles : Bool → Step
 
 -- what is told of turns: the bytes that the client gave and took
 abbrev pub told_turns : ℕ → List Turn → List Happened
@@ -140,7 +144,7 @@ told_turns k (Began one ∷ ts) = told_turns k ts
 told_turns k (Rested ∷ ts) = told_turns k ts
 
 -- what is told of why a connection is to be ended
-abbrev pub told_why : ℕ → Option Why → List Happened
+abbrev pub told_why : ℕ → Option EndReason → List Happened
 told_why k (Some why.Ended) = Ended k ∷ []
 told_why k (Some why.Broke) = Broke k ∷ []
 told_why k (Some why.Done) = []
@@ -151,11 +155,11 @@ told_why k (Some why.Over) = []
 told_why k None = []
 
 -- and that it was
-abbrev pub told_end : ℕ → Option Why → List Happened
+abbrev pub told_end : ℕ → Option EndReason → List Happened
 told_end k None = []
 told_end k (Some w) = Closed k ∷ []
 
-abbrev pub told_over : Over → List Happened
+abbrev pub told_over : ServingEnd → List Happened
 told_over over.Failed = Failed ∷ []
 told_over over.All = []
 told_over over.Stopped = []
@@ -180,6 +184,7 @@ told (Clock now) = Round now ∷ []
 told (Ticked now starved) = Round now ∷ []
 told (Visit k turns fate) =
     Named k ∷ (told_turns k turns ++ (told_why k fate ++ told_end k fate))
+told (Settles ok) = []
 
 abbrev pub told_all : List Step → List Happened
 told_all [] = []
@@ -188,11 +193,11 @@ told_all (s ∷ ss) = told s ++ told_all ss
 -- ---- a client that is ready
 
 -- all that came is served, but for what waits until what is to be sent is taken
-abbrev pub Settled : Guarding → Type 0
+abbrev pub Settled : LockedConnectionOf → Type 0
 Settled c = (c.output ≢ []) ⊎ WantsRead c
 
 -- when the connection of a client that was ready goes on, or is ended
-abbrev pub IsFate : Option Why → Guarding → Type 0
+abbrev pub IsFate : Option EndReason → LockedConnectionOf → Type 0
 IsFate None c = IsDone c → ⊥
 IsFate (Some why.Done) c = IsDone c
 IsFate (Some why.Ended) c = WantsRead c
@@ -200,7 +205,7 @@ IsFate (Some why.Broke) c = Unit {0}
 IsFate (Some why.Silent) c = ⊥
 IsFate (Some why.Crowded) c = ⊥
 IsFate (Some why.NoSocket) c = ⊥
-IsFate (Some why.Over) c = ⊥
+IsFate (Some why.Over) c = Unit {0}
 
 -- these frames are messages of desks to desks
 abbrev pub AreMessages : List Begun → Type 0
@@ -209,7 +214,7 @@ AreMessages begun = AllByRecursion (λ (one : Begun). is_message one.frame.what 
 -- where no frame was begun after the messages of desks, none is to be begun, or the next one was
 -- put off, which asks for a sheet or for entries of the log, or is an Await that is not to be
 -- answered yet
-abbrev pub IsLeft : Seen → ℕ → List Begun → Guarding → Option ℕ → Type 0
+abbrev pub IsLeft : Seen → ℕ → List Begun → LockedConnectionOf → Option ℕ → Type 0
 IsLeft x time [] c until = Settled c ⊎ (IsDear c ⊎ IsOff x time c until)
 IsLeft x time (one ∷ more) c until = Unit {0}
 
@@ -233,7 +238,7 @@ pub record Shares (begun : List Begun) (spent later : Bool) : Type 0 where
   pub shares : SharesLast last spent later
 
 -- why serving is over once a connection that ended so was ended
-abbrev pub over_by : Option End → Option Over
+abbrev pub over_by : Option ConnectionEnd → Option ServingEnd
 over_by (Some end.Stopped) = Some over.Stopped
 over_by (Some end.Down) = Some over.Down
 over_by (Some end.Frames) = None
@@ -245,12 +250,12 @@ over_by (Some end.Write) = None
 over_by (Some end.NoMemory) = None
 over_by None = None
 
-abbrev pub over_after : Option Why → Guarding → Option Over
+abbrev pub over_after : Option EndReason → LockedConnectionOf → Option ServingEnd
 over_after None c = None
 over_after (Some w) c = over_by c.talk.end
 
 -- the client stays, or leaves
-abbrev pub staying : Option Why → Guest → List Guest
+abbrev pub staying : Option EndReason → Guest → List Guest
 staying None g = g ∷ []
 staying (Some w) g = []
 
@@ -264,7 +269,7 @@ pieces (TookOf bytes ∷ ts) = pieces ts
 
 -- a ready client's connection took these turns, in which one piece came at most, and one frame was
 -- begun at most that is no message of a desk to a desk
-pub record Visits {V : Type 0} {way : Way V} (k : ℕ) (turns : List Turn) (fate : Option Why)
+pub record Visits {V : Type 0} {way : Way V} (k : ℕ) (turns : List Turn) (fate : Option EndReason)
     (a b : Room way) (before after : List Guest) (old new : Guest) : Type 0 where
   pub going : a.lobby.over ≡ None
   pub found : a.lobby.guests ≡ before ++ old ∷ after
@@ -294,7 +299,7 @@ IsLongest g = AllByRecursion (λ (o : Guest). g.ready ≤ o.ready)
 -- why a connection is ended of which the client wasn't ready: for longer than a client is waited
 -- for; for the longest time, where another client waits, and as many are open as may be, or the
 -- system has no socket for it; or serving is over
-abbrev pub IsCause : Terms → Why → Lobby → Guest → Type 0
+abbrev pub IsCause : ServingOptions → EndReason → Lobby → Guest → Type 0
 IsCause t why.Silent a g =
     (a.over ≡ None) × (waited_for t.patience (begun g.talk) < a.time - g.ready)
 IsCause t why.Crowded a g = (a.over ≡ None) × (512 ≤ length a.guests) × IsLongest g a.guests
@@ -305,12 +310,13 @@ IsCause t why.Ended a g = ⊥
 IsCause t why.Broke a g = ⊥
 
 -- the first cause for which serving is over
-abbrev pub first_of : Option Over → Option Over → Option Over
+abbrev pub first_of : Option ServingEnd → Option ServingEnd → Option ServingEnd
 first_of None e = e
 first_of (Some o) e = Some o
 
 -- a connection was ended
-pub record Shuts (t : Terms) (k : ℕ) (w : Why) (a b : Lobby) (before after : List Guest)
+pub record Shuts (t : ServingOptions) (k : ℕ) (w : EndReason) (a b : Lobby)
+    (before after : List Guest)
     (old : Guest) : Type 0 where
   pub found : a.guests ≡ before ++ old ∷ after
   pub number : old.number ≡ k
@@ -329,7 +335,7 @@ pub record SendsLast (k : ℕ) (bytes : List ℕ) (a b : Lobby) (before after : 
   pub left : b ≡ lobby (before ++ new ∷ after) a.next a.time a.own a.spent a.differs a.over
 
 -- another client came, with which these stay
-pub record Enters (t : Terms) (k : ℕ) (more : List Guest) (a b : Lobby) : Type 0 where
+pub record Enters (t : ServingOptions) (k : ℕ) (more : List Guest) (a b : Lobby) : Type 0 where
   pub going : a.over ≡ None
   pub number : k ≡ a.next
   pub wanted : a.next < t.most
@@ -338,7 +344,7 @@ pub record Enters (t : Terms) (k : ℕ) (more : List Guest) (a b : Lobby) : Type
       a.differs None
 
 -- the ends that come of themselves
-abbrev pub IsStop : Terms → Over → Lobby → Type 0
+abbrev pub IsStop : ServingOptions → ServingEnd → Lobby → Type 0
 IsStop t over.Failed a = Unit {0}
 IsStop t over.Tired a = Unit {0}
 IsStop t over.All a = (a.guests ≡ []) × (t.most ≤ a.next)
@@ -346,11 +352,12 @@ IsStop t over.NoMemory a = (a.guests ≡ []) × (a.next ≡ 0) × (a.time ≡ 0)
 IsStop t over.Stopped a = ⊥
 IsStop t over.Down a = ⊥
 
-abbrev pub Changes : Home → Terms → Change → Lobby → Lobby → Type 0
+abbrev pub Changes : Home → ServingOptions → Change → Lobby → Lobby → Type 0
 Changes home t (Comes k random) a b =
     (known : List ℕ)
     × Enters t k
-    (guest k (fresh_guard t.doors random home t.wire) (fresh_notes known) a.time ∷ []) a b
+    (guest k (fresh_locked_connection t.doors random home t.wire) (fresh_notes known) a.time ∷ []) a
+    b
 Changes home t (TurnedAway k random) a b = Enters t k [] a b
 Changes home t NoSocket a b = (a.over ≡ None) × (b ≡ a)
 Changes home t (Unwatched k) a b = (a.over ≡ None) × (b ≡ a)
@@ -393,7 +400,7 @@ TicksBy false home a b = Ticks home a b
 TicksBy true home a b = TicksInPart home a b
 
 -- serving is over where the desk is down
-abbrev pub over_if : Bool → Option Over
+abbrev pub over_if : Bool → Option ServingEnd
 over_if is_down = if is_down then Some over.Down else None
 
 -- A round is over, at which a Tick is due, and the desk gave itself that Tick. Each connection is
@@ -407,9 +414,26 @@ pub record TicksItself {V : Type 0} {way : Way V} (home : Home) (now : ℕ) (sta
       (ticks_after a.lobby.own (look_in a now) starved) false a.lobby.differs
       (over_if b.seen.is_down)
 
+-- ---- what was changed is settled
+
+-- serving is over where that failed
+abbrev pub over_settled : Bool → Option ServingEnd → Option ServingEnd
+over_settled true before = before
+over_settled false before = Some over.Down
+
+-- All that was done by then is committed together, or the desk is down. Each connection is as
+-- before.
+pub record SettlesIn {V : Type 0} {way : Way V} (ok : Bool) (a b : Room way) : Type 0 where
+  pub seen : b.seen ≡ settled ok a.seen
+  pub node : way.settles a.outside.node ok b.outside.node
+  pub handed : b.outside.handed ≡ a.outside.handed
+  pub left : b.lobby
+      ≡ lobby a.lobby.guests a.lobby.next a.lobby.time a.lobby.own a.lobby.spent a.lobby.differs
+      (over_settled ok a.lobby.over)
+
 -- ---- steps, one after the other
 
-abbrev pub Takes : {V : Type 0} → {way : Way V} → Home → Terms → Step → Room way → Room way
+abbrev pub Takes : {V : Type 0} → {way : Way V} → Home → ServingOptions → Step → Room way → Room way
     → Type 0
 Takes home t (Changed c) a b =
     Changes home t c a.lobby b.lobby × (b.seen ≡ a.seen) × (b.outside ≡ a.outside)
@@ -418,8 +442,10 @@ Takes home t (Ticked now starved) a b = TicksItself home now starved a b
 Takes home t (Visit k turns fate) a b =
     (before : List Guest) × (after : List Guest) × (old : Guest) × (new : Guest)
     × Visits k turns fate a b before after old new
+Takes home t (Settles ok) a b = SettlesIn ok a b
 
-abbrev pub Pass : {V : Type 0} → {way : Way V} → Home → Terms → Room way → List Step → Room way
+abbrev pub Pass : {V : Type 0} → {way : Way V} → Home → ServingOptions → Room way → List Step
+    → Room way
     → Type 0
 Pass home t a [] b = a ≡ b
 Pass {V} {way} home t a (s ∷ ss) b = (m : Room way) × Takes home t s a m × Pass home t m ss b
@@ -428,7 +454,8 @@ Pass {V} {way} home t a (s ∷ ss) b = (m : Room way) × Takes home t s a m × P
 
 -- The steps lead from no client to no client. What happened is what is told of them. Memory was
 -- refused for a Tick of the desk's own where the result says so, and nowhere else.
-pub record IsServedEach {V : Type 0} {way : Way V} (result : ServedEach) (home : Home) (t : Terms)
+pub record IsServedEach {V : Type 0} {way : Way V} (result : ServingsOutcome) (home : Home)
+    (t : ServingOptions)
     (period : Option ℕ) (a b : Room way) (before after : Option (List Happened))
     (steps : List Step) : Type 0 where
   pub first : a.lobby ≡ empty_lobby (first_ticks home period a.seen)

@@ -3,20 +3,20 @@ use Rattle.std.specs.Prelude.{◌≡◌, ℕ, [], Option, None}
 use Rattle.answers.specs.declared.desk.Desk.{Ghosts as DeskOf}
 use Rattle.multiplex.specs.Dear.{fresh_dear}
 use Rattle.multiplex.specs.Passing.{first_ticks}
-use Rattle.multiplex.specs.declared.table.Table.{Table}
-use Rattle.multiplex.specs.declared.table.Terms.{Terms}
+use Rattle.multiplex.specs.declared.table.ClientTable.{ClientTable}
+use Rattle.multiplex.specs.declared.table.ServingOptions.{ServingOptions}
 
 -- how clients are served, the clients, and the desk
 pub record RoundsOf (V : Type 0) : Type 0 where
-  pub terms : Terms
-  pub table : Table
+  pub terms : ServingOptions
+  pub table : ClientTable
   pub desk : V
 
-abbrev pub rounds : {V : Type 0} → Terms → Table → V → RoundsOf V
+abbrev pub rounds : {V : Type 0} → ServingOptions → ClientTable → V → RoundsOf V
 rounds terms table desk = record { terms = terms; table = table; desk = desk }
 
 -- no client came yet, and the desk's own Ticks count from here
-pub record Begins {V : Type 0} (d : DeskOf V) (t : Terms) (period : Option ℕ) (first : V)
+pub record Begins {V : Type 0} (d : DeskOf V) (t : ServingOptions) (period : Option ℕ) (first : V)
     (r : RoundsOf V) : Type 0 where
   pub terms : r.terms ≡ t
   pub desk : r.desk ≡ first

@@ -7,8 +7,8 @@ use Rattle.serving.specs.Sessions.{outside}
 use Rattle.wire.specs.declared.values.Version.{Version}
 use Rattle.multiplex.specs.Happenings.{Happened}
 use Rattle.multiplex.specs.Passing.{IsServedEach, Lobby, Room, Step, empty_lobby, first_ticks}
-use Rattle.multiplex.specs.declared.ends.ServedEach.{ServedEach}
-use Rattle.multiplex.specs.declared.table.Terms.{Terms}
+use Rattle.multiplex.specs.declared.ends.ServingsOutcome.{ServingsOutcome}
+use Rattle.multiplex.specs.declared.table.ServingOptions.{ServingOptions}
 
 -- a node that serves, the other desks of its hall, and its clients
 pub record Scene (V U C : Type 0) : Type 0 where
@@ -21,7 +21,7 @@ scene node peers clients = record { node = node; peers = peers; clients = client
 
 -- what is seen of the node, with these clients, where frames are pushed in this version
 abbrev pub in_room : {V U C : Type 0} → (d : DeskOf V) → PeersOf U → (version : Version)
-    → Lobby → Scene V U C → Room (speaking d.handles version)
+    → Lobby → Scene V U C → Room (speaking d.handles d.settles version)
 in_room d p version l s = record {
   lobby = l;
   seen = d.seen s.node;
@@ -29,8 +29,9 @@ in_room d p version l s = record {
 }
 
 -- clients were served side by side, from the first one to the end
-abbrev pub Serves : {V U C : Type 0} → DeskOf V → PeersOf U → (C → Option (List Happened)) → Terms
-    → Option ℕ → ServedEach → Scene V U C → Scene V U C → Type 0
+abbrev pub Serves : {V U C : Type 0} → DeskOf V → PeersOf U → (C → Option (List Happened))
+    → ServingOptions
+    → Option ℕ → ServingsOutcome → Scene V U C → Scene V U C → Type 0
 Serves d p happened t period result a b =
     (last : Lobby) × (steps : List Step)
     × IsServedEach result (d.home_of a.node) t period

@@ -6,8 +6,9 @@ use Rattle.serving.specs.Connection.{Begun}
 use Rattle.serving.specs.Kinds.{is_dear, is_message}
 use Rattle.serving.specs.Making.{speaking}
 use Rattle.serving.specs.TurnLaw.{begun_in}
-use Rattle.multiplex.specs.Passing.{Changed, Clock, Pass, Room, Step, Ticked, Visit}
-use Rattle.multiplex.specs.declared.table.Terms.{Terms}
+use Rattle.multiplex.specs.Passing.{Changed, Clock, Pass, Room, Settles, Step, Ticked}
+use Rattle.multiplex.specs.Passing.{Visit}
+use Rattle.multiplex.specs.declared.table.ServingOptions.{ServingOptions}
 
 -- the frames that were begun in these steps, in order
 abbrev pub begun_by : List Step → List Begun
@@ -16,6 +17,7 @@ begun_by (Changed c ∷ ss) = begun_by ss
 begun_by (Clock now ∷ ss) = begun_by ss
 begun_by (Ticked now starved ∷ ss) = begun_by ss
 begun_by (Visit k turns fate ∷ ss) = begun_in turns ++ begun_by ss
+begun_by (Settles ok ∷ ss) = begun_by ss
 
 -- how many turns clients had in them, and how many rounds were over
 abbrev pub visits : List Step → ℕ
@@ -24,6 +26,7 @@ visits (Changed c ∷ ss) = visits ss
 visits (Clock now ∷ ss) = visits ss
 visits (Ticked now starved ∷ ss) = visits ss
 visits (Visit k turns fate ∷ ss) = suc (visits ss)
+visits (Settles ok ∷ ss) = visits ss
 
 abbrev pub rounds : List Step → ℕ
 rounds [] = 0
@@ -31,6 +34,7 @@ rounds (Changed c ∷ ss) = rounds ss
 rounds (Clock now ∷ ss) = suc (rounds ss)
 rounds (Ticked now starved ∷ ss) = suc (rounds ss)
 rounds (Visit k turns fate ∷ ss) = rounds ss
+rounds (Settles ok ∷ ss) = rounds ss
 
 -- how many of these frames are no messages of desks to desks
 abbrev pub count_others : List Begun → ℕ
@@ -54,5 +58,6 @@ pub record AreShared (steps : List Step) : Type 0 where
 -- of all steps of serving that follow each other, wherever they begin and end
 abbrev pub TurnsAreShared : {V : Type 0} → DeskOf V → Type 0
 TurnsAreShared d =
-    (home : Home) (t : Terms) (a b : Room (speaking d.handles t.wire)) (steps : List Step)
+    (home : Home) (t : ServingOptions) (a b : Room (speaking d.handles d.settles t.wire))
+    (steps : List Step)
     → Pass home t a steps b → AreShared steps

@@ -8,11 +8,11 @@ ghost use Rattle.multiplex.specs.Happenings.{watched};
 ghost use Rattle.multiplex.specs.Requests.{Request, Waited, Accepting, Reading, Writing, Watching};
 ghost use Rattle.multiplex.specs.Requests.{Closing};
 
-use polled::{Given, Ready, Taken};
+use polled::{ReadOutcome, Ready, WriteOutcome};
 
 /// What came of accepting a client.
 #[derive(Clone, Copy, PartialEq, Eq, Debug)]
-pub enum Accepted {
+pub enum AcceptedClient {
     /// A client came. These bytes are new with each client: they tell its connection from others.
     Came { random: [u8; 16] },
     /// None waits, or the one that waited has gone.
@@ -40,13 +40,13 @@ pub trait Clients {
 
     /// Accepts the client that waits. From now on it has this number, and is named when it can be
     /// read from.
-    fn accept(&mut self, number: u64) -> Accepted
+    fn accept(&mut self, number: u64) -> AcceptedClient
         ensures told { Tells (happened self.old) (happened self.new) (accepted number result) }
         ensures requests { Tells (requests self.old) (requests self.new)
             (Accepting number result ∷ []) };
 
     /// Reads once of a client, without waiting.
-    fn read(&mut self, number: u64, buffer: &mut [u8; 4096]) -> Given
+    fn read(&mut self, number: u64, buffer: &mut [u8; 4096]) -> ReadOutcome
         ensures count { CountsGiven (length buffer.new) result }
         ensures told { Tells (happened self.old) (happened self.new)
             (given number result buffer.new) }
@@ -54,7 +54,7 @@ pub trait Clients {
             (Reading number result ∷ []) };
 
     /// Writes to a client as much of the bytes as it takes without waiting.
-    fn write(&mut self, number: u64, bytes: &[u8]) -> Taken
+    fn write(&mut self, number: u64, bytes: &[u8]) -> WriteOutcome
         requires { bytes.now ≢ [] }
         ensures count { CountsTaken (length bytes.now) result }
         ensures told { Tells (happened self.old) (happened self.new)

@@ -1,6 +1,6 @@
 //! A desk that serves, step after step.
 
-ghost use Rattle.std.specs.Prelude.{◌≡◌, ◌≤◌, ℕ, IfOk, Option};
+ghost use Rattle.std.specs.Prelude.{◌≡◌, ◌≤◌, ℕ, IfOk, None, Option};
 ghost use Rattle.multiplex.specs.model.Scenes.{Does};
 ghost use Rattle.multiplex.specs.Musts.{Musts, left_at, wait_by};
 ghost use Rattle.multiplex.specs.Requests.{Asks};
@@ -8,10 +8,10 @@ ghost use Rattle.multiplex.specs.Rounds.{Begins};
 ghost use Rattle.multiplex.specs.Scenes.{scene};
 
 use crate::clients::Clients;
-use crate::ends::Over;
-use crate::links::Links;
+use crate::ends::ServingEnd;
+use crate::links::PeerLinks;
 use crate::serving_each::{step, wait_of};
-use crate::table::{Table, Terms};
+use crate::table::{ClientTable, ServingOptions};
 use answers::Desk;
 use std::alloc::{AllocError, Global};
 use std::marker::Model;
@@ -24,8 +24,8 @@ use ticking::Period;
 #[derive(Drop)]
 pub struct Rounds<D: Desk + Drop> {
     alloc: Global,
-    terms: Terms,
-    table: Table,
+    terms: ServingOptions,
+    table: ClientTable,
     desk: D,
 }
 
@@ -47,13 +47,13 @@ impl<D: Desk + Drop> Rounds<D> {
     /// for the clients here.
     pub fn new(
         alloc: Global,
-        terms: Terms,
+        terms: ServingOptions,
         period: Option<Period>,
         desk: D,
     ) -> Result<Rounds<D>, AllocError>
         ensures { IfOk result (Begins D.Desk terms period desk) }
     {
-        let table = Table::new(alloc, period, &desk)?;
+        let table = ClientTable::new(alloc, period, &desk)?;
         Ok(Rounds {
             alloc,
             terms,
@@ -79,7 +79,7 @@ impl<D: Desk + Drop> Rounds<D> {
     /// For how many milliseconds it may be waited after the last round, where nothing becomes
     /// ready: at most a second, until a Tick of the desk's own is due, and until the links are to
     /// be kept again.
-    pub fn wait<L: Links>(&self, links: &L) -> u64
+    pub fn wait<L: PeerLinks>(&self, links: &L) -> u64
         ensures { let table = self.now.table in
             (left : Option ℕ) × L.due links.now table.time left
             × (result ≡ wait_by left (left_at table.own.ticker table.time)) }
@@ -89,7 +89,11 @@ impl<D: Desk + Drop> Rounds<D> {
 
     /// Does what can be done next, and says why serving is over by that, if it is: a client is let
     /// in, one that is ready has its turn, or a round is over.
-    pub fn step<C: Clients, L: Links>(&mut self, clients: &mut C, links: &mut L) -> Option<Over>
+    pub fn step<C: Clients, L: PeerLinks>(
+        &mut self,
+        clients: &mut C,
+        links: &mut L,
+    ) -> Option<ServingEnd>
         ensures does { Does D.Desk L.Peers C.happened (D.home_of self.old.desk) self.old.terms
             result self.old.table self.new.table
             (scene self.old.desk links.old clients.old)
@@ -97,6 +101,10 @@ impl<D: Desk + Drop> Rounds<D> {
         ensures asks { Asks C.requests clients.old clients.new
             (Musts L.due L.kept self.old.terms (D.home_of self.old.desk) (D.seen self.new.desk)
             result self.old.table self.new.table links.old links.new) }
+        // What a step has changed is settled where serving goes on, and so nothing waits between
+        // two.
+        ensures settled { result ≡ None → D.is_settled self.old.desk
+            → D.is_settled self.new.desk }
         ensures terms { self.new.terms ≡ self.old.terms }
         ensures home { D.home_of self.new.desk ≡ D.home_of self.old.desk }
     {

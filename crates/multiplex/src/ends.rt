@@ -2,7 +2,7 @@
 
 /// Why a client's connection is ended.
 #[derive(Clone, Copy, PartialEq, Eq, Debug)]
-pub enum Why {
+pub enum EndReason {
     /// By serving: a Stop was answered, 64 frames were served, what is in the stream is no frame,
     /// the desk is down, or memory was refused. All that was to be sent was taken.
     Done,
@@ -24,7 +24,7 @@ pub enum Why {
 
 /// Why serving is over.
 #[derive(Clone, Copy, PartialEq, Eq, Debug)]
-pub enum Over {
+pub enum ServingEnd {
     /// As many clients as were asked for came, and the connection of each was ended.
     All,
     /// A client's Stop was served, and its connection ended.
@@ -42,10 +42,10 @@ pub enum Over {
 
 /// What became of the clients.
 #[derive(Clone, Copy, PartialEq, Eq, Debug)]
-pub struct ServedEach {
+pub struct ServingsOutcome {
     /// How many clients came.
     pub connections: u64,
-    pub over: Over,
+    pub over: ServingEnd,
     /// Whether memory was refused for a Tick of the desk's own. Of such a Tick a front part of the
     /// calls and pushes was made, and serving went on.
     pub starved: bool,

@@ -14,10 +14,10 @@ mod steps;
 mod table;
 mod turns;
 
-pub use clients::{Accepted, Clients};
+pub use clients::{AcceptedClient, Clients};
 pub use driven::Rounds;
-pub use ends::{Over, ServedEach, Why};
-pub use links::Links;
-pub use polled::{Given, Ready, Taken};
+pub use ends::{EndReason, ServingEnd, ServingsOutcome};
+pub use links::PeerLinks;
+pub use polled::{ReadOutcome, Ready, WriteOutcome};
 pub use serving_each::serve_each;
-pub use table::Terms;
+pub use table::ServingOptions;

@@ -8,7 +8,7 @@ use wire::Difference;
 
 /// The links to the other desks of a hall. A frame that is pushed waits in its link until the link
 /// is kept. No call waits.
-pub trait Links: Peers {
+pub trait PeerLinks: Peers {
     /// At which moments they were kept, in order, where that is known.
     ghost kept: { Self → Option (List ℕ) };
 

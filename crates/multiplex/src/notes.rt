@@ -7,8 +7,8 @@ ghost use Rattle.multiplex.specs.Noting.{awaited_next, first_notes, is_due, is_k
 ghost use Rattle.multiplex.specs.Noting.{AreNoted, PutsOff, heard_next, until_of};
 
 use answers::Desk;
-use guarded::Guard;
-use serving::{Awaited, awaited_by, differs_by, first_difference, known_after};
+use guarded::LockedConnection;
+use serving::{AwaitRequest, awaited_by, differs_by, first_difference, known_after};
 use store::home::Home;
 use wire::Difference;
 
@@ -37,7 +37,7 @@ impl Notes {
 }
 
 /// What the frame waits for that is begun next, where it is an Await that is for this desk.
-pub(crate) fn awaited_next(talk: &Guard, home: Home) -> Option<Awaited>
+pub(crate) fn awaited_next(talk: &LockedConnection, home: Home) -> Option<AwaitRequest>
     ensures { result ≡ awaited_next home talk.now }
 {
     match talk.next() {
@@ -55,14 +55,14 @@ fn is_known<D: Desk>(node: &D, id: u64) -> bool
 }
 
 /// Whether an Await that is put off until then is to be answered now.
-pub(crate) fn is_due<D: Desk>(node: &D, awaited: Awaited, until: u64, time: u64) -> bool
+pub(crate) fn is_due<D: Desk>(node: &D, awaited: AwaitRequest, until: u64, time: u64) -> bool
     ensures { result ≡ is_due (D.seen node.now) awaited until time }
 {
     until <= time || is_known(node, awaited.id)
 }
 
 /// Until when an Await is put off that was put off until then, or wasn't yet.
-fn until_of(awaited: Awaited, time: u64, until: Option<u64>) -> u64
+fn until_of(awaited: AwaitRequest, time: u64, until: Option<u64>) -> u64
     ensures { result ≡ until_of awaited time until }
 {
     match until {
@@ -72,7 +72,12 @@ fn until_of(awaited: Awaited, time: u64, until: Option<u64>) -> u64
 }
 
 /// Whether the next frame is put off, since it is an Await that is not to be answered yet.
-pub(crate) fn put_off<D: Desk>(talk: &Guard, notes: &mut Notes, node: &D, time: u64) -> bool
+pub(crate) fn put_off<D: Desk>(
+    talk: &LockedConnection,
+    notes: &mut Notes,
+    node: &D,
+    time: u64,
+) -> bool
     requires home { D.home_of node.now ≡ talk.now.talk.home }
     ensures { PutsOff result (D.home_of node.now) (D.seen node.now) time talk.now notes.old
         notes.new }
@@ -93,7 +98,7 @@ pub(crate) fn put_off<D: Desk>(talk: &Guard, notes: &mut Notes, node: &D, time: 
 /// Notes what the next frame says, where it is a message of a desk: how that desk differs, if it
 /// does and none did before, and how long its log is.
 pub(crate) fn listen<D: Desk>(
-    talk: &Guard,
+    talk: &LockedConnection,
     notes: &mut Notes,
     differs: &mut Option<Difference>,
     node: &D,

@@ -5,7 +5,7 @@ ghost use Rattle.multiplex.specs.Passing.{first_ticks, looked, over_if, shown, t
 ghost use Rattle.multiplex.specs.Musts.{left_at};
 ghost use Rattle.multiplex.specs.model.Ticks.{MayTick, desks, own_of};
 
-use crate::ends::Over;
+use crate::ends::ServingEnd;
 use answers::Desk;
 use serving::{Peers, tick};
 use std::alloc::Global;
@@ -13,11 +13,11 @@ use ticking::{Period, Ticker};
 use wire::Version;
 
 /// Why serving is over by what was called of the desk, if it is.
-fn over_if_down<D: Desk>(node: &D) -> Option<Over>
+fn over_if_down<D: Desk>(node: &D) -> Option<ServingEnd>
     ensures { result ≡ over_if (D.seen node.now).is_down }
 {
     if node.is_down() {
-        Some(Over::Down)
+        Some(ServingEnd::Down)
     } else {
         None
     }
@@ -89,7 +89,7 @@ impl OwnTicks {
         now: u64,
         node: &mut D,
         peers: &mut P,
-    ) -> Option<Over>
+    ) -> Option<ServingEnd>
         ensures ticks { MayTick D.Desk P.Peers wire now result self.old self.new
             (desks node.old peers.old) (desks node.new peers.new) }
         ensures home { D.home_of node.new ≡ D.home_of node.old }

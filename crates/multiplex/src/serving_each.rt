@@ -1,6 +1,7 @@
 //! Serving many clients, side by side.
 
-ghost use Rattle.std.specs.Prelude.{◌≡◌, ◌≤◌, ℕ, length, Option};
+ghost use Rattle.std.specs.Prelude.{◌≡◌, ◌≤◌, ◌∷◌, [], ℕ, length, Option, None};
+ghost use Rattle.polled.specs.Telling.{Tells};
 ghost use Rattle.multiplex.specs.Musts.{AsksDuly, AsksUntil, EndsRound, Musts, left_at, stand};
 ghost use Rattle.multiplex.specs.Musts.{wait_by};
 ghost use Rattle.multiplex.specs.Passing.{first_ticks};
@@ -10,11 +11,11 @@ ghost use Rattle.multiplex.specs.model.Scenes.{Does, DoesRound};
 ghost use Rattle.multiplex.specs.Scenes.{Serves, scene};
 
 use crate::clients::Clients;
-use crate::ends::{Over, ServedEach};
-use crate::links::Links;
+use crate::ends::{ServingEnd, ServingsOutcome};
+use crate::links::PeerLinks;
 use crate::own_ticks::OwnTicks;
 use crate::steps::{admit, let_all_go, let_go, visit, wake};
-use crate::table::{Table, Terms};
+use crate::table::{ClientTable, ServingOptions};
 use answers::Desk;
 use polled::Ready;
 use std::alloc::Global;
@@ -26,7 +27,7 @@ const LONGEST_WAIT: u64 = 1000;
 
 /// For how long it may be waited, in milliseconds: at most a second, until the links are to be kept
 /// again, and until a Tick of the desk's own is due.
-pub(crate) fn wait_of<L: Links>(links: &L, own: &OwnTicks, now: u64) -> u64
+pub(crate) fn wait_of<L: PeerLinks>(links: &L, own: &OwnTicks, now: u64) -> u64
     ensures { (left : Option ℕ) × L.due links.now now left
         × (result ≡ wait_by left (left_at own.now.ticker now)) }
 {
@@ -38,7 +39,7 @@ pub(crate) fn wait_of<L: Links>(links: &L, own: &OwnTicks, now: u64) -> u64
 }
 
 /// Says once that another desk differs, where one does.
-fn say<L: Links>(differs: Option<Difference>, said: &mut bool, links: &mut L)
+fn say<L: PeerLinks>(differs: Option<Difference>, said: &mut bool, links: &mut L)
     ensures handed { L.handed links.new ≡ L.handed links.old }
     ensures kept { L.kept links.new ≡ L.kept links.old }
 {
@@ -51,22 +52,32 @@ fn say<L: Links>(differs: Option<Difference>, said: &mut bool, links: &mut L)
     }
 }
 
-/// A round is over: a Tick is taken where one is due, the links are kept, it is said once that
-/// another desk differs, where one does, those clients are to be named in the next round whose
-/// Await is to be answered now, and those are let go that weren't ready for longer than a client is
-/// waited for.
-fn end_round<D: Desk, C: Clients, L: Links>(
+/// Keeps the links. What was pushed to them is settled by then.
+fn keep_links<D: Desk, L: PeerLinks>(now: u64, links: &mut L, node: &D)
+    requires settled { D.is_settled node.now }
+    ensures handed { L.handed links.new ≡ L.handed links.old }
+    ensures kept { Tells (L.kept links.old) (L.kept links.new) (now ∷ []) }
+{
+    links.keep(now);
+}
+
+/// A round is over: a Tick is taken where one is due, and settled, the links are kept, it is said
+/// once that another desk differs, where one does, those clients are to be named in the next round
+/// whose Await is to be answered now, and those are let go that weren't ready for longer than a
+/// client is waited for.
+fn end_round<D: Desk, C: Clients, L: PeerLinks>(
     alloc: Global,
-    table: &mut Table,
-    terms: Terms,
+    table: &mut ClientTable,
+    terms: ServingOptions,
     now: u64,
     clients: &mut C,
     node: &mut D,
     links: &mut L,
-) -> Option<Over>
+) -> Option<ServingEnd>
     ensures does { DoesRound D.Desk L.Peers C.happened (D.home_of node.old) terms now result
         table.old table.new
         (scene node.old links.old clients.old) (scene node.new links.new clients.new) }
+    ensures settled { result ≡ None → D.is_settled node.new }
     ensures ends { Asks C.requests clients.old clients.new
         (EndsRound terms (D.home_of node.old) now result (D.seen node.new) table.new
         (L.kept links.new)) }
@@ -77,24 +88,27 @@ fn end_round<D: Desk, C: Clients, L: Links>(
     table.dear.renew(table.time, now);
     table.time = now;
     let over = table.own.tick_if_due(alloc, terms.wire, now, node, links);
-    links.keep(now);
-    say(table.differs, &mut table.said, links);
     if over.is_some() {
         return over;
     }
+    if !node.settle() {
+        return Some(ServingEnd::Down);
+    }
+    keep_links(now, links, node);
+    say(table.differs, &mut table.said, links);
     wake(table, clients, node);
     let_go(table, terms.patience, clients)
 }
 
 /// Does what can be done next, and says why serving is over by that, if it is.
-pub(crate) fn step<D: Desk, C: Clients, L: Links>(
+pub(crate) fn step<D: Desk, C: Clients, L: PeerLinks>(
     alloc: Global,
-    table: &mut Table,
-    terms: Terms,
+    table: &mut ClientTable,
+    terms: ServingOptions,
     clients: &mut C,
     node: &mut D,
     links: &mut L,
-) -> Option<Over>
+) -> Option<ServingEnd>
     requires kept { AreKept (D.home_of node.old) terms.wire table.old }
     requires few { length table.old.guests.items ≤ 512 }
     ensures does { Does D.Desk L.Peers C.happened (D.home_of node.old) terms result
@@ -103,6 +117,7 @@ pub(crate) fn step<D: Desk, C: Clients, L: Links>(
     ensures asks { Asks C.requests clients.old clients.new
         (Musts L.due L.kept terms (D.home_of node.old) (D.seen node.new) result table.old
         table.new links.old links.new) }
+    ensures settled { result ≡ None → D.is_settled node.old → D.is_settled node.new }
     ensures kept { AreKept (D.home_of node.old) terms.wire table.new }
     ensures few { length table.new.guests.items ≤ 512 }
     ensures home { D.home_of node.new ≡ D.home_of node.old }
@@ -111,19 +126,19 @@ pub(crate) fn step<D: Desk, C: Clients, L: Links>(
         Ready::Waits => admit(alloc, table, terms, clients, node),
         Ready::Peer { number } => visit(table, terms, number, clients, node, links),
         Ready::Round { now } => end_round(alloc, table, terms, now, clients, node, links),
-        Ready::Failed => Some(Over::Failed),
+        Ready::Failed => Some(ServingEnd::Failed),
     }
 }
 
 /// Serves until it is over, and says why it is.
-fn serve_rounds<D: Desk, C: Clients, L: Links>(
+fn serve_rounds<D: Desk, C: Clients, L: PeerLinks>(
     alloc: Global,
-    table: &mut Table,
-    terms: Terms,
+    table: &mut ClientTable,
+    terms: ServingOptions,
     clients: &mut C,
     node: &mut D,
     links: &mut L,
-) -> Over
+) -> ServingEnd
     requires kept { AreKept (D.home_of node.old) terms.wire table.old }
     requires few { length table.old.guests.items ≤ 512 }
     ensures does { Does D.Desk L.Peers C.happened (D.home_of node.old) terms (Some result)
@@ -137,23 +152,24 @@ fn serve_rounds<D: Desk, C: Clients, L: Links>(
 {
     for _step in 0..u64::MAX {
         if table.guests.is_empty() && table.next >= terms.most {
-            return Over::All;
+            return ServingEnd::All;
         }
         if let Some(over) = step(alloc, table, terms, clients, node, links) {
             return over;
         }
     }
-    Over::Tired
+    ServingEnd::Tired
 }
 
 /// Serves clients side by side: at most 512 connections are open at once, and each client that is
 /// ready has its turn: a write or a read of at most 4,096 bytes, and then the messages of desks are
-/// served that come next, and one frame of a client. In a round one client alone is answered a
-/// sheet or entries of the log: the others that ask for such are put off to the next rounds, those
-/// without a key after those that have one. It ends once `most` clients came and their connections
-/// are ended, after a Stop, where the desk is down, and where the system doesn't tell what is ready
-/// any more; then all connections are ended, and what a client has not taken of its answers is
-/// offered to it once more, without waiting.
+/// served that come next, and one frame of a client. What these change is settled together before
+/// the answer is sent, and what they push is written to the links once the round is over. In a
+/// round one client alone is answered a sheet or entries of the log: the others that ask for such
+/// are put off to the next rounds, those without a key after those that have one. It ends once
+/// `most` clients came and their connections are ended, after a Stop, where the desk is down, and
+/// where the system doesn't tell what is ready any more; then all connections are ended, and what a
+/// client has not taken of its answers is offered to it once more, without waiting.
 ///
 /// A connection is ended as `Connection` says, once its answers are taken; where the client ends it
 /// or it breaks; where the client wasn't ready for longer than the patience; and where another one
@@ -168,14 +184,14 @@ fn serve_rounds<D: Desk, C: Clients, L: Links>(
 /// It is waited until something is ready, for a second at most, and at most until the next Tick of
 /// the desk's own is due or the links are to be kept again. A contract sees what is done at each
 /// step (`served`), and what has to be asked of the clients and the links there (`asks`).
-pub fn serve_each<D: Desk, C: Clients, L: Links>(
+pub fn serve_each<D: Desk, C: Clients, L: PeerLinks>(
     alloc: Global,
-    terms: Terms,
+    terms: ServingOptions,
     period: Option<Period>,
     clients: &mut C,
     node: &mut D,
     links: &mut L,
-) -> ServedEach
+) -> ServingsOutcome
     ensures served { Serves D.Desk L.Peers C.happened terms period result
         (scene node.old links.old clients.old) (scene node.new links.new clients.new) }
     ensures asks { Asks C.requests clients.old clients.new
@@ -184,16 +200,16 @@ pub fn serve_each<D: Desk, C: Clients, L: Links>(
         (D.seen node.old)) }
     ensures home { D.home_of node.new ≡ D.home_of node.old }
 {
-    let Ok(mut table) = Table::new(alloc, period, node) else {
-        return ServedEach {
+    let Ok(mut table) = ClientTable::new(alloc, period, node) else {
+        return ServingsOutcome {
             connections: 0,
-            over: Over::NoMemory,
+            over: ServingEnd::NoMemory,
             starved: false,
         };
     };
     let over = serve_rounds(alloc, &mut table, terms, clients, node, links);
     let_all_go(&mut table, clients);
-    ServedEach {
+    ServingsOutcome {
         connections: table.next,
         over,
         starved: table.own.starved,

@@ -1,7 +1,7 @@
 //! The steps of serving many clients: one comes, one is ready, one is let go, and time passes.
 
-ghost use Rattle.std.specs.Prelude.{◌≡◌, ◌≤◌, ◌<◌, ◌-◌, ◌↔◌, ◌&&◌, [], length, None, IsTrue};
-ghost use Rattle.std.specs.Prelude.{is_some};
+ghost use Rattle.std.specs.Prelude.{◌≡◌, ◌≢◌, ◌≤◌, ◌<◌, ◌-◌, ◌↔◌, ◌&&◌, [], length, None, Some};
+ghost use Rattle.std.specs.Prelude.{IsTrue, is_some};
 ghost use Rattle.std.specs.List.{AllByRecursion};
 ghost use Rattle.multiplex.specs.Passing.{over_by};
 ghost use Rattle.multiplex.specs.Musts.{Accepts, Admits, AreEndsOf, Attends, IsEndOf, IsWoken};
@@ -9,46 +9,48 @@ ghost use Rattle.multiplex.specs.Musts.{MakesPlace, NoneIsSilent, OffersLast, Wa
 ghost use Rattle.multiplex.specs.Requests.{Asks};
 ghost use Rattle.multiplex.specs.model.Asking.{AsksHosted, AsksSome, ClosesAt, MayClose};
 ghost use Rattle.multiplex.specs.model.Tables.{AreKept, IsKept, KeepsAll, KeepsKept, MakesRoom};
-ghost use Rattle.multiplex.specs.model.Scenes.{AltersSome, Answers, Empties, EndsLast, Hosts};
+ghost use Rattle.multiplex.specs.model.Scenes.{AltersSome, AnswersThenSettles, Empties, EndsLast};
+ghost use Rattle.multiplex.specs.model.Scenes.{HostsThenSettles};
 ghost use Rattle.multiplex.specs.Scenes.{scene};
-ghost use Rattle.multiplex.specs.model.Scenes.{IsShut, Welcomes, turned};
+ghost use Rattle.multiplex.specs.model.Scenes.{IsShut, Welcomes};
 ghost use Rattle.multiplex.specs.model.Visiting.{Sends};
 ghost use Rattle.multiplex.specs.Noting.{awakes};
 ghost use Rattle.multiplex.specs.Noting.{AreNoted};
 ghost use Rattle.multiplex.specs.model.Asking.{KeepsWoken, WakesAll};
 ghost use Rattle.wire.specs.Ranges.{IsDifference};
-ghost use Rattle.multiplex.specs.declared.clients.Accepted.TheVariants as accepted_is;
-ghost use Rattle.multiplex.specs.declared.ends.Over.{Over as OverOf};
-ghost use Rattle.multiplex.specs.declared.ends.Why.{Why as WhyOf};
-ghost use Rattle.multiplex.specs.declared.table.Table.{Table as TableOf};
-ghost use Rattle.multiplex.specs.declared.table.Terms.{Terms as TermsOf};
+ghost use Rattle.multiplex.specs.declared.clients.AcceptedClient.TheVariants as accepted_is;
+ghost use Rattle.multiplex.specs.declared.ends.ServingEnd.{ServingEnd as OverOf};
+ghost use Rattle.multiplex.specs.declared.ends.EndReason.{EndReason as WhyOf};
+ghost use Rattle.multiplex.specs.declared.ends.EndReason.TheVariants as why;
+ghost use Rattle.multiplex.specs.declared.table.ClientTable.{ClientTable as TableOf};
+ghost use Rattle.multiplex.specs.declared.table.ServingOptions.{ServingOptions as TermsOf};
 ghost use Rattle.store.specs.declared.home.Home.{Home};
 
-use crate::clients::{Accepted, Clients};
+use crate::clients::{AcceptedClient, Clients};
 use crate::dear::DearTurns;
-use crate::ends::{Over, Why};
+use crate::ends::{EndReason, ServingEnd};
 use crate::notes::{Notes, awaited_next, is_due};
-use crate::table::{Guest, MOST_OPEN, Table, Terms, longest_silent, ready_after};
+use crate::table::{ClientTable, Guest, MOST_OPEN, ServingOptions, longest_silent, ready_after};
 use crate::turns::{send, talk_on};
 use answers::Desk;
-use guarded::Guard;
-use serving::{End, Peers};
+use guarded::LockedConnection;
+use serving::{ConnectionEnd, Peers};
 use std::alloc::Global;
 use wire::Difference;
 
 /// Why serving is over once a connection that ended so was ended.
-fn over_by(end: Option<End>) -> Option<Over>
+fn over_by(end: Option<ConnectionEnd>) -> Option<ServingEnd>
     ensures { result ≡ over_by end }
 {
     match end {
-        Some(End::Stopped) => Some(Over::Stopped),
-        Some(End::Down) => Some(Over::Down),
+        Some(ConnectionEnd::Stopped) => Some(ServingEnd::Stopped),
+        Some(ConnectionEnd::Down) => Some(ServingEnd::Down),
         _ => None,
     }
 }
 
 /// Ends the connection at this place, and says why serving is over by that, if it is.
-fn shut<C: Clients>(table: &mut Table, place: usize, clients: &mut C) -> Option<Over>
+fn shut<C: Clients>(table: &mut ClientTable, place: usize, clients: &mut C) -> Option<ServingEnd>
     requires { place < length table.old.guests.items }
     ensures shut { IsShut C.happened place result table.old table.new clients.old clients.new }
     ensures asks { Asks C.requests clients.old clients.new
@@ -77,10 +79,11 @@ fn stays_off(was_off: bool, guest: &Guest) -> bool
     was_off && guest.notes.until.is_some()
 }
 
-/// Lets a client that is ready have its turn. Where its connection is to be ended now, it says why.
-/// It is to be named again when it can be read from, where all that came is served and answered, or
-/// an Await is put off, and else when it can take bytes. While that Await is put off nothing more
-/// is asked: so bytes that come meanwhile name it once, and not at each round.
+/// Lets a client that is ready have its turn. Where its connection is to be ended now, it says why:
+/// serving is over where what it changed can't be settled. It is to be named again when it can be
+/// read from, where all that came is served and answered, or an Await is put off, and else when it
+/// can take bytes. While that Await is put off nothing more is asked: so bytes that come meanwhile
+/// name it once, and not at each round.
 fn host<D: Desk, C: Clients, P: Peers>(
     guest: &mut Guest,
     time: u64,
@@ -89,13 +92,13 @@ fn host<D: Desk, C: Clients, P: Peers>(
     clients: &mut C,
     node: &mut D,
     peers: &mut P,
-) -> Option<Why>
+) -> Option<EndReason>
     requires kept { IsKept (D.home_of node.old) guest.old.talk.talk.wire guest.old }
     requires differs { IsDifference differs.old }
-    ensures hosts { Hosts D.Desk P.Peers C.happened time result
-        (turned dear.old.spent differs.old) (turned dear.new.spent differs.new)
-        guest.old guest.new
+    ensures hosts { HostsThenSettles D.Desk P.Peers C.happened time result
+        dear.old dear.new differs.old differs.new guest.old guest.new
         (scene node.old peers.old clients.old) (scene node.new peers.new clients.new) }
+    ensures settled { result ≢ Some why.Over → D.is_settled node.old → D.is_settled node.new }
     ensures asks { Asks C.requests clients.old clients.new
         (AsksHosted guest.old.number guest.old guest.new result) }
     ensures noted { AreNoted guest.new.notes.known differs.new }
@@ -104,17 +107,7 @@ fn host<D: Desk, C: Clients, P: Peers>(
     let number = guest.number;
     let before = guest.talk.begun();
     let was_off = guest.notes.until.is_some();
-    if let Some(why) = talk_on(
-        number,
-        &mut guest.talk,
-        &mut guest.notes,
-        dear,
-        time,
-        differs,
-        clients,
-        node,
-        peers,
-    ) {
+    if let Some(why) = talk_on(guest, dear, time, differs, clients, node, peers) {
         guest.ready = ready_after(time, before, guest.talk.begun(), guest.ready);
         return Some(why);
     }
@@ -125,24 +118,32 @@ fn host<D: Desk, C: Clients, P: Peers>(
     if clients.watch(number, !waits_to_read(guest)) {
         None
     } else {
-        Some(Why::Broke)
+        Some(EndReason::Broke)
     }
 }
 
+/// Whether serving is over by what ends a connection.
+fn is_over(why: EndReason) -> bool
+    ensures { IsTrue result ↔ (why ≡ EndReason.Over) }
+{
+    matches!(why, EndReason::Over)
+}
+
 /// Lets the client with this number have its turn, if its connection is open, and says why serving
-/// is over by that, if it is.
+/// is over by that, if it is. Where what it changed can't be settled, the desk is down.
 pub(crate) fn visit<D: Desk, C: Clients, P: Peers>(
-    table: &mut Table,
-    terms: Terms,
+    table: &mut ClientTable,
+    terms: ServingOptions,
     number: u64,
     clients: &mut C,
     node: &mut D,
     peers: &mut P,
-) -> Option<Over>
+) -> Option<ServingEnd>
     requires kept { AreKept (D.home_of node.old) terms.wire table.old }
-    ensures answers { Answers D.Desk P.Peers C.happened (D.home_of node.old) terms number result
-        table.old table.new
+    ensures answers { AnswersThenSettles D.Desk P.Peers C.happened (D.home_of node.old) terms number
+        result table.old table.new
         (scene node.old peers.old clients.old) (scene node.new peers.new clients.new) }
+    ensures settled { result ≡ None → D.is_settled node.old → D.is_settled node.new }
     ensures asks { Asks C.requests clients.old clients.new
         (Attends number table.old.guests.items table.new.guests.items) }
     ensures kept { AreKept (D.home_of node.old) terms.wire table.new }
@@ -164,12 +165,18 @@ pub(crate) fn visit<D: Desk, C: Clients, P: Peers>(
         peers,
     ) {
         None => None,
-        Some(_) => shut(table, place, clients),
+        Some(why) => {
+            let over = shut(table, place, clients);
+            if is_over(why) {
+                return Some(ServingEnd::Down);
+            }
+            over
+        }
     }
 }
 
 /// Lets the client go that wasn't ready for the longest time.
-fn crowd_out<C: Clients>(table: &mut Table, clients: &mut C) -> Option<Over>
+fn crowd_out<C: Clients>(table: &mut ClientTable, clients: &mut C) -> Option<ServingEnd>
     ensures alters { (home : Home) (t : TermsOf) (w : WhyOf) → MakesRoom w table.old.guests.items
         → AltersSome C.happened home t result table.old table.new clients.old clients.new }
     ensures asks { Asks C.requests clients.old clients.new
@@ -183,7 +190,11 @@ fn crowd_out<C: Clients>(table: &mut Table, clients: &mut C) -> Option<Over>
 }
 
 /// Lets those clients go that weren't ready for longer than a client is waited for.
-pub(crate) fn let_go<C: Clients>(table: &mut Table, patience: u64, clients: &mut C) -> Option<Over>
+pub(crate) fn let_go<C: Clients>(
+    table: &mut ClientTable,
+    patience: u64,
+    clients: &mut C,
+) -> Option<ServingEnd>
     ensures alters { (home : Home) (t : TermsOf) → t.patience ≡ patience
         → AltersSome C.happened home t result table.old table.new clients.old clients.new }
     ensures silent { result ≡ None → NoneIsSilent patience table.new }
@@ -232,7 +243,7 @@ fn wake_one<D: Desk, C: Clients>(guest: &Guest, time: u64, clients: &mut C, node
 
 /// Has those clients named in the next round of which an Await is put off that is to be answered
 /// now.
-pub(crate) fn wake<D: Desk, C: Clients>(table: &Table, clients: &mut C, node: &D)
+pub(crate) fn wake<D: Desk, C: Clients>(table: &ClientTable, clients: &mut C, node: &D)
     ensures told { (home : Home) (t : TermsOf)
         → AltersSome C.happened home t None table.now table.now clients.old clients.new }
     ensures asks { Asks C.requests clients.old clients.new (WakesAll (D.home_of node.now)
@@ -245,7 +256,7 @@ pub(crate) fn wake<D: Desk, C: Clients>(table: &Table, clients: &mut C, node: &D
 
 /// Offers a client once more what is to be sent to it, where there is such. False: the write
 /// failed.
-fn offer_last<C: Clients>(number: u64, talk: &mut Guard, clients: &mut C) -> bool
+fn offer_last<C: Clients>(number: u64, talk: &mut LockedConnection, clients: &mut C) -> bool
     ensures sends { Sends C.happened number result clients.old clients.new talk.old talk.new }
     ensures asks { Asks C.requests clients.old clients.new (OffersLast number talk.old.output) }
 {
@@ -266,7 +277,7 @@ fn end_last<C: Clients>(guest: &mut Guest, clients: &mut C)
 
 /// Ends all connections that are open. What a client has not taken of its answers is offered to it
 /// once more, without waiting.
-pub(crate) fn let_all_go<C: Clients>(table: &mut Table, clients: &mut C)
+pub(crate) fn let_all_go<C: Clients>(table: &mut ClientTable, clients: &mut C)
     ensures told { (home : Home) (t : TermsOf) (over : OverOf)
         → Empties C.happened home t over table.old table.new clients.old clients.new }
     ensures asks { Asks C.requests clients.old clients.new (AreEndsOf table.old.guests.items) }
@@ -281,8 +292,8 @@ pub(crate) fn let_all_go<C: Clients>(table: &mut Table, clients: &mut C)
 /// it, it is ended.
 fn welcome<D: Desk, C: Clients>(
     alloc: Global,
-    table: &mut Table,
-    terms: Terms,
+    table: &mut ClientTable,
+    terms: ServingOptions,
     random: [u8; 16],
     clients: &mut C,
     node: &D,
@@ -297,7 +308,7 @@ fn welcome<D: Desk, C: Clients>(
     let notes = Notes::new(node);
     let ready = table.time;
     table.next += 1;
-    let Ok(talk) = Guard::new(alloc, node, terms.wire, terms.doors, random) else {
+    let Ok(talk) = LockedConnection::new(alloc, node, terms.wire, terms.doors, random) else {
         clients.close(number);
         return;
     };
@@ -316,11 +327,11 @@ fn welcome<D: Desk, C: Clients>(
 /// for the longest time is let go.
 fn enter<D: Desk, C: Clients>(
     alloc: Global,
-    table: &mut Table,
-    terms: Terms,
+    table: &mut ClientTable,
+    terms: ServingOptions,
     clients: &mut C,
     node: &D,
-) -> Option<Over>
+) -> Option<ServingEnd>
     requires wanted { table.old.next < terms.most }
     requires room { length table.old.guests.items < 512 }
     ensures alters { AltersSome C.happened (D.home_of node.now) terms result table.old table.new
@@ -331,12 +342,12 @@ fn enter<D: Desk, C: Clients>(
     ensures few { length table.new.guests.items ≤ 512 }
 {
     match clients.accept(table.next) {
-        Accepted::Came { random } => {
+        AcceptedClient::Came { random } => {
             welcome(alloc, table, terms, random, clients, node);
             None
         }
-        Accepted::Nobody => None,
-        Accepted::Full => crowd_out(table, clients),
+        AcceptedClient::Nobody => None,
+        AcceptedClient::Full => crowd_out(table, clients),
     }
 }
 
@@ -344,11 +355,11 @@ fn enter<D: Desk, C: Clients>(
 /// one that wasn't ready for the longest time is let go first.
 pub(crate) fn admit<D: Desk, C: Clients>(
     alloc: Global,
-    table: &mut Table,
-    terms: Terms,
+    table: &mut ClientTable,
+    terms: ServingOptions,
     clients: &mut C,
     node: &D,
-) -> Option<Over>
+) -> Option<ServingEnd>
     requires few { length table.old.guests.items ≤ 512 }
     ensures alters { AltersSome C.happened (D.home_of node.now) terms result table.old table.new
         clients.old clients.new }

@@ -10,7 +10,7 @@ use crate::dear::DearTurns;
 use crate::notes::Notes;
 use crate::own_ticks::OwnTicks;
 use answers::Desk;
-use guarded::{Doors, Guard};
+use guarded::{Access, LockedConnection};
 use std::alloc::{AllocError, Global};
 use ticking::Period;
 use wire::{Difference, Version};
@@ -24,7 +24,7 @@ const LONGEST_RECORD: u64 = 11_000;
 
 /// How a desk's clients are served.
 #[derive(Clone, Copy)]
-pub struct Terms {
+pub struct ServingOptions {
     /// The version of the wire in which frames are pushed to other desks.
     pub wire: Version,
     /// How many clients are accepted.
@@ -32,7 +32,7 @@ pub struct Terms {
     /// How long a client is waited for, in milliseconds.
     pub patience: u64,
     /// What is asked of a client: nothing, or a key.
-    pub doors: Doors,
+    pub doors: Access,
 }
 
 /// A client whose connection is open.
@@ -40,7 +40,7 @@ pub struct Terms {
 pub(crate) struct Guest {
     /// How many clients came before it.
     pub(crate) number: u64,
-    pub(crate) talk: Guard,
+    pub(crate) talk: LockedConnection,
     pub(crate) notes: Notes,
     /// When it was last ready, in milliseconds after the first round. While a record comes, that is
     /// when it began.
@@ -49,7 +49,7 @@ pub(crate) struct Guest {
 
 /// The clients whose connections are open, in the order in which they came.
 #[derive(Drop)]
-pub(crate) struct Table {
+pub(crate) struct ClientTable {
     pub(crate) guests: Vec<Guest>,
     /// How many clients came.
     pub(crate) next: u64,
@@ -62,20 +62,20 @@ pub(crate) struct Table {
     pub(crate) said: bool,
 }
 
-impl Table {
+impl ClientTable {
     /// No client came yet.
     pub(crate) fn new<D: Desk>(
         alloc: Global,
         period: Option<Period>,
         node: &D,
-    ) -> Result<Table, AllocError>
+    ) -> Result<ClientTable, AllocError>
         ensures empty { IfOk result (λ t. (t.guests.items ≡ []) × (t.next ≡ 0) × (t.time ≡ 0)) }
         ensures own { IfOk result
             (λ t. t.own ≡ first_ticks (D.home_of node.now) period (D.seen node.now)) }
         ensures dear { IfOk result (λ t. t.dear ≡ fresh_dear) }
         ensures differs { IfOk result (λ t. t.differs ≡ None) }
     {
-        Ok(Table {
+        Ok(ClientTable {
             guests: Vec::with_capacity(alloc, MOST_OPEN)?,
             next: 0,
             time: 0,

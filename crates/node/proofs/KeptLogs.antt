@@ -18,13 +18,11 @@ use Rattle.learner.specs.declared.event.DeskEvent.{DeskEvent}
 use Rattle.learner.specs.declared.event.DeskEvent.TheVariants.{Submit, Start, Tick, Deliver}
 use Rattle.learner.specs.Desks.{Desk, adopt, passing}
 use Rattle.learner.specs.Laws.{IsPrefix}
-use Rattle.learner.specs.Logs.{position_of}
 use Rattle.learner.specs.Steps.{Done as DoneStep, done, idle, is_heeded, on_body, passed, planned}
 use Rattle.learner.specs.Steps.{step}
 use Rattle.texts.specs.declared.answer.Answer.{Answer}
 use Rattle.commands.specs.History.{History, StandsFor, history, answer_to}
-use Rattle.answers.specs.Answers.{texts, told, told_at, told_by}
-use Rattle.answers.specs.declared.answers.Told.TheVariants.{Done}
+use Rattle.answers.specs.Answers.{texts}
 use Rattle.answers.proofs.Prefixes.{texts_after}
 use Rattle.replica.specs.Handles.{Handles}
 use Rattle.replica.specs.declared.roles.fault.NodeFault.{NodeFault}
@@ -218,23 +216,3 @@ is_there : (log : List Entry) (pos : ℕ) → pos < length log → slice_get log
 is_there [] pos h none = omega (arith, h)
 is_there (x ∷ xs) zero h none = absurd cc
 is_there (x ∷ xs) (suc pos) h none = is_there xs pos (omega (arith, h)) none
-
-answer_of_some : (a b : Answer) → Some a ≡ Some b → a ≡ b
-answer_of_some a b s = cc
-
-pub told_kept : (kept : KeptMeet) (log queue : List Entry) (id pos : ℕ) (answer : Answer)
-    → IsKeptOf kept log → position_of log id ≡ Some pos
-    → slice_get kept.answers.items pos ≡ Some answer → Done pos answer ≡ told log queue id
-told_kept kept log queue id pos answer h found is =
-    go (slice_get log pos) refl ∙ sym (ap (told_by log queue id) found)
-  where
-    within : pos < length kept.answers.items
-    within = slice_get_within kept.answers.items pos answer is
-
-    go : (o : Option Entry) → slice_get log pos ≡ o → Done pos answer ≡ told_by log queue id
-        (Some pos)
-    go None none = absurd (is_there log pos (omega (arith, within, h.few)) none)
-    go (Some e) there =
-        let same : answer ≡ answer_to (history (texts (take pos log))) e.id e.text =
-        answer_of_some _ _ (sym is ∙ h.answers pos e within there) in
-        ap (Done pos) same ∙ sym (ap (told_at log pos) there)

@@ -2,12 +2,13 @@
 
 ghost use Rattle.node.specs.Seeing.{seen_of};
 ghost use Rattle.replica.specs.Handles.{Handles};
+ghost use Rattle.replica.specs.Settles.{Settles};
 
 use crate::node::Node;
 use acceptor::NoMemory;
 use acceptor::ballot::Ballot;
 use acceptor::message::Messages;
-use answers::{Desk, SheetFault, Told};
+use answers::{Desk, IdState, LogSheetFault};
 use formats::Event as EventOf;
 use learner::event::DeskEvent;
 use learner::log::Log;
@@ -24,12 +25,20 @@ impl<K: Keeper + Drop> Desk for Node<K> {
 
     ghost handles = { Handles K.Keeper };
 
+    ghost settles = { Settles K.Keeper };
+
+    ghost is_settled = { λ n. K.is_settled n.keeper };
+
     fn home(&self) -> Home {
         Node::home(self)
     }
 
     fn handle(&mut self, event: DeskEvent) -> Result<Messages, NodeFault> {
         Node::handle(self, event)
+    }
+
+    fn settle(&mut self) -> bool {
+        Node::settle(self)
     }
 
     fn log(&self) -> &Log {
@@ -56,7 +65,7 @@ impl<K: Keeper + Drop> Desk for Node<K> {
         Node::is_down(self)
     }
 
-    fn answer(&self, id: u64) -> Result<Told, NoMemory> {
+    fn answer(&self, id: u64) -> Result<IdState, NoMemory> {
         Node::answer(self, id)
     }
 
@@ -66,7 +75,7 @@ impl<K: Keeper + Drop> Desk for Node<K> {
         event: EventOf,
         round: u8,
         style: Style,
-    ) -> Result<Vec<u8>, SheetFault> {
+    ) -> Result<Vec<u8>, LogSheetFault> {
         Node::sheet_at(self, position, event, round, style)
     }
 }

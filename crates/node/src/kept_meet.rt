@@ -9,7 +9,7 @@ ghost use Rattle.node.specs.model.KeptMeets.{IsKeptOf, TakesNext, lacking};
 use acceptor::NoMemory;
 use acceptor::entry::Entry;
 use answers::answers::{answer_of, sheet_in, sheet_of};
-use answers::{SheetFault, Told};
+use answers::{IdState, LogSheetFault};
 use commands::{Answer, Meet};
 use learner::log::Log;
 use sheets::Style;
@@ -87,13 +87,13 @@ impl KeptMeet {
         log: &Log,
         queue: &[Entry],
         id: u64,
-    ) -> Result<Told, NoMemory>
+    ) -> Result<IdState, NoMemory>
         requires { IsKeptOf self.now log.now.entries }
         ensures { IfOk result (λ answer. answer ≡ told log.now.entries queue.now id) }
     {
         if let Some(pos) = log.position_of(id) {
             if let Some(answer) = self.answers.get(pos as usize) {
-                return Ok(Told::Done {
+                return Ok(IdState::Done {
                     pos,
                     answer: *answer,
                 });
@@ -112,7 +112,7 @@ impl KeptMeet {
         event: formats::Event,
         round: u8,
         style: Style,
-    ) -> Result<Vec<u8>, SheetFault>
+    ) -> Result<Vec<u8>, LogSheetFault>
         requires { IsKeptOf self.now log.now.entries }
         ensures there { OnOk result (position ≤ length log.now.entries) }
         ensures sheet { IfOk result

@@ -8,7 +8,7 @@ mod desk;
 mod kept_meet;
 mod node;
 
-pub use answers::{SheetFault, Told};
+pub use answers::{IdState, LogSheetFault};
 pub use learner::event::DeskEvent;
 pub use node::Node;
 pub use replica::NodeFault;

@@ -8,13 +8,14 @@ ghost use Rattle.answers.specs.Answers.{told, sheet_at, NoSheetAt};
 ghost use Rattle.node.specs.model.KeptMeets.{IsKeptOf};
 ghost use Rattle.replica.specs.Handles.{Handles};
 ghost use Rattle.replica.specs.Opens.{Opens, GivesBack};
+ghost use Rattle.replica.specs.Settles.{Settles};
 ghost use Rattle.store.specs.Ranges.{IsHome};
 
 use crate::kept_meet::KeptMeet;
 use acceptor::NoMemory;
 use acceptor::ballot::Ballot;
 use acceptor::message::Messages;
-use answers::{SheetFault, Told};
+use answers::{IdState, LogSheetFault};
 use learner::event::DeskEvent;
 use learner::log::Log;
 use proposer::role::Role;
@@ -62,13 +63,14 @@ impl<K: Keeper> Model for Node<K> {
 
 impl<K: Keeper + Drop> Node<K> {
     /// Opens the desk that the keeper keeps: it has the state and the log that the keeper loads, is
-    /// idle, and has an empty queue.
+    /// idle, and has an empty queue. Nothing may wait in the keeper.
     ///
     /// Damaged: what the store holds is not a state in its ranges, or the count of failures is at
     /// its end. Device: the device refused, and a failure was counted. NoMemory: the keeper's load
     /// or the desk was refused memory. A refusal drops the keeper: `open_or_give_back` says what it
     /// leaves.
     pub fn open(alloc: Global, keeper: K) -> Result<Node<K>, LoadFault>
+        requires settled { K.is_settled keeper }
         ensures opened { IfOk result (λ node. Opens K.Keeper keeper node) }
         ensures refused { IfErr result (λ fault. (fault ≡ LoadFault.NoMemory)
             ⊎ ((k : K) × K.load_gives keeper (Err fault) k)) }
@@ -87,6 +89,7 @@ impl<K: Keeper + Drop> Node<K> {
     /// store holds nothing that it could not hold before, and is lost only where it could be
     /// before.
     pub fn open_or_give_back(alloc: Global, keeper: K) -> Result<Node<K>, (LoadFault, K)>
+        requires settled { K.is_settled keeper }
         ensures opened { IfOk result (λ node. Opens K.Keeper keeper node) }
         ensures given_back { IfErr result (λ e. GivesBack K.Keeper keeper e.0 e.1) }
         ensures refused { IfErr result (λ e. (e.0 ≡ LoadFault.NoMemory)
@@ -117,7 +120,8 @@ impl<K: Keeper + Drop> Node<K> {
         self.replica.home()
     }
 
-    /// Whether the desk is Down: a save has failed, and `handle` answers Down to each event.
+    /// Whether the desk is Down: a save or a settling has failed, and `handle` answers Down to each
+    /// event.
     pub fn is_down(&self) -> bool
         ensures { result ≡ self.now.is_down }
     {
@@ -159,8 +163,9 @@ impl<K: Keeper + Drop> Node<K> {
         self.replica.told()
     }
 
-    /// Takes an event: does the step of the protocol, with its one change committed to the store
-    /// before any message is handed out.
+    /// Takes an event: does the step of the protocol, and saves its one change. That may wait until
+    /// `settle` is called: no message that was handed out may leave the desk before that call has
+    /// answered true.
     ///
     /// The messages are in the order in which they are to be sent. Each is from this desk to a desk
     /// of the hall, with its fields in the ranges of a frame. A message for another desk, from none
@@ -174,8 +179,8 @@ impl<K: Keeper + Drop> Node<K> {
     /// no round is left. Where memory is refused, the answer is NoMemory. Each of these leaves the
     /// desk and its store as they were. Where the save fails by the device, the answer is Down, in
     /// this call and in every later one: nothing is handed out, the desk still shows its state
-    /// before that event, and a store that is opened again holds the state before it or the one
-    /// after it.
+    /// before that event, and a store that is settled and opened again holds the state before it or
+    /// the one after it.
     pub fn handle(&mut self, event: DeskEvent) -> Result<Messages, NodeFault>
         ensures { Handles K.Keeper self.old event result self.new }
     {
@@ -187,6 +192,17 @@ impl<K: Keeper + Drop> Node<K> {
             }
             Err(fault) => Err(fault),
         }
+    }
+
+    /// Commits the changes of all events since the last such call, together and in order: after a
+    /// stop at any moment a store that is opened again holds the state before them all, or the
+    /// state after them all. Where none waits, the device is not asked.
+    ///
+    /// False: the desk is Down, as it was before, or from now on.
+    pub fn settle(&mut self) -> bool
+        ensures { Settles K.Keeper self.old result self.new }
+    {
+        self.replica.settle()
     }
 
     /// The entries that this desk knows to be decided. At a desk that is Down they are those before
@@ -212,7 +228,7 @@ impl<K: Keeper + Drop> Node<K> {
 
     /// What has become of a submitted id, by this desk's log and queue, also where the desk is
     /// Down.
-    pub fn answer(&self, id: u64) -> Result<Told, NoMemory>
+    pub fn answer(&self, id: u64) -> Result<IdState, NoMemory>
         ensures { IfOk result (λ answer. answer ≡ told self.now.desk.log self.now.desk.queue id) }
     {
         self.kept
@@ -231,7 +247,7 @@ impl<K: Keeper + Drop> Node<K> {
         event: formats::Event,
         round: u8,
         style: Style,
-    ) -> Result<Vec<u8>, SheetFault>
+    ) -> Result<Vec<u8>, LogSheetFault>
         ensures there { OnOk result (position ≤ length self.now.desk.log) }
         ensures sheet { IfOk result
             (λ text. sheet_at style self.now.desk.log position event round ≡ Some text.items) }

@@ -10,8 +10,8 @@ use Rattle.std.proofs.lemmas.List.{length-map, map-append}
 use Rattle.indexmap.specs.IndexSet.{insert_key}
 use Rattle.acceptor.specs.declared.entry.Entry.{Entry}
 use Rattle.outbox.specs.declared.item.Item.{Item}
-use Rattle.outbox.specs.declared.journal_lines.Line.{Line}
-use Rattle.outbox.specs.declared.journal_lines.Line.TheVariants as line
+use Rattle.outbox.specs.declared.journal_lines.JournalLine.{JournalLine}
+use Rattle.outbox.specs.declared.journal_lines.JournalLine.TheVariants as line
 use Rattle.outbox.specs.Items.{ItemsOf, is_full, item_in, items_of, taken_at}
 use Rattle.outbox.specs.Journals.{after_lines, answered_again, followed_if, go_on}
 use Rattle.outbox.specs.Journals.{restored, with_item}
@@ -49,7 +49,7 @@ pub keys_more : (items : List (ℕ × Item)) (entry : Entry) (now : ℕ)
 keys_more items entry now = map-append key_of items ((entry.id, taken_at entry now) ∷ [])
 
 -- the items of a list that has the same ids fit as well, and the ids stay the same
-pub record FitsToo (r : ItemsOf) (now : ℕ) (o : Option Line) (x : ItemsOf) : Type 0 where
+pub record FitsToo (r : ItemsOf) (now : ℕ) (o : Option JournalLine) (x : ItemsOf) : Type 0 where
   pub next : ItemsOf
   pub fits : followed_if r now o ≡ Some next
   pub same : keys x ≡ keys next
@@ -95,7 +95,7 @@ answer_too q r x later id e h = go (is_some (item_in q id)) refl h
           same = ap keys (sym made) ∙ e;
         }
 
-fits_too : (q r x : ItemsOf) (now later : ℕ) (o : Option Line) → keys q ≡ keys r
+fits_too : (q r x : ItemsOf) (now later : ℕ) (o : Option JournalLine) → keys q ≡ keys r
     → followed_if q now o ≡ Some x → FitsToo r later o x
 fits_too q r x now later None e h = absurd cc
 fits_too q r x now later (Some (line.Item entry)) e h = item_too q r x now later entry e h

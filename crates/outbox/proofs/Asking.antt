@@ -3,7 +3,7 @@ use Rattle.std.proofs.Common.{◌≡◌, ℕ, zero, suc, ◌<◌, Bool, true, fa
 use Rattle.std.proofs.Common.{slice_get, Option, Some, None, refl, sym, ap, ◌∙◌, arith, subst}
 use Rattle.acceptor.specs.declared.entry.Entry.{Entry}
 use Rattle.wire.specs.declared.frame.Frame.{Frame}
-use Rattle.desk_talks.specs.Lines.{AsksOver, LineOf}
+use Rattle.desk_talks.specs.KeptConnections.{AsksOver, KeptConnectionOf}
 use Rattle.outbox.specs.declared.item.Item.{Item}
 use Rattle.outbox.specs.Outboxes.{AsksNext, IsEntryAt, OutboxOf, kept_from, submit_request}
 use Rattle.outbox.specs.Outboxes.{with_line}
@@ -21,14 +21,14 @@ kept_front (x ∷ items) (suc kept) (suc next) pair less is =
     kept_front items kept next pair (omega (arith, less)) is
 
 asks_left : (left : List (ℕ × Item)) (pair : ℕ × Item) (more : List (ℕ × Item)) (now : ℕ)
-    (old : OutboxOf) (line : LineOf) → left ≡ pair ∷ more
+    (old : OutboxOf) (line : KeptConnectionOf) → left ≡ pair ∷ more
     → AsksOver true now (submit_request old.hall old.desk pair.1.entry) old.line line
     → AsksNext left now old (with_line old line)
 asks_left left pair more now old line is asks =
     subst (λ (z : List (ℕ × Item)). AsksNext z now old (with_line old line)) (sym is)
     (line, asks, refl)
 
-asks_true : (asked : Bool) (now : ℕ) (question other : Frame) (old new : LineOf)
+asks_true : (asked : Bool) (now : ℕ) (question other : Frame) (old new : KeptConnectionOf)
     → asked ≡ true → question ≡ other → AsksOver asked now question old new
     → AsksOver true now other old new
 asks_true true now question other old new e is h =
@@ -36,7 +36,7 @@ asks_true true now question other old new e is h =
 asks_true false now question other old new e is h = absurd cc
 
 pub asks_next : (asked : Bool) (now : ℕ) (entry : Entry) (question : Frame) (old : OutboxOf)
-    (line : LineOf) → asked ≡ true → old.next < old.list.kept
+    (line : KeptConnectionOf) → asked ≡ true → old.next < old.list.kept
     → IsEntryAt (slice_get old.list.items old.next) entry
     → question ≡ submit_request old.hall old.desk entry
     → AsksOver asked now question old.line line

@@ -1,4 +1,4 @@
--- What is told saved was entered: the command of its text was accepted there.
+-- What is reported as saved was entered: the command of its text was accepted there.
 use Rattle.std.proofs.Common.{◌≡◌, ℕ, ◌+◌, Bool, true, false, not, List, [], ◌∷◌, ◌++◌, Option}
 use Rattle.std.proofs.Common.{Some}
 use Rattle.std.proofs.Common.{None, Result, Ok, take, refl, sym, ap, ◌∙◌, subst, if◌then◌else◌}
@@ -25,7 +25,7 @@ use Rattle.texts.specs.declared.answer.Code.TheVariants as code
 use Rattle.texts.specs.declared.command.CardEntry.{CardEntry}
 use Rattle.texts.specs.declared.command.Command.{Command}
 use Rattle.texts.specs.declared.command.Command.TheVariants.{Card, Fix}
-use Rattle.texts.specs.declared.command.Remarked.{Remarked}
+use Rattle.texts.specs.declared.command.RemarkedCommand.{RemarkedCommand}
 use Rattle.texts.specs.declared.command.Settings.{Settings}
 use Rattle.texts.specs.declared.reading.CommandFault.{CommandFault}
 use Rattle.mirror.specs.Answered.{answer_after}
@@ -33,7 +33,7 @@ use Rattle.outbox.specs.Cards.{AreSeen, SavedCardIsOverWhatWasSeen}
 use Rattle.outbox.specs.Cards.{SavedFixIsOverWhatWasSeen, SavedIsEntered, accepted_of}
 use Rattle.outbox.specs.Laws.{IsSo, StandsAs}
 use Rattle.outbox.specs.States.{state_of}
-use Rattle.outbox.specs.declared.state.State.TheVariants as state
+use Rattle.outbox.specs.declared.state.ItemState.TheVariants as state
 use Rattle.outbox.proofs.Looking.{take_more}
 use Rattle.outbox.proofs.Told.{never_by_guess}
 
@@ -82,13 +82,15 @@ passed h id text done =
     passed_by h id text (is_seen h id) refl
     (none_of (entry_refusal_in last_edition h id text) done)
 
-accepted_by : (cs : List Command) (told : Remarked) (read : Result Remarked CommandFault)
+accepted_by : (cs : List Command) (told : RemarkedCommand)
+    (read : Result RemarkedCommand CommandFault)
     → read ≡ Ok told → read_refusal_in last_edition cs read ≡ None
     → refusal cs told.command ≡ None
 accepted_by cs told read is e =
     provided (is_spelled_in (edition_in cs) told) code.Unread (refusal cs told.command)
     (provided (knows last_edition told.command) code.Unread (spelled_refusal cs told)
-    (subst (λ (r : Result Remarked CommandFault). read_refusal_in last_edition cs r ≡ None) is e))
+    (subst (λ (r : Result RemarkedCommand CommandFault). read_refusal_in last_edition cs r ≡ None)
+    is e))
 
 abbrev made : History → ℕ → List Command → History
 made h id more = record { ids = h.ids ++ id ∷ []; accepted = h.accepted ++ more }
@@ -99,7 +101,7 @@ added_by : (h : History) (id : ℕ) (command : Command) (seen : Bool) (more : Li
 added_by h id command true more e m = absurd cc
 added_by h id command false more e m = ap (λ cs. h.accepted ++ cs) m
 
-after_passed : (h : History) (id : ℕ) (text : List ℕ) (told : Remarked)
+after_passed : (h : History) (id : ℕ) (text : List ℕ) (told : RemarkedCommand)
     → command_of text ≡ Ok told → IsPassed h id text
     → (after h id text).accepted ≡ h.accepted ++ told.command ∷ []
 unfolding after_in
@@ -108,7 +110,7 @@ after_passed h id text told reads p =
     (added_read (read_refusal_in last_edition h.accepted (command_of text)) (command_of text))
     p.new
     (ap (λ r. added_read r (command_of text)) p.read
-    ∙ ap (λ (r : Result Remarked CommandFault). added_read None r) reads)
+    ∙ ap (λ (r : Result RemarkedCommand CommandFault). added_read None r) reads)
 
 -- ---- one entry more
 
@@ -126,7 +128,7 @@ history_more ts t =
 some_same : (a b : Answer) → Some a ≡ Some b → a ≡ b
 some_same a b h = cc
 
--- ---- what is told saved
+-- ---- what is reported as saved
 
 record IsDone (log : List Entry) (position : ℕ) (entry : Entry) : Type 0 where
   passes : IsPassed (history (texts (take position log))) entry.id entry.text

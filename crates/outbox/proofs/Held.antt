@@ -13,13 +13,13 @@ use Rattle.acceptor.specs.declared.entry.Entry.{Entry}
 use Rattle.texts.proofs.Cuts.{and-true}
 use Rattle.wire.specs.Spelling.{spelling}
 use Rattle.wire.specs.Entries.{IsEntry}
-use Rattle.desk_talks.specs.Lines.{unsent_by}
-use Rattle.desk_talks.specs.Talks.{TalkOf}
+use Rattle.desk_talks.specs.KeptConnections.{unsent_by}
+use Rattle.desk_talks.specs.Exchanges.{ExchangeOf}
 use Rattle.desk_talks.proofs.Saying.{SaysOver, says_wider}
 use Rattle.outbox.specs.declared.item.Item.{Item}
-use Rattle.outbox.specs.declared.item.Taken.{Taken}
-use Rattle.outbox.specs.declared.item.Taken.TheVariants as taken
-use Rattle.outbox.specs.declared.state.State.{State}
+use Rattle.outbox.specs.declared.item.QueueOutcome.{QueueOutcome}
+use Rattle.outbox.specs.declared.item.QueueOutcome.TheVariants as taken
+use Rattle.outbox.specs.declared.state.ItemState.{ItemState}
 use Rattle.outbox.specs.Histories.{Aim, Answer, Call, CallLeads, History, InDialogue, Kept, Leads}
 use Rattle.outbox.specs.Histories.{Look, NotKept, PromisesOf, Restart, Start, Take, Then, World}
 use Rattle.outbox.specs.Histories.{after_call, aimed_by, promises, promises_of, targets, world}
@@ -100,7 +100,7 @@ module _ (hall : HallOf) (desks : List ℕ) (p : PromisesOf) (old : World) (entr
       subst (λ (l : ItemsOf). IsSound hall desks p (world (with_list old.outbox l) old.file))
       (sym e) (relisted hall desks p p old old.outbox.list s s.keeps s.promised s.step)
 
-  same_list : (t : Taken) → (t ≡ taken.New → ⊥) → (o : Option Item) (list : ItemsOf)
+  same_list : (t : QueueOutcome) → (t ≡ taken.New → ⊥) → (o : Option Item) (list : ItemsOf)
       → TakesBy o old.outbox.list entry now t list → list ≡ old.outbox.list
   same_list t new (Some item) list (k, e) = e
   same_list taken.New new None list t = absurd (new refl)
@@ -111,7 +111,7 @@ module _ (hall : HallOf) (desks : List ℕ) (p : PromisesOf) (old : World) (entr
 
 -- ---- an item is answered
 
-ended : (o : Option Item) (f : Item → State) → has_ended (option_map f o) ≡ true
+ended : (o : Option Item) (f : Item → ItemState) → has_ended (option_map f o) ≡ true
     → (item : Item) × (o ≡ Some item)
 ended None f h = absurd cc
 ended (Some item) f h = (item, refl)
@@ -216,7 +216,7 @@ longer : (desks : List ℕ) (desk d : ℕ) → Contains desks d → Contains (de
 longer desks desk d c = Contains-append_left desks (desk ∷ []) d c
 
 after_take : (hall : HallOf) (desks : List ℕ) (p : PromisesOf) (old : World) (entry : Entry)
-    (now : ℕ) (came : Taken) (list : ItemsOf) → IsEntry entry → IsSound hall desks p old
+    (now : ℕ) (came : QueueOutcome) (list : ItemsOf) → IsEntry entry → IsSound hall desks p old
     → Takes old.outbox.list entry now came list
     → IsSound hall desks (after_call (Take entry now came) p)
     (world (with_list old.outbox list) old.file)
@@ -296,7 +296,7 @@ sound hall (Then h call) w (before, leads, call_leads) =
 -- ---- the laws
 
 of_submit : (hall : HallOf) (desks : List ℕ) (tail : List (List ℕ)) (file : List ℕ)
-    (talking : Option TalkOf) → whole_lines file ≡ hall_line hall ∷ tail
+    (talking : Option ExchangeOf) → whole_lines file ≡ hall_line hall ∷ tail
     → SaysOver (IsQuestion hall.number desks tail) talking
     → (unsent_by talking ≡ []) ⊎ IsOfSubmit hall desks file (unsent_by talking)
 of_submit hall desks tail file None named says = inl refl

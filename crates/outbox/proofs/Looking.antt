@@ -47,14 +47,6 @@ with_seen : (o : OutboxOf) (seen seen' : ℕ) (decided decided' : List ℕ) → 
 with_seen o seen seen' decided decided' s d =
     λ k. outbox o.list (s k) (d k) o.hall o.desk o.aim o.line o.next o.refusal
 
--- nothing more was looked through yet
-pub looked_first : (o : OutboxOf) (log : List Entry) → o ≡ looked o (take o.seen log)
-looked_first o log =
-    with_seen o o.seen (max o.seen (length (take o.seen log))) o.decided
-    (noted_all o.decided (drop o.seen (take o.seen log)))
-    (sym (most o.seen (length (take o.seen log)) (short log o.seen)))
-    (ap (noted_all o.decided) (sym (drop_none log o.seen)))
-
 -- one more entry is looked at
 pub looked_next : (o : OutboxOf) (log : List Entry) (p : ℕ) (e : Entry) → o.seen ≤ p
     → slice_get log p ≡ Some e
@@ -89,13 +81,3 @@ none_there : (xs : List Entry) (n : ℕ) → slice_get xs n ≡ None → length 
 none_there [] n h = omega arith
 none_there (x ∷ xs) zero h = absurd cc
 none_there (x ∷ xs) (suc n) h = omega (arith, none_there xs n h)
-
--- all was looked through
-pub looked_all : (o : OutboxOf) (log : List Entry) (p : ℕ) → length log ≤ p
-    → looked o (take p log) ≡ looked o log
-looked_all o log p less = ap (looked o) (take_all log p less)
-
--- no entry is left
-pub looked_none : (o : OutboxOf) (log : List Entry) (p : ℕ) → slice_get log p ≡ None
-    → looked o (take p log) ≡ looked o log
-looked_none o log p none = looked_all o log p (none_there log p none)

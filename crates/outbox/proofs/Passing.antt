@@ -12,17 +12,17 @@ use Rattle.std.proofs.lemmas.List.{take-append-drop, take-append-le}
 use Rattle.std.proofs.lemmas.List.Folds.{list_any-append}
 use Rattle.indexmap.specs.IndexSet.{insert_key}
 use Rattle.acceptor.specs.declared.entry.Entry.{Entry}
-use Rattle.wire.specs.declared.frame.What.{What}
-use Rattle.wire.specs.declared.frame.What.TheVariants as what
+use Rattle.wire.specs.declared.frame.FrameBody.{FrameBody}
+use Rattle.wire.specs.declared.frame.FrameBody.TheVariants as what
 use Rattle.desk_talks.specs.Dialogues.{Act, Call as DialogueCall, Hear, Lost, Opened, Sent}
-use Rattle.desk_talks.specs.Lines.{due_of}
-use Rattle.desk_talks.specs.declared.dialogue.Came.{Came}
-use Rattle.desk_talks.specs.declared.dialogue.Wish.{Wish}
-use Rattle.desk_talks.specs.declared.dialogue.Wish.TheVariants as wish
-use Rattle.desk_talks.specs.declared.line.Due.{Due}
-use Rattle.desk_talks.specs.declared.line.Due.TheVariants as due
-use Rattle.desk_talks.specs.declared.talk.Heard.{Heard}
-use Rattle.desk_talks.specs.declared.talk.Heard.TheVariants as heard
+use Rattle.desk_talks.specs.KeptConnections.{due_of}
+use Rattle.desk_talks.specs.declared.dialogue.ReceiveOutcome.{ReceiveOutcome}
+use Rattle.desk_talks.specs.declared.dialogue.DialogueAction.{DialogueAction}
+use Rattle.desk_talks.specs.declared.dialogue.DialogueAction.TheVariants as wish
+use Rattle.desk_talks.specs.declared.kept_connection.DueAction.{DueAction}
+use Rattle.desk_talks.specs.declared.kept_connection.DueAction.TheVariants as due
+use Rattle.desk_talks.specs.declared.exchange.AnswerOutcome.{AnswerOutcome}
+use Rattle.desk_talks.specs.declared.exchange.AnswerOutcome.TheVariants as heard
 use Rattle.outbox.specs.declared.item.Item.{Item}
 use Rattle.outbox.specs.Histories.{Aim, Answer, Call, CallLeads, History, InDialogue, Kept, Leads}
 use Rattle.outbox.specs.Histories.{Look, LooksAt, LooksBy, NotKept, Restart, Start, Take, Then}
@@ -165,7 +165,7 @@ far_next [] now old new none = absurd none
 far_next (pair ∷ more) now old new (line, asks, e) =
     is_as_far old (with_line old line) new e refl refl
 
-far_ask : (w : Wish) (now : ℕ) (old new : OutboxOf) → Asks w now old new → IsAsFar old new
+far_ask : (w : DialogueAction) (now : ℕ) (old new : OutboxOf) → Asks w now old new → IsAsFar old new
 far_ask wish.Write now old new asks =
     far_next (kept_from old.list old.next) now old new asks
 far_ask wish.Close now old new e = is_as_far old _ new e refl refl
@@ -176,17 +176,19 @@ far_ask wish.Stop now old new none = absurd none
 after_skip : (old new : OutboxOf) → IsAsFar (skipped old) new → IsAsFar old new
 after_skip old new s = record { seen = s.seen; decided = s.decided }
 
-far_ask_if : (left : Bool) (w : Wish) (now : ℕ) (old new : OutboxOf) → AsksIf left w now old new
+far_ask_if : (left : Bool) (w : DialogueAction) (now : ℕ) (old new : OutboxOf)
+    → AsksIf left w now old new
     → IsAsFar old new
 far_ask_if true w now old new asks = far_ask w now old new asks
 far_ask_if false w now old new (is, e) = is_as_far old old new e refl refl
 
-far_open_if : (left : Bool) (w : Wish) (now : ℕ) (old new : OutboxOf)
+far_open_if : (left : Bool) (w : DialogueAction) (now : ℕ) (old new : OutboxOf)
     → OpensIf left w now old new → IsAsFar old new
 far_open_if true w now old new (is, e) = is_as_far old _ new e refl refl
 far_open_if false w now old new (is, e) = is_as_far old old new e refl refl
 
-far_due : (is : Due) (w : Wish) (now : ℕ) (old new : OutboxOf) → ActsBy is w now old new
+far_due : (is : DueAction) (w : DialogueAction) (now : ℕ) (old new : OutboxOf)
+    → ActsBy is w now old new
     → IsAsFar old new
 far_due due.Rest w now old new (is, e) = is_as_far old old new e refl refl
 far_due due.Open w now old new acts =
@@ -196,17 +198,20 @@ far_due due.Ask w now old new acts =
 far_due due.Close w now old new (is, e) = is_as_far old _ new e refl refl
 far_due due.Renew w now old new (is, e) = is_as_far old _ new e refl refl
 
-far_act : (stays : Bool) (w : Wish) (now : ℕ) (old new : OutboxOf) → ActsAt stays w now old new
+far_act : (stays : Bool) (w : DialogueAction) (now : ℕ) (old new : OutboxOf)
+    → ActsAt stays w now old new
     → IsAsFar old new
 far_act true w now old new acts = far_due (due_of old.line now) w now old new acts
 far_act false w now old new (is, e) = is_as_far old _ new e refl refl
 
-far_answer : (answer : What) (c : Came) (old new : OutboxOf) → FollowsAnswer answer c old new
+far_answer : (answer : FrameBody) (c : ReceiveOutcome) (old new : OutboxOf)
+    → FollowsAnswer answer c old new
     → IsAsFar old new
 far_answer (what.Taken id) c old new (is, e) = is_as_far old _ new e refl refl
 far_answer _ c old new (is, e) = is_as_far old _ new e refl refl
 
-far_heard : (told : Heard) (c : Came) (old new : OutboxOf) → Follows told c old new
+far_heard : (told : AnswerOutcome) (c : ReceiveOutcome) (old new : OutboxOf)
+    → Follows told c old new
     → IsAsFar old new
 far_heard heard.Waits c old new (is, e) = is_as_far old old new e refl refl
 far_heard (heard.Answer answer) c old new follows = far_answer answer c old new follows

@@ -10,8 +10,8 @@ use Rattle.std.specs.Map.{lookup}
 use Rattle.indexmap.specs.IndexSet.{insert_key}
 use Rattle.acceptor.specs.declared.entry.Entry.{Entry}
 use Rattle.outbox.specs.declared.item.Item.{Item}
-use Rattle.outbox.specs.declared.journal_lines.Line.{Line}
-use Rattle.outbox.specs.declared.journal_lines.Line.TheVariants as line
+use Rattle.outbox.specs.declared.journal_lines.JournalLine.{JournalLine}
+use Rattle.outbox.specs.declared.journal_lines.JournalLine.TheVariants as line
 use Rattle.outbox.specs.Items.{ItemsOf, is_full, item_in, items_of, no_items, taken_at}
 use Rattle.outbox.specs.Journals.{after_lines, answered_again, followed_if, go_on}
 use Rattle.outbox.specs.Journals.{restored, with_item}
@@ -75,7 +75,7 @@ adds_answer bytes now q next id h = go (is_some (item_in q id)) h
           lines = ap (λ (x : ItemsOf). x.lines) (sym same);
         })
 
-adds_said : (bytes : List ℕ) (now : ℕ) (q next : ItemsOf) (o : Option Line) → said bytes ≡ o
+adds_said : (bytes : List ℕ) (now : ℕ) (q next : ItemsOf) (o : Option JournalLine) → said bytes ≡ o
     → followed_if q now o ≡ Some next → Adds bytes now q next
 adds_said bytes now q next None is h = absurd cc
 adds_said bytes now q next (Some (line.Item entry)) is h = adds_item bytes now q next entry is h

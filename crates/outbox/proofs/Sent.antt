@@ -4,17 +4,17 @@ use Rattle.std.proofs.Common.{refl, sym, ap, ◌∙◌, subst}
 use Rattle.std.specs.Prelude.{Contains}
 use Rattle.std.specs.List.{AllByRecursion}
 use Rattle.acceptor.specs.declared.entry.Entry.{Entry}
-use Rattle.wire.specs.declared.frame.What.{What}
-use Rattle.wire.specs.declared.frame.What.TheVariants as what
+use Rattle.wire.specs.declared.frame.FrameBody.{FrameBody}
+use Rattle.wire.specs.declared.frame.FrameBody.TheVariants as what
 use Rattle.desk_talks.specs.Dialogues.{Act, Call, Hear, Lost, Opened, Sent}
-use Rattle.desk_talks.specs.Lines.{LineOf, due_of, opening}
-use Rattle.desk_talks.specs.declared.dialogue.Came.{Came}
-use Rattle.desk_talks.specs.declared.dialogue.Wish.{Wish}
-use Rattle.desk_talks.specs.declared.dialogue.Wish.TheVariants as wish
-use Rattle.desk_talks.specs.declared.line.Due.{Due}
-use Rattle.desk_talks.specs.declared.line.Due.TheVariants as due
-use Rattle.desk_talks.specs.declared.talk.Heard.{Heard}
-use Rattle.desk_talks.specs.declared.talk.Heard.TheVariants as heard
+use Rattle.desk_talks.specs.KeptConnections.{KeptConnectionOf, due_of, opening}
+use Rattle.desk_talks.specs.declared.dialogue.ReceiveOutcome.{ReceiveOutcome}
+use Rattle.desk_talks.specs.declared.dialogue.DialogueAction.{DialogueAction}
+use Rattle.desk_talks.specs.declared.dialogue.DialogueAction.TheVariants as wish
+use Rattle.desk_talks.specs.declared.kept_connection.DueAction.{DueAction}
+use Rattle.desk_talks.specs.declared.kept_connection.DueAction.TheVariants as due
+use Rattle.desk_talks.specs.declared.exchange.AnswerOutcome.{AnswerOutcome}
+use Rattle.desk_talks.specs.declared.exchange.AnswerOutcome.TheVariants as heard
 use Rattle.desk_talks.proofs.Saying.{SaysOver, asks_over, hears_over, opens_over, says_wider}
 use Rattle.desk_talks.proofs.Saying.{sent_over}
 use Rattle.outbox.specs.declared.item.Item.{Item}
@@ -50,7 +50,7 @@ module _ (hall : HallOf) (desks : List ℕ) (p : PromisesOf) (file : List ℕ) w
     says = says;
   }
 
-  over : (old : OutboxOf) (line : LineOf) (s : Sound old)
+  over : (old : OutboxOf) (line : KeptConnectionOf) (s : Sound old)
       → SaysOver (IsQuestion hall.number desks s.tail) line.talking → Sound (with_line old line)
   over old line s says = same old (with_line old line) s refl refl refl refl says
 
@@ -84,7 +84,7 @@ module _ (hall : HallOf) (desks : List ℕ) (p : PromisesOf) (file : List ℕ) w
         is = ap (λ h. submit_request h old.desk pair.1.entry) s.number;
       }) asks))
 
-  after_ask : (w : Wish) (now : ℕ) (old new : OutboxOf) → Sound old → Asks w now old new
+  after_ask : (w : DialogueAction) (now : ℕ) (old new : OutboxOf) → Sound old → Asks w now old new
       → Sound new
   after_ask wish.Write now old new s asks =
       after_next (kept_from old.list old.next) now old new s refl asks
@@ -93,18 +93,18 @@ module _ (hall : HallOf) (desks : List ℕ) (p : PromisesOf) (file : List ℕ) w
   after_ask (wish.Open d) now old new s none = absurd none
   after_ask wish.Stop now old new s none = absurd none
 
-  ask_if : (left : Bool) (w : Wish) (now : ℕ) (old new : OutboxOf) → Sound old
+  ask_if : (left : Bool) (w : DialogueAction) (now : ℕ) (old new : OutboxOf) → Sound old
       → AsksIf left w now old new → Sound new
   ask_if true w now old new s asks = after_ask w now old new s asks
   ask_if false w now old new s (is, e) = as_it_was old new s e
 
-  open_if : (left : Bool) (w : Wish) (now : ℕ) (old new : OutboxOf) → Sound old
+  open_if : (left : Bool) (w : DialogueAction) (now : ℕ) (old new : OutboxOf) → Sound old
       → OpensIf left w now old new → Sound new
   open_if true w now old new s (is, e) =
       subst Sound (sym e) (over old (opening old.line now) s tt)
   open_if false w now old new s (is, e) = as_it_was old new s e
 
-  after_due : (is : Due) (w : Wish) (now : ℕ) (old new : OutboxOf) → Sound old
+  after_due : (is : DueAction) (w : DialogueAction) (now : ℕ) (old new : OutboxOf) → Sound old
       → ActsBy is w now old new → Sound new
   after_due due.Rest w now old new s (is, e) = as_it_was old new s e
   after_due due.Open w now old new s acts =
@@ -114,7 +114,7 @@ module _ (hall : HallOf) (desks : List ℕ) (p : PromisesOf) (file : List ℕ) w
   after_due due.Close w now old new s (is, e) = after_lost old new s e
   after_due due.Renew w now old new s (is, e) = after_lost old new s e
 
-  after_at : (stays : Bool) (w : Wish) (now : ℕ) (old new : OutboxOf) → Sound old
+  after_at : (stays : Bool) (w : DialogueAction) (now : ℕ) (old new : OutboxOf) → Sound old
       → ActsAt stays w now old new → Sound new
   after_at true w now old new s acts = after_due (due_of old.line now) w now old new s acts
   after_at false w now old new s (is, e) =
@@ -133,13 +133,13 @@ module _ (hall : HallOf) (desks : List ℕ) (p : PromisesOf) (file : List ℕ) w
 
   -- ---- what comes
 
-  after_answer : (answer : What) (c : Came) (old new : OutboxOf) → Sound old
+  after_answer : (answer : FrameBody) (c : ReceiveOutcome) (old new : OutboxOf) → Sound old
       → FollowsAnswer answer c old new → Sound new
   after_answer (what.Taken id) c old new s (is, e) =
       subst Sound (sym e) (same old (took old id) s refl refl refl refl s.says)
   after_answer _ c old new s (is, e) = after_lost old new s e
 
-  after_heard : (told : Heard) (c : Came) (old new : OutboxOf) → Sound old
+  after_heard : (told : AnswerOutcome) (c : ReceiveOutcome) (old new : OutboxOf) → Sound old
       → Follows told c old new → Sound new
   after_heard heard.Waits c old new s (is, e) = as_it_was old new s e
   after_heard (heard.Answer answer) c old new s follows = after_answer answer c old new s follows

@@ -15,7 +15,7 @@ use Rattle.texts.specs.Numerals.{digits_value, within}
 use Rattle.texts.proofs.Cuts.{and-true, behind, cut-behind, cut_spelled, lacks}
 use Rattle.texts.proofs.FieldSpellings.{decimal_digits, decimal_no_space}
 use Rattle.texts.proofs.Numerals.{number_between-decimal}
-use Rattle.outbox.specs.declared.journal_lines.Line.TheVariants as line
+use Rattle.outbox.specs.declared.journal_lines.JournalLine.TheVariants as line
 use Rattle.outbox.specs.Items.{is_line}
 use Rattle.outbox.specs.Lines.{answered_line, id_of, answered_of, item_by, item_line, item_of}
 use Rattle.outbox.specs.Lines.{said, said_after, said_by}

@@ -5,7 +5,7 @@ use Rattle.std.specs.Map.{lookup}
 use Rattle.std.proofs.lemmas.List.Elements.{Contains-append_left, Contains-push}
 use Rattle.acceptor.specs.declared.entry.Entry.{Entry}
 use Rattle.desk_talks.specs.Dialogues.{CallsLead}
-use Rattle.outbox.specs.declared.item.Taken.TheVariants as taken
+use Rattle.outbox.specs.declared.item.QueueOutcome.TheVariants as taken
 use Rattle.outbox.specs.Histories.{Aim, Answer, Call, CallLeads, InDialogue, Kept, Look, NotKept}
 use Rattle.outbox.specs.Histories.{PromisesOf, Restart, Take, World, after_call, aimed_by}
 use Rattle.outbox.specs.Histories.{promises, promises_of, targets}

@@ -1,4 +1,4 @@
--- What is told of an entry is what the log says.
+-- What is reported of an entry is what the log says.
 use Rattle.std.proofs.Common.{◌≡◌, ◌≢◌, ℕ, ◌<◌, ◌==◌, Bool, true, false, List, [], ◌++◌}
 use Rattle.std.proofs.Common.{Option, Some, None, length, slice_get, refl, sym, ap, ◌∙◌, arith}
 use Rattle.std.proofs.Common.{if◌then◌else◌, subst, take}
@@ -13,7 +13,7 @@ use Rattle.texts.specs.declared.answer.Answer.TheVariants as answer
 use Rattle.texts.specs.declared.answer.Code.{Code}
 use Rattle.texts.specs.declared.answer.Code.TheVariants as code
 use Rattle.mirror.specs.Answered.{answer_after, answer_at}
-use Rattle.outbox.specs.declared.state.State.TheVariants as state
+use Rattle.outbox.specs.declared.state.ItemState.TheVariants as state
 use Rattle.outbox.specs.Laws.{IsSo, NeverByGuess, StandsAs, ToldAtOnce, ToldForGood}
 use Rattle.outbox.specs.States.{answered_as, refused_as, state_at, state_by, state_of}
 use Rattle.outbox.proofs.Fronts.{answer_front, found_at, found_front, get_front}
@@ -114,9 +114,9 @@ never_by_guess held log entry (rest, is) =
     subst (λ (l : List Entry). IsSo l entry (state_of held entry)) is
     (so_at held rest entry (position_of held entry.id) refl)
 
--- ---- what is told stays
+-- ---- what is reported stays
 
--- what is there is told
+-- what is there is reported
 ends : (p : ℕ) (told : Answer) (same : Bool)
     → (if same then answered_as p (Some told) else state.OtherText p) ≢ state.Waits
 ends p answer.Done true h = absurd cc

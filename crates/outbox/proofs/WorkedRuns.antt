@@ -4,9 +4,9 @@ use Rattle.std.specs.Fmt.{digits}
 use Rattle.texts.specs.Fields.{cut, number_between}
 use Rattle.wire.specs.Entries.{IsEntry}
 use Rattle.wire.specs.Stream.{holding}
-use Rattle.desk_talks.specs.Lines.{line, opening, new_line}
-use Rattle.desk_talks.specs.Talks.{talk}
-use Rattle.desk_talks.specs.declared.line.Stage.TheVariants as stage
+use Rattle.desk_talks.specs.KeptConnections.{line, opening, new_line}
+use Rattle.desk_talks.specs.Exchanges.{talk}
+use Rattle.desk_talks.specs.declared.kept_connection.ConnectionStage.TheVariants as stage
 use Rattle.outbox.specs.Histories.{IsStarted, Leads, world}
 use Rattle.outbox.specs.Items.{no_items, queued}
 use Rattle.outbox.specs.Outboxes.{new_outbox, with_line, with_list}

@@ -10,10 +10,10 @@ use Rattle.texts.specs.Reading.{command_of}
 use Rattle.texts.specs.declared.command.CardEntry.{CardEntry}
 use Rattle.texts.specs.declared.command.Command.{Command}
 use Rattle.texts.specs.declared.command.Command.TheVariants.{Card, Fix}
-use Rattle.texts.specs.declared.command.Remarked.{Remarked}
+use Rattle.texts.specs.declared.command.RemarkedCommand.{RemarkedCommand}
 use Rattle.texts.specs.declared.command.Settings.{Settings}
 use Rattle.outbox.specs.States.{state_of}
-use Rattle.outbox.specs.declared.state.State.TheVariants as state
+use Rattle.outbox.specs.declared.state.ItemState.TheVariants as state
 
 -- the commands that were accepted of the first entries of a log
 abbrev pub accepted_of : List Entry → ℕ → List Command
@@ -21,7 +21,7 @@ accepted_of log count = (history (texts (take count log))).accepted
 
 -- the text of an entry is a command, with a remark or without one
 pub record Says (entry : Entry) (command : Command) : Type 0 where
-  pub told : Remarked
+  pub told : RemarkedCommand
   pub reads : command_of entry.text ≡ Ok told
   pub is : told.command ≡ command
 
@@ -48,8 +48,8 @@ pub record AreSeen (cs : List Command) (card : CardEntry) : Type 0 where
   pub seen : are_values card.was one.values ≡ true
 
 -- Where the card of an entry is reported saved, just in front of it the entrant had the values that
--- the confirmed page showed. What he has just after it `card_laws` says of the next accepted
--- command.
+-- the confirmed page showed. `card_laws` says which values the entrant has just after it, as after
+-- any next accepted command.
 abbrev pub SavedOverWhatWasSeen : (CardEntry → Command) → Type 0
 SavedOverWhatWasSeen command =
     (held log : List Entry) (entry : Entry) (position : ℕ) (card : CardEntry)

@@ -5,8 +5,8 @@ use Rattle.acceptor.specs.declared.entry.Entry.{Entry}
 use Rattle.learner.specs.Laws.{IsPrefix}
 use Rattle.wire.specs.Entries.{IsEntry}
 use Rattle.desk_talks.specs.Dialogues.{Call as DialogueCall}
-use Rattle.outbox.specs.declared.item.Taken.{Taken}
-use Rattle.outbox.specs.declared.item.Taken.TheVariants as taken
+use Rattle.outbox.specs.declared.item.QueueOutcome.{QueueOutcome}
+use Rattle.outbox.specs.declared.item.QueueOutcome.TheVariants as taken
 use Rattle.outbox.specs.Items.{ItemsOf, Takes, all_kept, taken_back}
 use Rattle.outbox.specs.Journals.{read_back}
 use Rattle.outbox.specs.Lines.{HallOf, cut_line, whole_lines}
@@ -21,10 +21,10 @@ pub record World : Type 0 where
 abbrev pub world : OutboxOf → List ℕ → World
 world outbox file = record { outbox = outbox; file = file }
 
--- a call, with what it was given and what it answered; one that was refused memory is none, but for
--- one that looked at a part of the log
+-- a call, with what it was given and what it answered; one that was refused memory is no call, but
+-- for one that looked at a part of the log
 pub data Call : Type 0 where
-  Take : Entry → (now : ℕ) → Taken → Call
+  Take : Entry → (now : ℕ) → QueueOutcome → Call
   -- the lines were put into the file; or they could not be
   Kept : Call
   NotKept : Call
@@ -35,9 +35,9 @@ pub data Call : Type 0 where
   Aim : (desk : ℕ) → Call
   -- a call of its dialogue
   InDialogue : DialogueCall → Call
-  -- The program, or its machine, ends, and is started again, over this desk. After the lines of the
-  -- file are these bytes: a part of the lines that were to be put there, or whatever a write that
-  -- failed has left; what is after the last whole line is cut off.
+  -- The program, or its machine, ends, and the program is started again, over this desk. These
+  -- bytes follow the lines of the file: a part of the lines that were to be put there, or whatever
+  -- a write that failed has left. What follows the last whole line is cut off.
   Restart : (more : List ℕ) → (desk now : ℕ) → Call
 
 -- a file has the whole lines of these bytes, and nothing is after them

@@ -7,8 +7,8 @@ use Rattle.std.specs.Map.{lookup}
 use Rattle.indexmap.specs.IndexSet.{insert_key}
 use Rattle.acceptor.specs.declared.entry.Entry.{Entry}
 use Rattle.outbox.specs.declared.item.Item.{Item}
-use Rattle.outbox.specs.declared.item.Taken.{Taken}
-use Rattle.outbox.specs.declared.item.Taken.TheVariants as taken
+use Rattle.outbox.specs.declared.item.QueueOutcome.{QueueOutcome}
+use Rattle.outbox.specs.declared.item.QueueOutcome.TheVariants as taken
 use Rattle.outbox.specs.Lines.{answered_line, item_line, with_end}
 
 -- the items by their ids, in the order in which they were taken; how many of the first of them are
@@ -68,10 +68,10 @@ queued q entry now =
     (q.lines ++ with_end (item_line entry)) q.answered
 
 -- an entry of an id that is known is what it was, or another one
-abbrev pub known_as : Item → Entry → Taken
+abbrev pub known_as : Item → Entry → QueueOutcome
 known_as item entry = if bytes_eq item.entry.text entry.text then taken.Same else taken.Other
 
-abbrev pub TakesNew : ItemsOf → Entry → ℕ → Taken → ItemsOf → Type 0
+abbrev pub TakesNew : ItemsOf → Entry → ℕ → QueueOutcome → ItemsOf → Type 0
 TakesNew old entry now taken.New new =
     (is_line entry.text ≡ true) × (is_full old ≡ false) × (new ≡ queued old entry now)
 TakesNew old entry now taken.Unfit new = (is_line entry.text ≡ false) × (new ≡ old)
@@ -80,13 +80,13 @@ TakesNew old entry now taken.Full new =
 TakesNew old entry now taken.Same new = ⊥
 TakesNew old entry now taken.Other new = ⊥
 
-abbrev pub TakesBy : Option Item → ItemsOf → Entry → ℕ → Taken → ItemsOf → Type 0
+abbrev pub TakesBy : Option Item → ItemsOf → Entry → ℕ → QueueOutcome → ItemsOf → Type 0
 TakesBy (Some item) old entry now came new = (came ≡ known_as item entry) × (new ≡ old)
 TakesBy None old entry now came new = TakesNew old entry now came new
 
 -- an entry whose id is known changes nothing; another one is queued, if it has a line and there is
 -- room
-abbrev pub Takes : ItemsOf → Entry → ℕ → Taken → ItemsOf → Type 0
+abbrev pub Takes : ItemsOf → Entry → ℕ → QueueOutcome → ItemsOf → Type 0
 Takes old entry now came new = TakesBy (item_in old entry.id) old entry now came new
 
 -- ---- what is kept

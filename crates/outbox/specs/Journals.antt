@@ -7,8 +7,8 @@ use Rattle.acceptor.specs.declared.entry.Entry.{Entry}
 use Rattle.texts.specs.Fields.{cut}
 use Rattle.outbox.specs.declared.journal.JournalFault.{JournalFault}
 use Rattle.outbox.specs.declared.journal.JournalFault.TheVariants as fault
-use Rattle.outbox.specs.declared.journal_lines.Line.{Line}
-use Rattle.outbox.specs.declared.journal_lines.Line.TheVariants as line
+use Rattle.outbox.specs.declared.journal_lines.JournalLine.{JournalLine}
+use Rattle.outbox.specs.declared.journal_lines.JournalLine.TheVariants as line
 use Rattle.outbox.specs.Items.{ItemsOf, is_full, item_in, items_of, no_items, taken_at}
 use Rattle.outbox.specs.Lines.{HallOf, hall_line, said, whole_lines}
 
@@ -32,15 +32,15 @@ answered_again q id =
     else None
 
 -- the items after what a line says, where that fits what was said before
-abbrev pub followed : ItemsOf → ℕ → Line → Option ItemsOf
+abbrev pub followed : ItemsOf → ℕ → JournalLine → Option ItemsOf
 followed q now (line.Item entry) = restored q entry now
 followed q now (line.Answered id) = answered_again q id
 
-abbrev pub followed_if : ItemsOf → ℕ → Option Line → Option ItemsOf
+abbrev pub followed_if : ItemsOf → ℕ → Option JournalLine → Option ItemsOf
 followed_if q now None = None
 followed_if q now (Some said) = followed q now said
 
-abbrev pub FollowsIf : ItemsOf → ℕ → Option Line → Bool → ItemsOf → Type 0
+abbrev pub FollowsIf : ItemsOf → ℕ → Option JournalLine → Bool → ItemsOf → Type 0
 FollowsIf old now said true new = followed_if old now said ≡ Some new
 FollowsIf old now said false new = followed_if old now said ≡ None
 
@@ -56,7 +56,7 @@ after_lines q now number [] = Ok q
 after_lines q now number (line ∷ lines) =
     go_on (followed_if q now (said line)) number (λ next. after_lines next now (number + 1) lines)
 
--- a line that the program writes that knows no `CARD`
+-- a line of the earlier program, which knows no `CARD`
 abbrev pub is_earlier_word : List ℕ → Bool
 is_earlier_word word =
     bytes_eq word (codes "card") || bytes_eq word (codes "command") || bytes_eq word (codes "done")

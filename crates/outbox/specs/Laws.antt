@@ -14,10 +14,10 @@ use Rattle.mirror.specs.Answered.{answer_at}
 use Rattle.wire.specs.Entries.{IsEntry}
 use Rattle.wire.specs.Spelling.{spelling}
 use Rattle.desk_talks.specs.Dialogues.{CallsLead}
-use Rattle.desk_talks.specs.Lines.{unsent_by}
+use Rattle.desk_talks.specs.KeptConnections.{unsent_by}
 use Rattle.outbox.specs.declared.item.Item.{Item}
-use Rattle.outbox.specs.declared.state.State.{State}
-use Rattle.outbox.specs.declared.state.State.TheVariants as state
+use Rattle.outbox.specs.declared.state.ItemState.{ItemState}
+use Rattle.outbox.specs.declared.state.ItemState.TheVariants as state
 use Rattle.outbox.specs.Histories.{Call, CallLeads, History, Leads, LooksAt, World, promises}
 use Rattle.outbox.specs.Histories.{targets}
 use Rattle.outbox.specs.Items.{ItemsOf, is_answered, item_in, taken_back}
@@ -26,7 +26,7 @@ use Rattle.outbox.specs.Lines.{HallOf, hall_line, item_line, whole_lines}
 use Rattle.outbox.specs.Outboxes.{is_decided, submit_request}
 use Rattle.outbox.specs.States.{state_of}
 
--- ---- what is told of an item
+-- ---- what is reported of an item
 
 -- the entry is at a position of a log, and was answered so
 pub record StandsAs (log : List Entry) (position : ℕ) (entry : Entry) (told : Answer) : Type 0 where
@@ -40,8 +40,8 @@ pub record StandsOther (log : List Entry) (position : ℕ) (entry : Entry) : Typ
   pub id : other.id ≡ entry.id
   pub text : other.text ≢ entry.text
 
--- what is told of an entry is so in a log
-abbrev pub IsSo : List Entry → Entry → State → Type 0
+-- what is reported of an entry is so in a log
+abbrev pub IsSo : List Entry → Entry → ItemState → Type 0
 IsSo log entry state.Waits = Unit {0}
 IsSo log entry (state.Saved position) = StandsAs log position entry answer.Done
 IsSo log entry (state.Changed position) =
@@ -49,14 +49,14 @@ IsSo log entry (state.Changed position) =
 IsSo log entry (state.Refused position why) = StandsAs log position entry (answer.Refused why)
 IsSo log entry (state.OtherText position) = StandsOther log position entry
 
--- what is told of an entry, by the part of the log that a mirror holds, is so in every log that
+-- what is reported of an entry, by the part of the log that a mirror holds, is so in every log that
 -- begins with that part
 abbrev pub NeverByGuess : Type 0
 NeverByGuess =
     (held log : List Entry) (entry : Entry) → IsPrefix held log
     → IsSo log entry (state_of held entry)
 
--- and it is told, as long as an entry of its id is there, and stays as it was told
+-- and it is reported, as long as an entry of its id is there, and stays as it was reported
 abbrev pub ToldAtOnce : Type 0
 ToldAtOnce =
     (held : List Entry) (entry : Entry) → state_of held entry ≡ state.Waits

@@ -6,8 +6,8 @@ use Rattle.std.specs.List.{flat_map, slice_split}
 use Rattle.std.specs.Option.{option_map}
 use Rattle.acceptor.specs.declared.entry.Entry.{Entry}
 use Rattle.texts.specs.Fields.{cut, number_between}
-use Rattle.outbox.specs.declared.journal_lines.Line.{Line}
-use Rattle.outbox.specs.declared.journal_lines.Line.TheVariants as line
+use Rattle.outbox.specs.declared.journal_lines.JournalLine.{JournalLine}
+use Rattle.outbox.specs.declared.journal_lines.JournalLine.TheVariants as line
 
 -- ---- what is written
 
@@ -36,30 +36,30 @@ hall_line hall =
 abbrev pub id_of : List ℕ → Option ℕ
 id_of word = number_between 1 (2 ^ 63 - 1) word
 
-abbrev pub item_of : Option ℕ → List ℕ → Option Line
+abbrev pub item_of : Option ℕ → List ℕ → Option JournalLine
 item_of None text = None
 item_of (Some id) text =
     if nat_le (length text) 600 then Some (line.Item (record { id = id; text = text })) else None
 
-abbrev pub item_by : List ℕ × Option (List ℕ) → Option Line
+abbrev pub item_by : List ℕ × Option (List ℕ) → Option JournalLine
 item_by (word, None) = None
 item_by (word, Some text) = item_of (id_of word) text
 
-abbrev pub answered_of : ℕ → Line
+abbrev pub answered_of : ℕ → JournalLine
 answered_of id = line.Answered id
 
-abbrev pub said_after : List ℕ → List ℕ → Option Line
+abbrev pub said_after : List ℕ → List ℕ → Option JournalLine
 said_after word rest =
     if bytes_eq word (codes "item") then item_by (cut 32 rest)
     else if bytes_eq word (codes "answered") then option_map answered_of (id_of rest)
     else None
 
-abbrev pub said_by : List ℕ × Option (List ℕ) → Option Line
+abbrev pub said_by : List ℕ × Option (List ℕ) → Option JournalLine
 said_by (word, None) = None
 said_by (word, Some rest) = said_after word rest
 
 -- what a line says, without its end
-abbrev pub said : List ℕ → Option Line
+abbrev pub said : List ℕ → Option JournalLine
 said line = said_by (cut 32 line)
 
 -- ---- the lines of a file

@@ -7,29 +7,31 @@ use Rattle.std.specs.Option.{option_map}
 use Rattle.indexmap.specs.IndexSet.{insert_key}
 use Rattle.acceptor.specs.declared.entry.Entry.{Entry}
 use Rattle.wire.specs.declared.frame.Frame.{Frame}
-use Rattle.wire.specs.declared.frame.What.{What}
-use Rattle.wire.specs.declared.frame.What.TheVariants as what
+use Rattle.wire.specs.declared.frame.FrameBody.{FrameBody}
+use Rattle.wire.specs.declared.frame.FrameBody.TheVariants as what
 use Rattle.wire.specs.declared.values.ClientRefusal.{ClientRefusal}
 use Rattle.wire.specs.declared.values.Version.TheVariants.{One}
 use Rattle.desk_talks.specs.Dialogues.{Act, Call, Hear, Lost, Opened, Sent}
-use Rattle.desk_talks.specs.Lines.{AsksOver, HearsOver, LineOf, closed, due_of, hurried, new_line}
-use Rattle.desk_talks.specs.Lines.{opening, sent_by as line_sent_by, wait_of as line_wait_of}
-use Rattle.desk_talks.specs.Lines.{Opens as OpensLine}
-use Rattle.desk_talks.specs.declared.dialogue.Came.{Came}
-use Rattle.desk_talks.specs.declared.dialogue.Came.TheVariants as came
-use Rattle.desk_talks.specs.declared.dialogue.Wish.{Wish}
-use Rattle.desk_talks.specs.declared.dialogue.Wish.TheVariants as wish
-use Rattle.desk_talks.specs.declared.line.Due.{Due}
-use Rattle.desk_talks.specs.declared.line.Due.TheVariants as due
-use Rattle.desk_talks.specs.declared.line.Stage.{Stage}
-use Rattle.desk_talks.specs.declared.line.Stage.TheVariants as stage
-use Rattle.desk_talks.specs.declared.talk.Heard.{Heard}
-use Rattle.desk_talks.specs.declared.talk.Heard.TheVariants as heard
+use Rattle.desk_talks.specs.KeptConnections.{AsksOver, HearsOver, KeptConnectionOf, closed, due_of}
+use Rattle.desk_talks.specs.KeptConnections.{hurried, new_line}
+use Rattle.desk_talks.specs.KeptConnections.{opening, sent_by as line_sent_by}
+use Rattle.desk_talks.specs.KeptConnections.{wait_of as line_wait_of}
+use Rattle.desk_talks.specs.KeptConnections.{Opens as OpensLine}
+use Rattle.desk_talks.specs.declared.dialogue.ReceiveOutcome.{ReceiveOutcome}
+use Rattle.desk_talks.specs.declared.dialogue.ReceiveOutcome.TheVariants as came
+use Rattle.desk_talks.specs.declared.dialogue.DialogueAction.{DialogueAction}
+use Rattle.desk_talks.specs.declared.dialogue.DialogueAction.TheVariants as wish
+use Rattle.desk_talks.specs.declared.kept_connection.DueAction.{DueAction}
+use Rattle.desk_talks.specs.declared.kept_connection.DueAction.TheVariants as due
+use Rattle.desk_talks.specs.declared.kept_connection.ConnectionStage.{ConnectionStage}
+use Rattle.desk_talks.specs.declared.kept_connection.ConnectionStage.TheVariants as stage
+use Rattle.desk_talks.specs.declared.exchange.AnswerOutcome.{AnswerOutcome}
+use Rattle.desk_talks.specs.declared.exchange.AnswerOutcome.TheVariants as heard
 use Rattle.outbox.specs.declared.item.Item.{Item}
 use Rattle.outbox.specs.Items.{ItemsOf, is_answered, item_in, with_answer}
 use Rattle.outbox.specs.States.{state_of}
-use Rattle.outbox.specs.declared.state.State.{State}
-use Rattle.outbox.specs.declared.state.State.TheVariants as state
+use Rattle.outbox.specs.declared.state.ItemState.{ItemState}
+use Rattle.outbox.specs.declared.state.ItemState.TheVariants as state
 
 pub record OutboxOf : Type 0 where
   pub list : ItemsOf
@@ -40,12 +42,13 @@ pub record OutboxOf : Type 0 where
   -- the desk that the connection is to, and the one that is aimed at
   pub desk : ℕ
   pub aim : ℕ
-  pub line : LineOf
-  -- the place of the item that the desk is to take next, and why it refused it, if it did
+  pub line : KeptConnectionOf
+  -- the place of the item that the desk is to accept next, and why the desk refused it, if it did
   pub next : ℕ
   pub refusal : Option ClientRefusal
 
-abbrev pub outbox : ItemsOf → (seen : ℕ) → (decided : List ℕ) → (hall desk aim : ℕ) → LineOf
+abbrev pub outbox : ItemsOf → (seen : ℕ) → (decided : List ℕ) → (hall desk aim : ℕ)
+    → KeptConnectionOf
     → (next : ℕ) → Option ClientRefusal → OutboxOf
 outbox list seen decided hall desk aim line next refusal = record {
   list = list;
@@ -72,7 +75,7 @@ abbrev pub with_list : OutboxOf → ItemsOf → OutboxOf
 with_list o list =
     outbox list o.seen o.decided o.hall o.desk o.aim o.line o.next o.refusal
 
-abbrev pub with_line : OutboxOf → LineOf → OutboxOf
+abbrev pub with_line : OutboxOf → KeptConnectionOf → OutboxOf
 with_line o line =
     outbox o.list o.seen o.decided o.hall o.desk o.aim line o.next o.refusal
 
@@ -101,7 +104,7 @@ looked o log =
 
 -- ---- what a scoretaker answers
 
-abbrev pub has_ended : Option State → Bool
+abbrev pub has_ended : Option ItemState → Bool
 has_ended None = false
 has_ended (Some state.Waits) = false
 has_ended (Some (state.Saved position)) = true
@@ -110,7 +113,7 @@ has_ended (Some (state.Refused position why)) = true
 has_ended (Some (state.OtherText position)) = true
 
 -- what became of the item of an id, if one is known
-abbrev pub state_in : List Entry → ItemsOf → ℕ → Option State
+abbrev pub state_in : List Entry → ItemsOf → ℕ → Option ItemState
 state_in log list id = option_map (λ item. state_of log item.entry) (item_in list id)
 
 -- the log says what became of the item of an id, and no scoretaker has answered it
@@ -167,7 +170,7 @@ is_left o = nat_lt o.next o.list.kept
 -- ---- what is done
 
 -- the desk is waited for
-abbrev pub is_waiting : Stage → Bool
+abbrev pub is_waiting : ConnectionStage → Bool
 is_waiting (stage.Closed last) = false
 is_waiting (stage.Opening since) = true
 is_waiting (stage.Opened since) = false
@@ -200,31 +203,31 @@ IsEntryAt (Some pair) entry = entry ≡ pair.1.entry
 abbrev pub AsksNext : List (ℕ × Item) → ℕ → OutboxOf → OutboxOf → Type 0
 AsksNext [] now old new = ⊥
 AsksNext (pair ∷ more) now old new =
-    (after : LineOf)
+    (after : KeptConnectionOf)
     × AsksOver true now (submit_request old.hall old.desk pair.1.entry) old.line after
     × (new ≡ with_line old after)
 
-abbrev pub Asks : Wish → ℕ → OutboxOf → OutboxOf → Type 0
+abbrev pub Asks : DialogueAction → ℕ → OutboxOf → OutboxOf → Type 0
 Asks wish.Write now old new = AsksNext (kept_from old.list old.next) now old new
 Asks wish.Close now old new = new ≡ lost old
 Asks wish.Rest now old new = ⊥
 Asks (wish.Open desk) now old new = ⊥
 Asks wish.Stop now old new = ⊥
 
-abbrev pub Rests : Wish → OutboxOf → OutboxOf → Type 0
+abbrev pub Rests : DialogueAction → OutboxOf → OutboxOf → Type 0
 Rests w old new = (w ≡ wish.Rest) × (new ≡ old)
 
-abbrev pub OpensIf : Bool → Wish → ℕ → OutboxOf → OutboxOf → Type 0
+abbrev pub OpensIf : Bool → DialogueAction → ℕ → OutboxOf → OutboxOf → Type 0
 OpensIf true w now old new =
     (w ≡ wish.Open old.desk) × (new ≡ with_line old (opening old.line now))
 OpensIf false w now old new = Rests w old new
 
-abbrev pub AsksIf : Bool → Wish → ℕ → OutboxOf → OutboxOf → Type 0
+abbrev pub AsksIf : Bool → DialogueAction → ℕ → OutboxOf → OutboxOf → Type 0
 AsksIf true w now old new = Asks w now old new
 AsksIf false w now old new = Rests w old new
 
 -- a connection is opened, and an item is submitted, where one is left that needs it
-abbrev pub ActsBy : Due → Wish → ℕ → OutboxOf → OutboxOf → Type 0
+abbrev pub ActsBy : DueAction → DialogueAction → ℕ → OutboxOf → OutboxOf → Type 0
 ActsBy due.Rest w now old new = Rests w old new
 ActsBy due.Open w now old new = OpensIf (is_left (skipped old)) w now (skipped old) new
 ActsBy due.Ask w now old new = AsksIf (is_left (skipped old)) w now (skipped old) new
@@ -232,11 +235,11 @@ ActsBy due.Close w now old new = (w ≡ wish.Close) × (new ≡ lost old)
 ActsBy due.Renew w now old new = (w ≡ wish.Close) × (new ≡ lost old)
 
 -- a desk that isn't aimed at any more is left first
-abbrev pub ActsAt : Bool → Wish → ℕ → OutboxOf → OutboxOf → Type 0
+abbrev pub ActsAt : Bool → DialogueAction → ℕ → OutboxOf → OutboxOf → Type 0
 ActsAt true w now old new = ActsBy (due_of old.line now) w now old new
 ActsAt false w now old new = (w ≡ wish.Close) × (new ≡ gone_on old)
 
-abbrev pub Acts : Wish → ℕ → OutboxOf → OutboxOf → Type 0
+abbrev pub Acts : DialogueAction → ℕ → OutboxOf → OutboxOf → Type 0
 Acts w now old new = ActsAt (old.aim == old.desk) w now old new
 
 -- ---- what comes
@@ -244,7 +247,7 @@ Acts w now old new = ActsAt (old.aim == old.desk) w now old new
 -- the connection is open; where memory is refused, it is lost
 abbrev pub Opens : Bool → OutboxOf → OutboxOf → Type 0
 Opens opened old new =
-    (after : LineOf) × OpensLine opened old.line after × (new ≡ with_line old after)
+    (after : KeptConnectionOf) × OpensLine opened old.line after × (new ≡ with_line old after)
 
 abbrev pub sent_by : OutboxOf → ℕ → OutboxOf
 sent_by o count = with_line o (line_sent_by o.line count)
@@ -265,15 +268,15 @@ abbrev pub refused_with : OutboxOf → ClientRefusal → OutboxOf
 refused_with o refusal =
     outbox o.list o.seen o.decided o.hall o.desk o.aim o.line o.next (Some refusal)
 
-abbrev pub Fails : Came → OutboxOf → OutboxOf → Type 0
+abbrev pub Fails : ReceiveOutcome → OutboxOf → OutboxOf → Type 0
 Fails c old new = (c ≡ came.NoAnswer) × (new ≡ lost old)
 
-abbrev pub FollowsAnswer : What → Came → OutboxOf → OutboxOf → Type 0
+abbrev pub FollowsAnswer : FrameBody → ReceiveOutcome → OutboxOf → OutboxOf → Type 0
 FollowsAnswer (what.Taken id) c old new = (c ≡ came.Answer false) × (new ≡ took old id)
 FollowsAnswer _ c old new = Fails c old new
 
--- what follows of what the desk's bytes came to: a refusal leaves the item to be submitted again
-abbrev pub Follows : Heard → Came → OutboxOf → OutboxOf → Type 0
+-- what follows from the desk's answer: after a refusal the item is to be submitted again
+abbrev pub Follows : AnswerOutcome → ReceiveOutcome → OutboxOf → OutboxOf → Type 0
 Follows heard.Waits c old new = (c ≡ came.Nothing) × (new ≡ old)
 Follows (heard.Answer answer) c old new = FollowsAnswer answer c old new
 Follows (heard.Refused refusal) c old new =
@@ -281,9 +284,9 @@ Follows (heard.Refused refusal) c old new =
 Follows heard.NoAnswer c old new = Fails c old new
 
 -- what the bytes come to over the connection, and what follows of it
-pub record HearsDesk (c : Came) (piece : List ℕ) (old new : OutboxOf) : Type 0 where
-  pub heard : Heard
-  pub after : LineOf
+pub record HearsDesk (c : ReceiveOutcome) (piece : List ℕ) (old new : OutboxOf) : Type 0 where
+  pub heard : AnswerOutcome
+  pub after : KeptConnectionOf
   pub hears : HearsOver heard piece old.line after
   pub follows : Follows heard c (with_line old after) new
 

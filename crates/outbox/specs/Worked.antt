@@ -5,7 +5,7 @@ use Rattle.texts.specs.declared.answer.Answer.TheVariants as answer
 use Rattle.texts.specs.declared.answer.Code.TheVariants as code
 use Rattle.texts.specs.declared.command.Command.TheVariants.{SetEdition}
 use Rattle.outbox.specs.declared.journal.JournalFault.TheVariants as fault
-use Rattle.outbox.specs.declared.state.State.TheVariants as state
+use Rattle.outbox.specs.declared.state.ItemState.TheVariants as state
 use Rattle.outbox.specs.Items.{items_of, taken_at}
 use Rattle.outbox.specs.Cards.{Says}
 use Rattle.outbox.specs.Journals.{read_back}

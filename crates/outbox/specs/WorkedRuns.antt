@@ -5,11 +5,11 @@ use Rattle.wire.specs.declared.frame.Frame.{Frame}
 use Rattle.wire.specs.Spelling.{spelling}
 use Rattle.wire.specs.Stream.{holding}
 use Rattle.desk_talks.specs.Dialogues.{Act, Opened}
-use Rattle.desk_talks.specs.Lines.{line}
-use Rattle.desk_talks.specs.Talks.{talk}
-use Rattle.desk_talks.specs.declared.dialogue.Wish.TheVariants as wish
-use Rattle.desk_talks.specs.declared.line.Stage.TheVariants as stage
-use Rattle.outbox.specs.declared.item.Taken.TheVariants as taken
+use Rattle.desk_talks.specs.KeptConnections.{line}
+use Rattle.desk_talks.specs.Exchanges.{talk}
+use Rattle.desk_talks.specs.declared.dialogue.DialogueAction.TheVariants as wish
+use Rattle.desk_talks.specs.declared.kept_connection.ConnectionStage.TheVariants as stage
+use Rattle.outbox.specs.declared.item.QueueOutcome.TheVariants as taken
 use Rattle.outbox.specs.Histories.{History, InDialogue, Kept, Leads, Look, LooksAt, Restart, Start}
 use Rattle.outbox.specs.Histories.{Take, Then, World, promises, world}
 use Rattle.outbox.specs.Items.{ItemsOf, items_of, taken_at}
@@ -52,8 +52,8 @@ submitted =
     None)
     file_of_five
 
--- A second command is taken; then the program ends, of whose line nine bytes were written. It is
--- started again, over desk 2.
+-- A second command is taken; then the program ends, when nine bytes of that command's line were
+-- written. It is started again, over desk 2.
 abbrev pub ending : History
 ending = Then (Then submitting (Take six 6 taken.New)) (Restart (codes "item 6 CL") 2 8)
 

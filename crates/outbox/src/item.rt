@@ -12,7 +12,7 @@ pub struct Item {
 
 /// What came of an entry that was given to the outbox.
 #[derive(Clone, Copy, Debug, PartialEq, Eq)]
-pub enum Taken {
+pub enum QueueOutcome {
     /// It is queued, after all others. Its line is to be put into the journal.
     New,
     /// Its id is known, with this text. Nothing has changed.

@@ -4,8 +4,8 @@ ghost use Rattle.std.specs.Prelude.{◌≡◌, IfOk, OnErr, OnOk, length};
 ghost use Rattle.std.specs.List.{list_all};
 ghost use Rattle.outbox.specs.Items.{is_line, is_no_end, known_as};
 
-use crate::item::{Item, Taken};
-use crate::journal_lines::{Line, line_of, line_of_answer};
+use crate::item::{Item, QueueOutcome};
+use crate::journal_lines::{JournalLine, line_of, line_of_answer};
 use acceptor::NoMemory;
 use acceptor::entry::Entry;
 use indexmap::{IndexMap, IndexSet};
@@ -56,13 +56,13 @@ fn is_line(text: &[u8]) -> bool
 }
 
 /// What an entry is whose id is that of an item.
-fn known_as(item: &Item, entry: &Entry) -> Taken
+fn known_as(item: &Item, entry: &Entry) -> QueueOutcome
     ensures { result ≡ known_as item.now entry.now }
 {
     if item.entry.text() == entry.text() {
-        Taken::Same
+        QueueOutcome::Same
     } else {
-        Taken::Other
+        QueueOutcome::Other
     }
 }
 
@@ -150,7 +150,7 @@ impl Items {
 
     /// Takes an entry, unless its id is known, it has no line, or there is no room. At NoMemory the
     /// items are as they were.
-    pub(crate) fn take(&mut self, entry: Entry, now: u64) -> Result<Taken, NoMemory>
+    pub(crate) fn take(&mut self, entry: Entry, now: u64) -> Result<QueueOutcome, NoMemory>
         ensures ok { IfOk result (λ taken. Takes self.old entry now taken self.new) }
         ensures err { OnErr result (self.new ≡ self.old) }
     {
@@ -158,13 +158,13 @@ impl Items {
             return Ok(known_as(item, &entry));
         }
         if !is_line(entry.text()) {
-            return Ok(Taken::Unfit);
+            return Ok(QueueOutcome::Unfit);
         }
         if self.is_full() {
-            return Ok(Taken::Full);
+            return Ok(QueueOutcome::Full);
         }
         self.queue(entry, now)?;
-        Ok(Taken::New)
+        Ok(QueueOutcome::New)
     }
 
     /// The lines that are to be put into the journal.
@@ -207,7 +207,7 @@ impl Items {
     /// Puts an item that is in the journal after the others. Whether its id is new, and there is
     /// room.
     pub(crate) fn restore(&mut self, entry: Entry, now: u64) -> Result<bool, NoMemory>
-        ensures { IfOk result (λ fits. FollowsIf self.old now (Some (Line.Item entry)) fits
+        ensures { IfOk result (λ fits. FollowsIf self.old now (Some (JournalLine.Item entry)) fits
             self.new) }
     {
         if self.find(entry.id()).is_some() || self.is_full() {
@@ -222,7 +222,7 @@ impl Items {
     /// Notes that the journal says that an item was answered. Whether it is known.
     pub(crate) fn restore_answer(&mut self, id: u64) -> Result<bool, NoMemory>
         ensures { IfOk result (λ fits. (now : ℕ)
-            → FollowsIf self.old now (Some (Line.Answered id)) fits self.new) }
+            → FollowsIf self.old now (Some (JournalLine.Answered id)) fits self.new) }
     {
         if self.find(id).is_none() {
             return Ok(false);

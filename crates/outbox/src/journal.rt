@@ -12,7 +12,7 @@ ghost use Rattle.wire.specs.Ranges.{IsDesk};
 
 use crate::hall_name::HallName;
 use crate::items::Items;
-use crate::journal_lines::{Line, read_line};
+use crate::journal_lines::{JournalLine, read_line};
 use crate::outbox::Outbox;
 use std::alloc::{AllocError, Global};
 use texts::cut;
@@ -41,7 +41,7 @@ pub enum JournalFault {
     /// Its first line names another hall.
     #[error("it is of another hall")]
     OtherHall,
-    /// The line of this number, from 1 on, is none of a journal.
+    /// The line of this number, from 1 on, is no line of a journal.
     #[error("line {line} is damaged")]
     Damaged { line: u64 },
     /// Memory ran out.
@@ -61,12 +61,12 @@ impl From<AllocError> for JournalFault {
 }
 
 /// Does what a line says. Whether it fits what was said before.
-fn follow(items: &mut Items, line: Line, now: u64) -> Result<bool, AllocError>
+fn follow(items: &mut Items, line: JournalLine, now: u64) -> Result<bool, AllocError>
     ensures { IfOk result (λ fits. FollowsIf items.old now (Some line) fits items.new) }
 {
     match line {
-        Line::Item(entry) => items.restore(entry, now),
-        Line::Answered(id) => items.restore_answer(id),
+        JournalLine::Item(entry) => items.restore(entry, now),
+        JournalLine::Answered(id) => items.restore_answer(id),
     }
 }
 
@@ -146,8 +146,8 @@ fn read_items(alloc: Global, bytes: &[u8], now: u64) -> Result<(Items, usize), J
 ///
 /// A line that was not written to its end is left out. Where no line was, the fault is Empty. Where
 /// the first line is not that of the hall, it is Earlier, OtherHall or Damaged. Else it is the
-/// first line that is none, that says an item whose id another one has or for which there is no
-/// room, or that says to be answered what is no item.
+/// first line that is no line of a journal, that says an item whose id another one has or for which
+/// there is no room, or that says to be answered what is no item.
 pub fn read_journal(
     alloc: Global,
     hall: &HallName,

@@ -20,7 +20,7 @@ const MOST_TEXT: usize = 600;
 
 /// What a line of a journal says, but for the first.
 #[derive(Drop)]
-pub enum Line {
+pub enum JournalLine {
     /// `item ID TEXT`: this entry was taken.
     Item(Entry),
     /// `answered ID`: a scoretaker has answered the item of this id.
@@ -66,7 +66,7 @@ fn id_of(word: &[u8]) -> Option<u64>
 }
 
 /// The item of an id and a text.
-fn item_of(alloc: Global, id: u64, text: &[u8]) -> Result<Option<Line>, AllocError>
+fn item_of(alloc: Global, id: u64, text: &[u8]) -> Result<Option<JournalLine>, AllocError>
     requires { IsId id }
     ensures { IfOk result (λ line. line ≡ item_of (Some id) text.now) }
 {
@@ -74,14 +74,14 @@ fn item_of(alloc: Global, id: u64, text: &[u8]) -> Result<Option<Line>, AllocErr
         return Ok(None);
     }
     match Entry::new(alloc, id, text) {
-        Ok(entry) => Ok(Some(Line::Item(entry))),
+        Ok(entry) => Ok(Some(JournalLine::Item(entry))),
         Err(EntryFault::NoMemory) => Err(AllocError),
         Err(EntryFault::BadId | EntryFault::TooLong) => unreachable!(),
     }
 }
 
 /// The item of what is after the first word.
-fn item_by(alloc: Global, rest: &[u8]) -> Result<Option<Line>, AllocError>
+fn item_by(alloc: Global, rest: &[u8]) -> Result<Option<JournalLine>, AllocError>
     ensures { IfOk result (λ line. line ≡ item_by (cut 32 rest.now)) }
 {
     let (word, text) = cut(rest, b' ');
@@ -95,20 +95,20 @@ fn item_by(alloc: Global, rest: &[u8]) -> Result<Option<Line>, AllocError>
 }
 
 /// What a line says by its first word, and what is after that.
-fn said_after(alloc: Global, word: &[u8], rest: &[u8]) -> Result<Option<Line>, AllocError>
+fn said_after(alloc: Global, word: &[u8], rest: &[u8]) -> Result<Option<JournalLine>, AllocError>
     ensures { IfOk result (λ line. line ≡ said_after word.now rest.now) }
 {
     if word == b"item".as_slice() {
         return item_by(alloc, rest);
     }
     if word == b"answered".as_slice() {
-        return Ok(id_of(rest).map(|id| Line::Answered(id)));
+        return Ok(id_of(rest).map(|id| JournalLine::Answered(id)));
     }
     Ok(None)
 }
 
 /// What a line says, without its end. None: it is no line of a journal, or the first.
-pub fn read_line(alloc: Global, line: &[u8]) -> Result<Option<Line>, AllocError>
+pub fn read_line(alloc: Global, line: &[u8]) -> Result<Option<JournalLine>, AllocError>
     ensures { IfOk result (λ read. read ≡ said line.now) }
 {
     match cut(line, b' ') {

@@ -12,8 +12,8 @@ use commands::every_id_is_seen;
 
 /// A law: what is said of an item is so in every log of the hall that begins with what the mirror
 /// holds. Saved: the entry at that position is its id and its text, and was answered Done. Changed
-/// or Refused: it is that entry, and was answered so. Where the log has an entry of its id, it is
-/// said, and stays as it was said.
+/// or Refused: it is that entry, and was answered so. Where the log has an entry of its id, one of
+/// these is said, and it stays as it was said.
 pub fn told_by_the_log()
     ensures never_by_guess { NeverByGuess }
     ensures at_once { ToldAtOnce }
@@ -61,16 +61,16 @@ pub fn names_one_hall()
 
 /// A law: each entry of which it may be answered that it is taken, since its line was kept, is in
 /// the list, whatever calls were made, and after a crash at any moment, at whatever byte the file
-/// was cut. An item that is in the journal stays there, those among them that were there when the
-/// program was started. What a crash leaves of the file is read.
+/// was cut. An item that is in the journal stays there, also one that was there when the program
+/// was started. What a crash leaves of the file is read.
 pub fn loses_nothing()
     ensures listed { NothingTakenIsLost }
     ensures stays { StaysInTheJournal }
     ensures reads { ReadsAfterCrash }
 {}
 
-/// A journal that was read by hand, and what a log says of entries: no code of this crate is behind
-/// these values.
+/// A journal that was read by hand, and what a log says of entries: no code of this crate is part
+/// of these values.
 pub fn worked()
     ensures journal { WorkedJournal }
     ensures states { WorkedStates }

@@ -17,8 +17,8 @@ mod sending;
 mod state;
 
 pub use hall_name::HallName;
-pub use item::{Item, Taken};
+pub use item::{Item, QueueOutcome};
 pub use journal::{Journal, JournalFault, read_journal};
-pub use journal_lines::{Line, read_line};
+pub use journal_lines::{JournalLine, read_line};
 pub use outbox::Outbox;
-pub use state::{State, state_of};
+pub use state::{ItemState, state_of};

@@ -2,12 +2,12 @@
 
 ghost use Rattle.std.specs.Prelude.{◌≡◌, OnErr, OnOk, length};
 
-use crate::item::{Item, Taken};
+use crate::item::{Item, QueueOutcome};
 use crate::items::Items;
-use crate::state::{State, state_of};
+use crate::state::{ItemState, state_of};
 use acceptor::NoMemory;
 use acceptor::entry::Entry;
-use desk_talks::Line;
+use desk_talks::KeptConnection;
 use indexmap::IndexSet;
 use learner::log::Log;
 use mirror::Mirror;
@@ -41,7 +41,7 @@ pub struct Outbox {
     /// The desk that the connection is to, and the one that is aimed at.
     pub(crate) desk: u8,
     pub(crate) aim: u8,
-    pub(crate) line: Line,
+    pub(crate) line: KeptConnection,
     /// The place of the item that the desk is to take next.
     pub(crate) next: usize,
     /// Why the desk refused it, if it did.
@@ -86,7 +86,7 @@ impl Outbox {
             hall,
             desk,
             aim: desk,
-            line: Line::new(alloc, PACE),
+            line: KeptConnection::new(alloc, PACE),
             next: 0,
             refusal: None,
         }
@@ -96,7 +96,7 @@ impl Outbox {
 
     /// Takes an entry: it is queued, unless its id is known, its text has the end of a line in it,
     /// or there is no room. At NoMemory nothing has changed.
-    pub fn take(&mut self, entry: Entry, now: u64) -> Result<Taken, NoMemory>
+    pub fn take(&mut self, entry: Entry, now: u64) -> Result<QueueOutcome, NoMemory>
         ensures list { IfOk result
             (λ taken. Takes self.old.list entry now taken self.new.list) }
         ensures others { self.new ≡ with_list self.old self.new.list }
@@ -130,7 +130,7 @@ impl Outbox {
 
     /// What became of the item of an id, by the log that the mirror holds. None: no such item is
     /// known.
-    pub fn state(&self, mirror: &Mirror, id: u64) -> Option<State>
+    pub fn state(&self, mirror: &Mirror, id: u64) -> Option<ItemState>
         ensures { result ≡ option_map (λ item. state_of mirror.now item.entry)
             (item_in self.now.list id) }
     {
@@ -187,7 +187,7 @@ impl Outbox {
             return Ok(false);
         }
         match self.state(mirror, id) {
-            None | Some(State::Waits) => Ok(false),
+            None | Some(ItemState::Waits) => Ok(false),
             Some(_) => {
                 self.items.answer(id)?;
                 Ok(true)
@@ -217,7 +217,7 @@ impl Outbox {
 
     /// Looks through the entries of the log that were not looked through yet: an item whose id one
     /// of them has need not be submitted any more. At NoMemory the first of them were looked
-    /// through, or none; the same call then goes on.
+    /// through, or none; the same call then continues.
     pub fn look(&mut self, log: &Log) -> Result<(), NoMemory>
         ensures ok { OnOk result (self.new ≡ looked self.old log.now.entries) }
         ensures err { OnErr result ((count : ℕ)

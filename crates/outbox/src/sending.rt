@@ -2,7 +2,7 @@
 
 ghost use Rattle.std.specs.Prelude.{◌≡◌, ◌+◌, ◌<◌, ◌≤◌, IfSome, slice_get};
 ghost use Rattle.std.specs.List.{prefix_len};
-ghost use Rattle.desk_talks.specs.Lines.{unsent_by};
+ghost use Rattle.desk_talks.specs.KeptConnections.{unsent_by};
 ghost use Rattle.outbox.specs.Outboxes.{Acts, Asks, AsksIf, Follows, HearsDesk, IsEntryAt, Opens};
 ghost use Rattle.outbox.specs.Outboxes.{OpensIf, aimed, gone_on, is_decided, is_decided_at};
 ghost use Rattle.outbox.specs.Outboxes.{is_left, is_of};
@@ -13,9 +13,11 @@ ghost use Rattle.wire.specs.Ranges.{IsDesk, IsFrame};
 use crate::items::Items;
 use crate::outbox::Outbox;
 use acceptor::entry::Entry;
-use desk_talks::{Came, Dialogue, Due, Heard, Stage, Wish};
+use desk_talks::{
+    AnswerOutcome, ConnectionStage, Dialogue, DialogueAction, DueAction, ReceiveOutcome,
+};
 use indexmap::IndexSet;
-use wire::{ClientRefusal, Frame, Version, What};
+use wire::{ClientRefusal, Frame, FrameBody, Version};
 
 /// How long nothing is to be done where nothing is left, in milliseconds.
 const IDLE: u64 = 2000;
@@ -35,15 +37,18 @@ fn submit_request(hall: u32, desk: u8, entry: Entry) -> Frame
         hall,
         from: 0,
         to: desk,
-        what: What::Submit { entry },
+        what: FrameBody::Submit { entry },
     }
 }
 
 /// Whether the desk is waited for.
-fn is_waiting(stage: Stage) -> bool
+fn is_waiting(stage: ConnectionStage) -> bool
     ensures { result ≡ is_waiting stage }
 {
-    matches!(stage, Stage::Opening { .. } | Stage::Asked { .. })
+    matches!(
+        stage,
+        ConnectionStage::Opening { .. } | ConnectionStage::Asked { .. }
+    )
 }
 
 /// Whether there is an item at a place, which need not be submitted.
@@ -110,8 +115,8 @@ impl Outbox {
         self.desk
     }
 
-    /// The place of the item that the desk is to take next. It has taken those before that needed
-    /// to be submitted, since the connection is to it.
+    /// The place of the item that the desk is to accept next. Since the connection to this desk was
+    /// opened, the desk has accepted all items before it that needed to be submitted.
     pub fn next(&self) -> usize
         ensures next { result ≡ self.now.next }
         ensures most { result ≤ self.now.list.kept }
@@ -160,25 +165,25 @@ impl Outbox {
 
     /// What is to be done now, at this many milliseconds of a clock that doesn't go back. It counts
     /// as begun.
-    pub fn act(&mut self, now: u64) -> Wish
+    pub fn act(&mut self, now: u64) -> DialogueAction
         ensures { Acts result now self.old self.new }
     {
         if self.aim != self.desk {
             self.go_on();
-            return Wish::Close;
+            return DialogueAction::Close;
         }
         match self.line.due(now) {
-            Due::Close | Due::Renew => {
+            DueAction::Close | DueAction::Renew => {
                 self.lost();
-                Wish::Close
+                DialogueAction::Close
             }
-            Due::Open => self.open_for_next(now),
-            Due::Ask => self.ask_for_next(now),
-            Due::Rest => Wish::Rest,
+            DueAction::Open => self.open_for_next(now),
+            DueAction::Ask => self.ask_for_next(now),
+            DueAction::Rest => DialogueAction::Rest,
         }
     }
 
-    /// Leaves the desk for the one that is aimed at, which has taken none.
+    /// Leaves the desk for the one that is aimed at, which has accepted no item yet.
     fn go_on(&mut self)
         ensures { self.new ≡ gone_on self.old }
     {
@@ -200,41 +205,41 @@ impl Outbox {
     }
 
     /// Opens a connection, where an item is left that needs it.
-    fn open_for_next(&mut self, now: u64) -> Wish
+    fn open_for_next(&mut self, now: u64) -> DialogueAction
         ensures { OpensIf (is_left (skipped self.old)) result now (skipped self.old) self.new }
     {
         self.skip();
         if !self.is_left() {
-            return Wish::Rest;
+            return DialogueAction::Rest;
         }
         self.line.open(now);
-        Wish::Open { desk: self.desk }
+        DialogueAction::Open { desk: self.desk }
     }
 
     /// Submits the next item, where one is left that needs it.
-    fn ask_for_next(&mut self, now: u64) -> Wish
+    fn ask_for_next(&mut self, now: u64) -> DialogueAction
         ensures { AsksIf (is_left (skipped self.old)) result now (skipped self.old) self.new }
     {
         self.skip();
         if !self.is_left() {
-            return Wish::Rest;
+            return DialogueAction::Rest;
         }
         self.ask(now)
     }
 
     /// Submits the next item.
-    fn ask(&mut self, now: u64) -> Wish
+    fn ask(&mut self, now: u64) -> DialogueAction
         requires { self.old.next < self.old.list.kept }
         ensures { Asks result now self.old self.new }
     {
         if let Some(entry) = entry_at(&self.items, self.next) {
             let request = submit_request(self.hall, self.desk, entry);
             if self.line.ask(now, request) {
-                return Wish::Write;
+                return DialogueAction::Write;
             }
         }
         self.lost();
-        Wish::Close
+        DialogueAction::Close
     }
 
     /// Says that the connection that was being opened is open. Where memory is refused, it counts
@@ -267,7 +272,7 @@ impl Outbox {
     }
 
     /// Takes bytes that came from the desk over the connection.
-    pub fn hear(&mut self, piece: &[u8]) -> Came
+    pub fn hear(&mut self, piece: &[u8]) -> ReceiveOutcome
         ensures { HearsDesk result piece.now self.old self.new }
     {
         let heard = self.line.hear(piece);
@@ -275,27 +280,27 @@ impl Outbox {
     }
 
     /// Does what follows of what the desk's bytes came to.
-    fn follow(&mut self, heard: Heard) -> Came
+    fn follow(&mut self, heard: AnswerOutcome) -> ReceiveOutcome
         ensures { Follows heard result self.old self.new }
     {
         match heard {
-            Heard::Waits => Came::Nothing,
-            Heard::Answer(What::Taken { id }) => {
+            AnswerOutcome::Waits => ReceiveOutcome::Nothing,
+            AnswerOutcome::Answer(FrameBody::Taken { id }) => {
                 self.took(id);
-                Came::Answer { changed: false }
+                ReceiveOutcome::Answer { changed: false }
             }
-            Heard::Refused(refusal) => {
+            AnswerOutcome::Refused(refusal) => {
                 self.refusal = Some(refusal);
-                Came::Answer { changed: false }
+                ReceiveOutcome::Answer { changed: false }
             }
             _ => {
                 self.lost();
-                Came::NoAnswer
+                ReceiveOutcome::NoAnswer
             }
         }
     }
 
-    /// Goes on to the item after the one with this id, if it is the next one.
+    /// Moves on to the item after the one with this id, if that is the next one.
     fn took(&mut self, id: u64)
         ensures { self.new ≡ took self.old id }
     {
@@ -309,7 +314,7 @@ impl Outbox {
 
 impl Dialogue for Outbox {
     ghost use Rattle.std.specs.Prelude.{◌≡◌};
-    ghost use Rattle.desk_talks.specs.Lines.{is_opening};
+    ghost use Rattle.desk_talks.specs.KeptConnections.{is_opening};
     ghost use Rattle.outbox.specs.Items.{ItemsOf};
     ghost use Rattle.outbox.specs.Outboxes.{DialogueLeads, held};
 
@@ -320,7 +325,7 @@ impl Dialogue for Outbox {
 
     ghost leads = { DialogueLeads };
 
-    fn act(&mut self, now: u64) -> Wish {
+    fn act(&mut self, now: u64) -> DialogueAction {
         self.act(now)
     }
 
@@ -348,7 +353,7 @@ impl Dialogue for Outbox {
         self.sent(count);
     }
 
-    fn hear(&mut self, now: u64, piece: &[u8]) -> Came {
+    fn hear(&mut self, now: u64, piece: &[u8]) -> ReceiveOutcome {
         let _now = now;
         self.hear(piece)
     }

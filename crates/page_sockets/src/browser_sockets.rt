@@ -7,7 +7,7 @@ ghost use Rattle.polled.specs.sockets.Sockets.{IsFresh, LetsIn, OthersStay, Same
 ghost use Rattle.polled.specs.sockets.Sockets.{SameStay, is_full, stays};
 
 use mio::Registry;
-use pages::{Accepted, Given, Ready, Sockets, Taken};
+use pages::{AcceptedPeer, ReadOutcome, Ready, Sockets, WriteOutcome};
 use polled::sockets::PeerSockets;
 use std::alloc::Global;
 use std::io;
@@ -84,8 +84,8 @@ impl<R: Clock + Drop> Sockets for BrowserSockets<'_, R> {
     }
 
     /// Where as many connections are open as may be, nobody is accepted.
-    fn accept(&mut self, number: u64) -> Accepted
-        ensures full { is_full self.old ≡ true → result ≡ Accepted.Full }
+    fn accept(&mut self, number: u64) -> AcceptedPeer
+        ensures full { is_full self.old ≡ true → result ≡ AcceptedPeer.Full }
         ensures came { LetsIn result (stays self.old number) (stays self.new number) }
         ensures others { OthersStay number self.old self.new }
         ensures same { SameElse self.old self.new }
@@ -93,17 +93,17 @@ impl<R: Clock + Drop> Sockets for BrowserSockets<'_, R> {
         self.peers.accept(number)
     }
 
-    fn read(&mut self, number: u64, buffer: &mut [u8; 4096]) -> Given
+    fn read(&mut self, number: u64, buffer: &mut [u8; 4096]) -> ReadOutcome
         ensures count { CountsGiven (length buffer.new) result }
-        ensures closed { stays self.old number ≡ false → result ≡ Given.Broke }
+        ensures closed { stays self.old number ≡ false → result ≡ ReadOutcome.Broke }
         ensures same { self.new ≡ self.old }
     {
         self.peers.read(number, buffer)
     }
 
-    fn write(&mut self, number: u64, bytes: &[u8]) -> Taken
+    fn write(&mut self, number: u64, bytes: &[u8]) -> WriteOutcome
         ensures count { CountsTaken (length bytes.now) result }
-        ensures closed { stays self.old number ≡ false → result ≡ Taken.Broke }
+        ensures closed { stays self.old number ≡ false → result ≡ WriteOutcome.Broke }
         ensures same { self.new ≡ self.old }
     {
         self.peers.write(number, bytes)

@@ -7,7 +7,7 @@ ghost use Rattle.pages.specs.Browsers.{Served, terms_of, turns_of};
 use crate::browser_sockets::BrowserSockets;
 use http_server::Service;
 use mio::Registry;
-use pages::{Browsers, Terms};
+use pages::{BrowserLimits, Browsers};
 use std::alloc::Global;
 use std::hash::RandomState;
 use std::io;
@@ -21,7 +21,7 @@ pub fn browsers_at<'a, R: Net + Clock + RandomSource + Drop>(
     runtime: &'a R,
     alloc: Global,
     address: SocketAddr,
-    terms: Terms,
+    terms: BrowserLimits,
 ) -> io::Result<&'a mut Browsers<BrowserSockets<'a, R>>>
     ensures terms { IfOk result (λ b. terms_of b.now ≡ terms) }
     ensures turns { IfOk result (λ b. turns_of b.now ≡ []) }

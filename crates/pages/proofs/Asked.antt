@@ -6,7 +6,7 @@ use Rattle.polled.specs.Telling.{Tells}
 use Rattle.pages.specs.Musts.{AsksRound, Ends, GoesOn, joined}
 use Rattle.pages.specs.Requests.{Asks, Request}
 use Rattle.pages.specs.declared.table.Step.TheVariants as step_is
-use Rattle.pages.specs.declared.table.Table.{Table}
+use Rattle.pages.specs.declared.table.BrowserTable.{BrowserTable}
 use Rattle.polled.proofs.Telling.{Tells-nil, Tells-trans}
 
 module _ {C : Type 0} (requests : C → Option (List Request)) where
@@ -46,16 +46,16 @@ joined_both (x ∷ xs) ys =
     ∙ sym (append_assoc x (joined xs) (joined ys))
 
 module _ {C : Type 0} (wait : ℕ) where
-  goes_on_both : (a b c : Table C) (xs ys : List (List Request)) → GoesOn wait a xs b
+  goes_on_both : (a b c : BrowserTable C) (xs ys : List (List Request)) → GoesOn wait a xs b
       → GoesOn wait b ys c → GoesOn wait a (xs ++ ys) c
   goes_on_both a b c [] ys h k = subst (λ z. GoesOn wait z ys c) (sym h) k
   goes_on_both a b c (x ∷ xs) ys h k =
       (h.0, h.1, h.2, h.3, goes_on_both h.1 b c xs ys h.4 k)
 
-  pub steps_none : (a : Table C) → AsksSteps wait 0 a a []
+  pub steps_none : (a : BrowserTable C) → AsksSteps wait 0 a a []
   steps_none a = record { steps = []; goes = refl; counted = refl; all = refl }
 
-  pub steps_more : (count : ℕ) (a b c : Table C) (xs ys : List Request)
+  pub steps_more : (count : ℕ) (a b c : BrowserTable C) (xs ys : List Request)
       → AsksSteps wait count a b xs → StepsBy wait step_is.GoesOn b c ys
       → AsksSteps wait (count + 1) a c (xs ++ ys)
   steps_more count a b c xs ys h k = record {
@@ -68,7 +68,7 @@ module _ {C : Type 0} (wait : ℕ) where
         ∙ sym (joined_both h.steps (ys ∷ []));
   }
 
-  pub round_ends : (count : ℕ) (over : Option ℕ) (a b c : Table C) (xs ys : List Request)
+  pub round_ends : (count : ℕ) (over : Option ℕ) (a b c : BrowserTable C) (xs ys : List Request)
       → AsksSteps wait count a b xs
       → ((n : ℕ) → n ≡ count → Ends wait n over b c ys) → AsksRound wait over a c (xs ++ ys)
   round_ends count over a b c xs ys h ends = record {

@@ -10,7 +10,7 @@ use Rattle.pages.specs.Kept.{Places, places_of}
 use Rattle.pages.specs.Musts.{EndsRound, IsIn, IsSame, WasLate, is_late_at}
 use Rattle.pages.specs.Requests.{Closing, Request}
 use Rattle.pages.specs.declared.table.Browser.{Browser}
-use Rattle.pages.specs.declared.table.Table.{Table}
+use Rattle.pages.specs.declared.table.BrowserTable.{BrowserTable}
 
 abbrev closed : List ℕ → List Request
 closed ks = map Closing ks
@@ -64,7 +64,7 @@ module _ (f g h : Places) (k : ℕ) (gone : h k ≡ None)
 
 -- ---- the table
 
-module _ {C : Type 0} (now : ℕ) (old mid new : Table C) where
+module _ {C : Type 0} (now : ℕ) (old mid new : BrowserTable C) where
   abbrev Late : ℕ → Type 0
   Late = WasLate old now
 

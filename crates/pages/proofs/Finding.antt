@@ -12,7 +12,7 @@ use Rattle.pages.specs.Kept.{places_of}
 use Rattle.pages.specs.Musts.{IsLongest, is_late_at}
 use Rattle.pages.specs.Waiting.{is_longer, longer}
 use Rattle.pages.specs.declared.table.Browser.{Browser}
-use Rattle.pages.specs.declared.table.Table.{Table}
+use Rattle.pages.specs.declared.table.BrowserTable.{BrowserTable}
 use Rattle.pages.specs.declared.waiting.Longest.{Longest}
 use Rattle.pages.specs.declared.waiting.Waiting.{Waiting}
 
@@ -23,11 +23,11 @@ some_inj : (x y : Entry) → Some x ≡ Some y → x ≡ y
 some_inj x y is = ap (λ o. unwrap_or o x) is
 
 -- each entry at a place below this one is such
-abbrev pub EachBelow : {C : Type 0} → Table C → ℕ → (Entry → Type 0) → Type 0
+abbrev pub EachBelow : {C : Type 0} → BrowserTable C → ℕ → (Entry → Type 0) → Type 0
 EachBelow t place P =
     (i : ℕ) (e : Entry) → i < place → slice_get t.browsers.entries i ≡ Some e → P e
 
-module _ {C : Type 0} (t : Table C) where
+module _ {C : Type 0} (t : BrowserTable C) where
   pub below_none : (P : Entry → Type 0) → EachBelow t 0 P
   below_none P i e few at = absurd (omega (arith, few))
 
@@ -56,10 +56,6 @@ module _ {C : Type 0} (t : Table C) where
   IsTimely e = is_late_at t t.now e.1 ≡ false
 
 -- ---- who is waited for longest
-
-any_false : (x y : Bool) → (x || y) ≡ false → (x ≡ false) × (y ≡ false)
-any_false true y is = absurd (true≢false is)
-any_false false y is = (refl, is)
 
 all_true : (x y : Bool) → (x && y) ≡ true → (x ≡ true) × (y ≡ true)
 all_true true y is = (refl, is)
@@ -121,7 +117,7 @@ not_itself n v =
       | inr h ↦ omega (arith, h.1)
     ])
 
-module _ {C : Type 0} (t : Table C) where
+module _ {C : Type 0} (t : BrowserTable C) where
   -- the one that was found is open, and none below this place is waited for longer
   pub record IsLongestBelow (place : ℕ) (one : Longest) : Type 0 where
     pub browser : Browser

@@ -7,16 +7,16 @@ use Rattle.std.specs.Map.{lookup}
 use Rattle.indexmap.specs.IndexMap.{IndexMap, UpdatesBy, get}
 use Rattle.http_server.specs.declared.connection.Connection.{Connection}
 use Rattle.pages.specs.declared.table.Browser.{Browser}
-use Rattle.pages.specs.declared.table.Table.{Table}
+use Rattle.pages.specs.declared.table.BrowserTable.{BrowserTable}
 use Rattle.pages.specs.Kept.{places_of}
 use Rattle.pages.specs.Asking.{SettlesBy}
 use Rattle.pages.specs.Musts.{Admits, Attends, EndsRound, turned_as}
 use Rattle.pages.specs.Musts.{IsAt, IsGone, IsSame, IsSameBut, Settles, SettlesOn, has_some}
 use Rattle.pages.specs.Requests.{Request}
 use Rattle.pages.specs.Waiting.{goes_on}
-use Rattle.pages.specs.declared.waiting.Turned.{Turned}
+use Rattle.pages.specs.declared.waiting.TurnOutcome.{TurnOutcome}
 use Rattle.pages.specs.declared.waiting.Waiting.{Waiting}
-use Rattle.pages.specs.declared.waiting.Turned.TheVariants as turn
+use Rattle.pages.specs.declared.waiting.TurnOutcome.TheVariants as turn
 
 pub has_some_is : (bytes : List ℕ) (b : Bool) → (IsTrue b ↔ (0 < length bytes))
     → b ≡ has_some bytes
@@ -45,7 +45,8 @@ module _ {S : Type 0} (m n : IndexMap ℕ Browser S) where
 abbrev pub placed : Connection → Waiting → Browser
 placed c w = record { connection = c; waiting = w }
 
-module _ {C : Type 0} (k : ℕ) (b : Browser) (old mid new : Table C) (none : places_of mid k ≡ None)
+module _ {C : Type 0} (k : ℕ) (b : Browser) (old mid new : BrowserTable C)
+    (none : places_of mid k ≡ None)
     (others : IsSameBut k old mid) where
   at_then : IsAt k b mid new → IsAt k b old new
   at_then h = (h.0, λ j apart. h.1 j apart ∙ others j apart)
@@ -58,7 +59,7 @@ module _ {C : Type 0} (k : ℕ) (b : Browser) (old mid new : Table C) (none : pl
   settles_on asked (inl h) = inl (h.0, at_then h.1)
   settles_on asked (inr h) = inr (h.0, gone_then h.1)
 
-  pub settles_as : (came : Turned) (asked : List Request)
+  pub settles_as : (came : TurnOutcome) (asked : List Request)
       → SettlesBy k b (goes_on came) mid new asked → Settles k b came old new asked
   settles_as turn.Over asked h = (h.0, gone_then h.1)
   settles_as turn.Answered asked h = settles_on asked h
@@ -66,8 +67,8 @@ module _ {C : Type 0} (k : ℕ) (b : Browser) (old mid new : Table C) (none : pl
 
 -- ---- the same table, over other sockets
 
-module _ {C : Type 0} (t new : Table C) (s : C) (asked : List Request) where
-  abbrev over_others : Table C
+module _ {C : Type 0} (t new : BrowserTable C) (s : C) (asked : List Request) where
+  abbrev over_others : BrowserTable C
   over_others = record t { sockets = s }
 
   pub admits_from : Admits over_others new asked → Admits t new asked
@@ -82,7 +83,7 @@ module _ {C : Type 0} (t new : Table C) (s : C) (asked : List Request) where
     all = h.all;
   }
 
-  settles_from : (k : ℕ) (b : Browser) (came : Turned) (last : List Request)
+  settles_from : (k : ℕ) (b : Browser) (came : TurnOutcome) (last : List Request)
       → Settles k b came over_others new last → Settles k b came t new last
   settles_from k b turn.Over last h = h
   settles_from k b turn.Answered last h = h

@@ -10,7 +10,7 @@ use Rattle.http_server.specs.declared.state.Config.{Config}
 use Rattle.http_server.specs.History.{History, IsServed, new_history}
 use Rattle.polled.specs.Telling.{Tells}
 use Rattle.pages.specs.declared.table.Browser.{Browser}
-use Rattle.pages.specs.declared.table.Table.{Table}
+use Rattle.pages.specs.declared.table.BrowserTable.{BrowserTable}
 use Rattle.pages.specs.Browsers.{IsUntold}
 use Rattle.pages.specs.Handed.{EachIsAnswered, IsMovedAsTold}
 use Rattle.pages.specs.Happenings.{Happened, Came, closed, gave, took}
@@ -129,7 +129,8 @@ each_is_answered config a f next ts x =
 
 -- ---- where the sockets tell nothing
 
-pub holds_on : {C : Type 0} (happened : C → Option (List Happened)) (t : Table C) (sockets : C)
+pub holds_on : {C : Type 0} (happened : C → Option (List Happened)) (t : BrowserTable C)
+    (sockets : C)
     → Tells (happened t.sockets) (happened sockets) [] → Holds happened t
     → AreKept t.terms.config (happened sockets) (places_of t) t.next t.turns.items
 holds_on happened t sockets told held =

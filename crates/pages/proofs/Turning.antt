@@ -8,8 +8,8 @@ use Rattle.http_server.specs.History.{History, Rests}
 use Rattle.pages.specs.Asking.{AsksMove, Comes, OffersOnce}
 use Rattle.pages.specs.Musts.{IsMove, MayOffer, Offers, Turns, came_by, has_failed, is_offer}
 use Rattle.pages.specs.Requests.{Request}
-use Rattle.pages.specs.declared.waiting.Turned.{Turned}
-use Rattle.pages.specs.declared.waiting.Turned.TheVariants as turn
+use Rattle.pages.specs.declared.waiting.TurnOutcome.{TurnOutcome}
+use Rattle.pages.specs.declared.waiting.TurnOutcome.TheVariants as turn
 
 or_false : (b : Bool) → (b || false) ≡ b
 or_false true = refl
@@ -51,7 +51,7 @@ module _ (k : ℕ) (config : Config) (old new : History) (xs ys : List Request) 
   }
 
   -- all moves succeeded
-  pub turn_on : (sent : Bool) (came : Turned) → AsksMove k old true xs → MayOffer k ys
+  pub turn_on : (sent : Bool) (came : TurnOutcome) → AsksMove k old true xs → MayOffer k ys
       → Rests config new → (ys ≡ [] → length new.pending ≡ 0)
       → list_any is_offer (xs ++ ys) ≡ sent → Comes new sent came
       → Turns k config old new came (xs ++ ys)
@@ -91,7 +91,7 @@ module _ (k : ℕ) (config : Config) (old new : History) (xs ys : List Request) 
   }
 
   -- something was offered after the first move
-  pub turn_answered : (came : Turned) → AsksMove k old true xs → OffersOnce k true ys
+  pub turn_answered : (came : TurnOutcome) → AsksMove k old true xs → OffersOnce k true ys
       → Rests config new → Comes new true came → Turns k config old new came (xs ++ ys)
   turn_answered came h o rests comes =
       turn_on true came h (inr (o.0, o.1, o.2)) rests
@@ -103,7 +103,7 @@ module _ (k : ℕ) (config : Config) (old new : History) (xs ys : List Request) 
       comes
 
   -- nothing was
-  pub turn_waits : (sending : Bool) (came : Turned) → AsksMove k old true xs → ys ≡ []
+  pub turn_waits : (sending : Bool) (came : TurnOutcome) → AsksMove k old true xs → ys ≡ []
       → (IsTrue sending ↔ (0 < length old.pending)) → length new.pending ≡ 0 → Rests config new
       → Comes new sending came → Turns k config old new came (xs ++ ys)
   turn_waits sending came h none is nothing rests comes =

@@ -4,21 +4,21 @@ use Rattle.http.specs.declared.request.Request.{Request}
 use Rattle.http_server.specs.declared.response.Response.{Response}
 use Rattle.pages.specs.declared.browsers.Browsers.{Browsers}
 use Rattle.pages.specs.declared.sockets.Sockets as sockets
-use Rattle.pages.specs.declared.table.Table.{Table}
-use Rattle.pages.specs.declared.table.Terms.{Terms}
+use Rattle.pages.specs.declared.table.BrowserTable.{BrowserTable}
+use Rattle.pages.specs.declared.table.BrowserLimits.{BrowserLimits}
 use Rattle.pages.specs.Happenings.{Happened}
 use Rattle.pages.specs.Musts.{IsFresh}
 use Rattle.pages.specs.Turns.{Turn, Answers}
 use Rattle.pages.specs.Handed.{EachIsAnswered}
 
 -- the browsers whose connections are open, and how many came
-abbrev pub table_of : {C : Type 0} {g : sockets.Ghosts C} → Browsers C g → Table C
+abbrev pub table_of : {C : Type 0} {g : sockets.Ghosts C} → Browsers C g → BrowserTable C
 table_of b = b.table
 
 abbrev pub sockets_of : {C : Type 0} {g : sockets.Ghosts C} → Browsers C g → C
 sockets_of b = b.table.sockets
 
-abbrev pub terms_of : {C : Type 0} {g : sockets.Ghosts C} → Browsers C g → Terms
+abbrev pub terms_of : {C : Type 0} {g : sockets.Ghosts C} → Browsers C g → BrowserLimits
 terms_of b = b.table.terms
 
 -- the turns that browsers had: the number of the browser, and its connection as the turn left it
@@ -31,7 +31,7 @@ IsUntold None = ⊤
 IsUntold (Some hs) = hs ≡ []
 
 -- no browser had a turn
-abbrev pub IsNew : {C : Type 0} {g : sockets.Ghosts C} → Terms → C → Browsers C g → Type 0
+abbrev pub IsNew : {C : Type 0} {g : sockets.Ghosts C} → BrowserLimits → C → Browsers C g → Type 0
 IsNew terms sockets b =
     (terms_of b ≡ terms) × (sockets_of b ≡ sockets) × (turns_of b ≡ []) × IsFresh (table_of b)
 

@@ -1,11 +1,11 @@
 -- What comes of the sockets of browsers, where it is known (the project's own).
 use Rattle.std.specs.Prelude.{ℕ, ◌==◌, if◌then◌else◌, List, [], ◌∷◌, take, flat_map}
-use Rattle.polled.specs.declared.answers.Accepted.{Accepted}
-use Rattle.polled.specs.declared.answers.Accepted.TheVariants as accepted_is
-use Rattle.polled.specs.declared.answers.Given.{Given}
-use Rattle.polled.specs.declared.answers.Given.TheVariants as given_is
-use Rattle.polled.specs.declared.answers.Taken.{Taken}
-use Rattle.polled.specs.declared.answers.Taken.TheVariants as taken_is
+use Rattle.polled.specs.declared.answers.AcceptedPeer.{AcceptedPeer}
+use Rattle.polled.specs.declared.answers.AcceptedPeer.TheVariants as accepted_is
+use Rattle.polled.specs.declared.answers.ReadOutcome.{ReadOutcome}
+use Rattle.polled.specs.declared.answers.ReadOutcome.TheVariants as given_is
+use Rattle.polled.specs.declared.answers.WriteOutcome.{WriteOutcome}
+use Rattle.polled.specs.declared.answers.WriteOutcome.TheVariants as taken_is
 
 -- A browser is named by the number under which it was accepted.
 pub data Happened : Type 0 where
@@ -18,20 +18,20 @@ pub data Happened : Type 0 where
   -- its connection was ended
   Closed : ℕ → Happened
 
-abbrev pub accepted : ℕ → Accepted → List Happened
+abbrev pub accepted : ℕ → AcceptedPeer → List Happened
 accepted k accepted_is.Came = Came k ∷ []
 accepted k accepted_is.Nobody = []
 accepted k accepted_is.Full = []
 
 -- the bytes that were read are first in the buffer
-abbrev pub given : ℕ → Given → List ℕ → List Happened
+abbrev pub given : ℕ → ReadOutcome → List ℕ → List Happened
 given k (given_is.Bytes count) buffer = Gave k (take count buffer) ∷ []
 given k given_is.Later buffer = []
 given k given_is.Ended buffer = Ended k ∷ []
 given k given_is.Broke buffer = []
 
 -- the bytes that were taken are first among those that were given
-abbrev pub taken : ℕ → Taken → List ℕ → List Happened
+abbrev pub taken : ℕ → WriteOutcome → List ℕ → List Happened
 taken k (taken_is.Bytes count) bytes = Took k (take count bytes) ∷ []
 taken k taken_is.Later bytes = []
 taken k taken_is.Broke bytes = []

@@ -9,8 +9,8 @@ use Rattle.http_server.specs.declared.state.Config.{Config}
 use Rattle.http_server.specs.Connection.{config_of, history}
 use Rattle.http_server.specs.History.{History, IsServed, new_history}
 use Rattle.pages.specs.declared.table.Browser.{Browser}
-use Rattle.pages.specs.declared.table.Table.{Table}
-use Rattle.pages.specs.declared.table.Terms.{Terms}
+use Rattle.pages.specs.declared.table.BrowserTable.{BrowserTable}
+use Rattle.pages.specs.declared.table.BrowserLimits.{BrowserLimits}
 use Rattle.pages.specs.Happenings.{Happened, gave, took}
 use Rattle.pages.specs.Turns.{Answers, Turn, history_at}
 
@@ -54,18 +54,20 @@ pub record AreKept (config : Config) (a : Option (List Happened)) (places : Plac
 
 -- ---- a table
 
-abbrev pub places_of : {C : Type 0} → Table C → Places
+abbrev pub places_of : {C : Type 0} → BrowserTable C → Places
 places_of t k = get nat_eq t.browsers k
 
-abbrev pub Holds : {C : Type 0} → (C → Option (List Happened)) → Table C → Type 0
+abbrev pub Holds : {C : Type 0} → (C → Option (List Happened)) → BrowserTable C → Type 0
 Holds happened t =
     AreKept t.terms.config (happened t.sockets) (places_of t) t.next t.turns.items
 
-abbrev pub Keeps : {C : Type 0} → (C → Option (List Happened)) → Table C → Table C → Type 0
+abbrev pub Keeps : {C : Type 0} → (C → Option (List Happened)) → BrowserTable C → BrowserTable C
+    → Type 0
 Keeps happened old new = Holds happened old → Holds happened new
 
 -- the same where a browser that has no place may be given one
-abbrev pub KeepsWith : {C : Type 0} → (C → Option (List Happened)) → ℕ → Browser → Table C → Table C
+abbrev pub KeepsWith : {C : Type 0} → (C → Option (List Happened)) → ℕ → Browser → BrowserTable C
+    → BrowserTable C
     → Type 0
 KeepsWith happened k b old new =
     IsOpen old.terms.config (happened old.sockets) old.next old.turns.items k b.connection
@@ -73,12 +75,14 @@ KeepsWith happened k b old new =
 
 -- the service answered the requests of turns that were added
 abbrev pub AnswersIn : {C S : Type 0} → (C → Option (List Happened))
-    → (S → Request (List ℕ) → Response → S → Type 0) → S → S → Table C → Table C → Type 0
+    → (S → Request (List ℕ) → Response → S → Type 0) → S → S → BrowserTable C → BrowserTable C
+    → Type 0
 AnswersIn happened answers before after old new =
     Holds happened old → Answers answers before after old.turns.items new.turns.items
 
 -- none has come yet
-pub record IsFirst {C : Type 0} (wanted : Terms) (given : C) (t : Table C) : Type 0 where
+pub record IsFirst {C : Type 0} (wanted : BrowserLimits) (given : C)
+    (t : BrowserTable C) : Type 0 where
   pub terms : t.terms ≡ wanted
   pub sockets : t.sockets ≡ given
   pub none : t.browsers.entries ≡ []
@@ -87,7 +91,7 @@ pub record IsFirst {C : Type 0} (wanted : Terms) (given : C) (t : Table C) : Typ
   pub turns : t.turns.items ≡ []
 
 -- the terms, how many came, and the turns
-pub record StaysSame {C : Type 0} (old new : Table C) : Type 0 where
+pub record StaysSame {C : Type 0} (old new : BrowserTable C) : Type 0 where
   pub terms : new.terms ≡ old.terms
   pub next : new.next ≡ old.next
   pub turns : new.turns ≡ old.turns

@@ -1,7 +1,7 @@
 -- For how long a browser is waited for (the project's own).
 use Rattle.std.specs.Prelude.{ℕ, ◌-◌, ◌==◌, ◌&&◌, ◌||◌, ltb, Bool, true, false, if◌then◌else◌}
-use Rattle.pages.specs.declared.waiting.Turned.{Turned}
-use Rattle.pages.specs.declared.waiting.Turned.TheVariants as turn
+use Rattle.pages.specs.declared.waiting.TurnOutcome.{TurnOutcome}
+use Rattle.pages.specs.declared.waiting.TurnOutcome.TheVariants as turn
 use Rattle.pages.specs.declared.waiting.Waiting.{Waiting}
 use Rattle.pages.specs.declared.waiting.Longest.{Longest}
 use Rattle.std.specs.Prelude.{Option, None, Some}
@@ -10,7 +10,7 @@ abbrev pub waits : ℕ → Bool → Waiting
 waits since is_idle = record { since = since; is_idle = is_idle }
 
 -- the time counts anew once all answers are taken, and with the first turn after that
-abbrev pub after : Turned → ℕ → Waiting → Waiting
+abbrev pub after : TurnOutcome → ℕ → Waiting → Waiting
 after turn.Answered now w = waits now true
 after turn.Waits now w = if w.is_idle then waits now false else w
 after turn.Over now w = if w.is_idle then waits now false else w
@@ -31,7 +31,7 @@ longer number (Some one) w =
     else one
 
 -- whether the connection goes on after such a turn
-abbrev pub goes_on : Turned → Bool
+abbrev pub goes_on : TurnOutcome → Bool
 goes_on turn.Over = false
 goes_on turn.Answered = true
 goes_on turn.Waits = true

@@ -4,7 +4,7 @@ ghost use Rattle.std.specs.Prelude.{◌≡◌, IfOk};
 ghost use Rattle.pages.specs.Kept.{Holds};
 
 use crate::sockets::Sockets;
-use crate::table::{Table, Terms};
+use crate::table::{BrowserLimits, BrowserTable};
 use http_server::Service;
 use std::alloc::{AllocError, Global};
 use std::hash::RandomState;
@@ -17,7 +17,7 @@ use std::hash::RandomState;
 /// waited for since the longest time.
 #[derive(Drop)]
 pub struct Browsers<C: Sockets> {
-    table: Table<C>,
+    table: BrowserTable<C>,
     ghost kept: { ∥ Holds C.happened table ∥₁ },
 }
 
@@ -31,13 +31,13 @@ impl<C: Sockets> Browsers<C> {
     pub fn new(
         alloc: Global,
         keys: RandomState,
-        terms: Terms,
+        terms: BrowserLimits,
         sockets: C,
     ) -> Result<Browsers<C>, AllocError>
         requires { IsUntold (C.happened sockets) }
         ensures { IfOk result (IsNew terms sockets) }
     {
-        let table = Table::new(alloc, keys, terms, sockets)?;
+        let table = BrowserTable::new(alloc, keys, terms, sockets)?;
         let browsers = Browsers { table };
         Ok(browsers)
     }

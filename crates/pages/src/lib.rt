@@ -9,6 +9,6 @@ mod turns;
 mod waiting;
 
 pub use browsers::Browsers;
-pub use polled::{Accepted, Given, Ready, Taken};
+pub use polled::{AcceptedPeer, ReadOutcome, Ready, WriteOutcome};
 pub use sockets::Sockets;
-pub use table::Terms;
+pub use table::BrowserLimits;

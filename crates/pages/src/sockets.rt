@@ -7,7 +7,7 @@ ghost use Rattle.pages.specs.Happenings.{Happened, accepted, closed, given, take
 ghost use Rattle.pages.specs.Requests.{Request, Waited, Accepting, Reading, Writing, Watching};
 ghost use Rattle.pages.specs.Requests.{Closing};
 
-use polled::{Accepted, Given, Ready, Taken};
+use polled::{AcceptedPeer, ReadOutcome, Ready, WriteOutcome};
 
 /// The sockets of browsers, each by the number under which it was accepted. No call but `ready`
 /// waits.
@@ -28,13 +28,13 @@ pub trait Sockets: Drop {
 
     /// Accepts the browser that waits. From now on it has this number, and is named when it can be
     /// read from.
-    fn accept(&mut self, number: u64) -> Accepted
+    fn accept(&mut self, number: u64) -> AcceptedPeer
         ensures told { Tells (happened self.old) (happened self.new) (accepted number result) }
         ensures requests { Tells (requests self.old) (requests self.new)
             (Accepting number result ∷ []) };
 
     /// Reads once of a browser, without waiting.
-    fn read(&mut self, number: u64, buffer: &mut [u8; 4096]) -> Given
+    fn read(&mut self, number: u64, buffer: &mut [u8; 4096]) -> ReadOutcome
         ensures count { CountsGiven (length buffer.new) result }
         ensures told { Tells (happened self.old) (happened self.new)
             (given number result buffer.new) }
@@ -42,7 +42,7 @@ pub trait Sockets: Drop {
             (Reading number result ∷ []) };
 
     /// Writes to a browser as much of the bytes as it takes without waiting.
-    fn write(&mut self, number: u64, bytes: &[u8]) -> Taken
+    fn write(&mut self, number: u64, bytes: &[u8]) -> WriteOutcome
         requires { bytes.now ≢ [] }
         ensures count { CountsTaken (length bytes.now) result }
         ensures told { Tells (happened self.old) (happened self.new)

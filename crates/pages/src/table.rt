@@ -8,13 +8,13 @@ use crate::turns::take_turn;
 use crate::waiting::Waiting;
 use http_server::{Config, Connection, Log, Service};
 use indexmap::IndexMap;
-use polled::{Accepted, Ready};
+use polled::{AcceptedPeer, Ready};
 use std::alloc::{AllocError, Global};
 use std::hash::RandomState;
 
 /// How browsers are served.
 #[derive(Clone, Copy, Debug)]
-pub struct Terms {
+pub struct BrowserLimits {
     /// The most browsers whose connections are open at once.
     pub most: usize,
     /// How long a browser may take for a request with its answer, and how long it may be silent
@@ -33,10 +33,10 @@ pub(crate) struct Browser {
 
 /// Browsers, each by the number under which it was accepted, and their sockets.
 #[derive(Drop)]
-pub(crate) struct Table<C> {
+pub(crate) struct BrowserTable<C> {
     pub(crate) alloc: Global,
     pub(crate) keys: RandomState,
-    pub(crate) terms: Terms,
+    pub(crate) terms: BrowserLimits,
     pub(crate) sockets: C,
     pub(crate) browsers: IndexMap<u64, Browser>,
     /// How many browsers came.
@@ -56,25 +56,25 @@ enum Step {
     Failed,
 }
 
-impl<C: Sockets> Table<C> {
+impl<C: Sockets> BrowserTable<C> {
     ghost use Rattle.pages.specs.Asking.{FindsLate, FindsLongest, KeepsOn, LetsGo, SettlesBy};
     ghost use Rattle.pages.specs.Asking.{StepsBy};
     ghost use Rattle.pages.specs.Kept.{AnswersIn, IsFirst, Keeps, KeepsWith, StaysSame};
     ghost use Rattle.pages.specs.Musts.{Accepts, Admits, AsksRound, Attends, EndsRound, GivesPlace};
     ghost use Rattle.pages.specs.Musts.{LetsLongestGo, MakesRoom};
     ghost use Rattle.pages.specs.Requests.{Asks};
-    ghost use Rattle.polled.specs.declared.answers.Accepted.TheVariants as accepted_is;
+    ghost use Rattle.polled.specs.declared.answers.AcceptedPeer.TheVariants as accepted_is;
 
     /// None has come yet.
     pub(crate) fn new(
         alloc: Global,
         keys: RandomState,
-        terms: Terms,
+        terms: BrowserLimits,
         sockets: C,
-    ) -> Result<Table<C>, AllocError>
+    ) -> Result<BrowserTable<C>, AllocError>
         ensures { IfOk result (IsFirst terms sockets) }
     {
-        Ok(Table {
+        Ok(BrowserTable {
             alloc,
             keys,
             terms,
@@ -242,9 +242,9 @@ impl<C: Sockets> Table<C> {
             return;
         }
         match self.sockets.accept(self.next) {
-            Accepted::Came => self.welcome(),
-            Accepted::Nobody => {}
-            Accepted::Full => self.let_longest_go(),
+            AcceptedPeer::Came => self.welcome(),
+            AcceptedPeer::Nobody => {}
+            AcceptedPeer::Full => self.let_longest_go(),
         }
     }
 

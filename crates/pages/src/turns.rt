@@ -10,9 +10,9 @@ ghost use Rattle.pages.specs.Turns.{Hears, Moved};
 ghost use Rattle.pages.specs.Waiting.{goes_on};
 
 use crate::sockets::Sockets;
-use crate::waiting::Turned;
+use crate::waiting::TurnOutcome;
 use http_server::{Connection, Service};
-use polled::{Given, Taken};
+use polled::{ReadOutcome, WriteOutcome};
 
 /// Writes once what is to be sent. False: the write failed.
 fn send<C: Sockets>(number: u64, connection: &mut Connection, sockets: &mut C) -> bool
@@ -24,12 +24,12 @@ fn send<C: Sockets>(number: u64, connection: &mut Connection, sockets: &mut C) -
     ensures asks { Asks C.requests sockets.old sockets.new (OffersOnce number result) }
 {
     match sockets.write(number, connection.output()) {
-        Taken::Bytes { count } => {
+        WriteOutcome::Bytes { count } => {
             connection.sent(count);
             true
         }
-        Taken::Later => true,
-        Taken::Broke => false,
+        WriteOutcome::Later => true,
+        WriteOutcome::Broke => false,
     }
 }
 
@@ -72,10 +72,10 @@ fn read<C: Sockets>(number: u64, connection: &mut Connection, sockets: &mut C) -
 {
     let mut buffer = [0; 4096];
     match sockets.read(number, &mut buffer) {
-        Given::Bytes { count } => hear(connection, &buffer[..count]),
-        Given::Ended => hear_the_end(connection),
-        Given::Later => true,
-        Given::Broke => false,
+        ReadOutcome::Bytes { count } => hear(connection, &buffer[..count]),
+        ReadOutcome::Ended => hear_the_end(connection),
+        ReadOutcome::Later => true,
+        ReadOutcome::Broke => false,
     }
 }
 
@@ -101,7 +101,7 @@ fn answer<C: Sockets, S: Service>(
     connection: &mut Connection,
     sockets: &mut C,
     service: &mut S,
-) -> Turned
+) -> TurnOutcome
     ensures moved { Moved number (goes_on result) (C.happened sockets.old) (C.happened sockets.new)
         (history connection.old) (history connection.new) }
     ensures calls { Calls S.answers service.old service.new
@@ -112,26 +112,26 @@ fn answer<C: Sockets, S: Service>(
 {
     connection.advance(service);
     if !connection.wants_write() {
-        return Turned::Waits;
+        return TurnOutcome::Waits;
     }
     if !send(number, connection, sockets) {
-        return Turned::Over;
+        return TurnOutcome::Over;
     }
     // It may have paused for what was just sent.
     connection.advance(service);
-    Turned::Answered
+    TurnOutcome::Answered
 }
 
 /// What came of a turn whose moves all succeeded, and in which something was sent or nothing.
-fn turned(connection: &Connection, has_sent: bool) -> Turned
+fn turned(connection: &Connection, has_sent: bool) -> TurnOutcome
     ensures { Comes (history connection.now) has_sent result }
 {
     if connection.is_done() {
-        Turned::Over
+        TurnOutcome::Over
     } else if has_sent && !connection.wants_write() {
-        Turned::Answered
+        TurnOutcome::Answered
     } else {
-        Turned::Waits
+        TurnOutcome::Waits
     }
 }
 
@@ -141,7 +141,7 @@ pub(crate) fn take_turn<C: Sockets, S: Service>(
     connection: &mut Connection,
     sockets: &mut C,
     service: &mut S,
-) -> Turned
+) -> TurnOutcome
     ensures moved { Moved number (goes_on result) (C.happened sockets.old) (C.happened sockets.new)
         (history connection.old) (history connection.new) }
     ensures calls { Calls S.answers service.old service.new
@@ -153,11 +153,11 @@ pub(crate) fn take_turn<C: Sockets, S: Service>(
 {
     let was_sending = connection.wants_write();
     if !move_bytes(number, connection, sockets) {
-        return Turned::Over;
+        return TurnOutcome::Over;
     }
     match answer(number, connection, sockets, service) {
-        Turned::Over => Turned::Over,
-        Turned::Answered => turned(connection, true),
-        Turned::Waits => turned(connection, was_sending),
+        TurnOutcome::Over => TurnOutcome::Over,
+        TurnOutcome::Answered => turned(connection, true),
+        TurnOutcome::Waits => turned(connection, was_sending),
     }
 }

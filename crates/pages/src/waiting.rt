@@ -5,7 +5,7 @@ ghost use Rattle.pages.specs.Waiting.{after, goes_on, is_late, is_longer, longer
 
 /// What came of a browser's turn.
 #[derive(Clone, Copy, PartialEq, Eq, Debug)]
-pub(crate) enum Turned {
+pub(crate) enum TurnOutcome {
     /// Its connection is to be ended.
     Over,
     /// It was sent something, and has taken all that was to be sent.
@@ -14,14 +14,14 @@ pub(crate) enum Turned {
     Waits,
 }
 
-impl Turned {
+impl TurnOutcome {
     /// Whether the connection goes on.
     pub(crate) fn goes_on(self) -> bool
         ensures { result ≡ goes_on self }
     {
         match self {
-            Turned::Over => false,
-            Turned::Answered | Turned::Waits => true,
+            TurnOutcome::Over => false,
+            TurnOutcome::Answered | TurnOutcome::Waits => true,
         }
     }
 }
@@ -44,11 +44,11 @@ pub(crate) struct Longest {
 
 impl Waiting {
     /// After a turn at this time.
-    pub(crate) fn after(self, turned: Turned, now: u64) -> Waiting
+    pub(crate) fn after(self, turned: TurnOutcome, now: u64) -> Waiting
         ensures { result ≡ after turned now self }
     {
         match turned {
-            Turned::Answered => Waiting {
+            TurnOutcome::Answered => Waiting {
                 since: now,
                 is_idle: true,
             },

@@ -2,8 +2,8 @@
 use Rattle.std.specs.Prelude.{ℕ, Bool, List, Option}
 use Rattle.polled.specs.Telling.{Tells}
 use Rattle.polled.specs.declared.answers.Ready.{Ready}
-use Rattle.polled.specs.declared.answers.Given.{Given}
-use Rattle.polled.specs.declared.answers.Taken.{Taken}
+use Rattle.polled.specs.declared.answers.ReadOutcome.{ReadOutcome}
+use Rattle.polled.specs.declared.answers.WriteOutcome.{WriteOutcome}
 
 -- A peer is named by the number under which it is accepted. What comes of that (A) may be more than
 -- that it came.
@@ -13,9 +13,9 @@ pub data Asked (A : Type 0) : Type 0 where
   -- the peer that waits, to be accepted under this number
   Accepting : ℕ → A → Asked A
   -- bytes of this peer
-  Reading : ℕ → Given → Asked A
+  Reading : ℕ → ReadOutcome → Asked A
   -- that this peer take this many bytes
-  Writing : ℕ → ℕ → Taken → Asked A
+  Writing : ℕ → ℕ → WriteOutcome → Asked A
   -- that this peer be named when it can take bytes (true), or be read from (false); the system does
   -- so, or refuses
   Watching : ℕ → Bool → Bool → Asked A

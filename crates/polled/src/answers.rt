@@ -16,7 +16,7 @@ pub enum Ready {
 
 /// What came of accepting a peer.
 #[derive(Clone, Copy, PartialEq, Eq, Debug)]
-pub enum Accepted {
+pub enum AcceptedPeer {
     /// A peer came.
     Came,
     /// None waits, or the one that waited has gone.
@@ -27,7 +27,7 @@ pub enum Accepted {
 
 /// What came of a read.
 #[derive(Clone, Copy, PartialEq, Eq, Debug)]
-pub enum Given {
+pub enum ReadOutcome {
     /// This many bytes were read, at least 1.
     Bytes { count: usize },
     /// There is nothing to be read now.
@@ -40,7 +40,7 @@ pub enum Given {
 
 /// What came of a write.
 #[derive(Clone, Copy, PartialEq, Eq, Debug)]
-pub enum Taken {
+pub enum WriteOutcome {
     /// This many of the bytes were taken, at least 1.
     Bytes { count: usize },
     /// The peer can take nothing now.

@@ -4,4 +4,4 @@
 mod answers;
 pub mod sockets;
 
-pub use answers::{Accepted, Given, Ready, Taken};
+pub use answers::{AcceptedPeer, ReadOutcome, Ready, WriteOutcome};

@@ -14,7 +14,7 @@ use Rattle.acceptor.specs.declared.message.Message.{Message}
 use Rattle.acceptor.specs.declared.stored.Change.TheVariants.{Promised, Voted}
 use Rattle.acceptor.specs.Messages.{message, has}
 use Rattle.acceptor.specs.Answers.{reported, elsewhere, prepare_here, accept_here}
-use Rattle.proposer.specs.declared.role.Heard.{Heard}
+use Rattle.proposer.specs.declared.role.PromisingDesk.{PromisingDesk}
 use Rattle.proposer.specs.declared.role.Role.TheVariants.{Idle, Gathering, Proposing}
 use Rattle.proposer.specs.declared.plan.Plan.{Plan}
 use Rattle.proposer.specs.Plans.{only_say, append}
@@ -184,7 +184,7 @@ told_at n d k x m h =
     )
 
 -- desk d at a Promise that it waits for
-pub promise_heard : (n d k : ℕ) (x : Desk) (b : Ballot) (m : ℕ) (heard : List Heard)
+pub promise_heard : (n d k : ℕ) (x : Desk) (b : Ballot) (m : ℕ) (heard : List PromisingDesk)
     (v : Option Report) → x.role ≡ Gathering b m heard → was_heard heard k ≡ false
     → on_body n d x k (Promise b m v)
     ≡ promises_heard n d (passing x) b m (record { desk = k; vote = v } ∷ heard)
@@ -227,7 +227,7 @@ nack_heard n d k x b m q mine high =
     else only_say (passing x) []) mine
     ∙ ap (λ t. if t then gives_up x q.number else only_say (passing x) []) high
 
-pub is_own_gathering : (x : Desk) (b : Ballot) (m : ℕ) (heard : List Heard)
+pub is_own_gathering : (x : Desk) (b : Ballot) (m : ℕ) (heard : List PromisingDesk)
     → x.role ≡ Gathering b m heard → is_ballot_of x.role b ≡ true
 is_own_gathering x b m heard h = ap (λ r. is_ballot_of r b) h ∙ same_test b
 

@@ -13,7 +13,7 @@ use Rattle.acceptor.specs.declared.stored.Stored.{Stored}
 use Rattle.acceptor.specs.declared.stored.Vote.{Vote}
 use Rattle.acceptor.specs.Messages.{message, desks_from, to_each, to_all}
 use Rattle.acceptor.specs.Answers.{reported}
-use Rattle.proposer.specs.declared.role.Heard.{Heard}
+use Rattle.proposer.specs.declared.role.PromisingDesk.{PromisingDesk}
 use Rattle.proposer.specs.declared.role.Role.TheVariants.{Gathering, Proposing}
 use Rattle.proposer.specs.declared.plan.Plan.{Plan}
 use Rattle.proposer.specs.Plans.{become}
@@ -96,7 +96,8 @@ fair_choice a m None h = (a.first, refl, inr refl)
 fair_choice a m (Some r) h = (r.entry, refl, h)
 
 -- desk d gathers promises of its ballot, and has still to hear these desks
-pub record Gathers (a : Aim) (r : ℕ) (b : Ballot) (m : ℕ) (left : List ℕ) (heard : List Heard)
+pub record Gathers (a : Aim) (r : ℕ) (b : Ballot) (m : ℕ) (left : List ℕ)
+    (heard : List PromisingDesk)
     (w : World) : Type 0 where
   pub fit : Fit a r w
   pub role : (w.desks a.d).role ≡ Gathering b m heard
@@ -123,10 +124,12 @@ pub record Proposes (a : Aim) (r : ℕ) (b : Ballot) (m : ℕ) (f : Entry) (w : 
   pub tried : b.number ≤ r
 
 -- a desk promises
-gives : (a : Aim) (c r : ℕ) (b : Ballot) (m k : ℕ) (ks : List ℕ) (heard : List Heard) (w : World)
+gives : (a : Aim) (c r : ℕ) (b : Ballot) (m k : ℕ) (ks : List ℕ) (heard : List PromisingDesk)
+    (w : World)
     → Gathers a r b m (k ∷ ks) heard w → length (w.desks k).log ≡ m
     → ((f : Entry) (v : World) → Proposes a r b m f v → Decides a (lack a v + c) v)
-    → ((more : List Heard) (v : World) → Gathers a r b m ks more v → Decides a (lack a v + c) v)
+    → ((more : List PromisingDesk) (v : World) → Gathers a r b m ks more v
+    → Decides a (lack a v + c) v)
     → Decides a (lack a w + suc (suc c)) w
 gives a c r b m k ks heard w g here proposes again =
     comes a (suc c) w (message a.d k (Prepare b m)) promising fit.reached a.mine i
@@ -158,7 +161,7 @@ gives a c r b m k ks heard w g here proposes again =
     z : Desk
     z = u.desks a.d
 
-    more : List Heard
+    more : List PromisingDesk
     more = record { desk = k; vote = vote } ∷ heard
 
     role1 : z.role ≡ Gathering b m heard
@@ -248,10 +251,11 @@ gives a c r b m k ks heard w g here proposes again =
             (not_same k j ks g.distinct.0 q))
 
 -- the next desk is heard
-gather_one : (a : Aim) (c r : ℕ) (b : Ballot) (m k : ℕ) (ks : List ℕ) (heard : List Heard)
+gather_one : (a : Aim) (c r : ℕ) (b : Ballot) (m k : ℕ) (ks : List ℕ) (heard : List PromisingDesk)
     (w : World) → Gathers a r b m (k ∷ ks) heard w
     → ((f : Entry) (v : World) → Proposes a r b m f v → Decides a (lack a v + c) v)
-    → ((more : List Heard) (v : World) → Gathers a r b m ks more v → Decides a (lack a v + c) v)
+    → ((more : List PromisingDesk) (v : World) → Gathers a r b m ks more v
+    → Decides a (lack a v + c) v)
     → Decides a (lack a w + suc (suc (suc c))) w
 gather_one a c r b m k ks heard w g proposes again =
     levels a (suc c) r k m w (Prepare b m) i g.fit g.own (g.clear k i).1 (g.asked k (inl refl))
@@ -279,7 +283,7 @@ gather_one a c r b m k ks heard w g proposes again =
 -- all are heard, until a majority has promised
 pub gather_all : (a : Aim) (c r : ℕ) (b : Ballot) (m : ℕ)
     → ((f : Entry) (v : World) → Proposes a r b m f v → Decides a (lack a v + c) v)
-    → (left : List ℕ) (heard : List Heard) (w : World) → Gathers a r b m left heard w
+    → (left : List ℕ) (heard : List PromisingDesk) (w : World) → Gathers a r b m left heard w
     → Decides a (lack a w + (3 * length left + c)) w
 gather_all a c r b m proposes [] heard w g =
     let few = g.few in let enough = g.enough in absurd (grind (arith, nat_tests, few, enough))

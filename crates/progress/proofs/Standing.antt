@@ -21,7 +21,7 @@ use Rattle.acceptor.specs.Answers.{reported, elsewhere, prepare_here, accept_her
 use Rattle.proposer.specs.declared.fault.Refusal.{Refusal}
 use Rattle.proposer.specs.declared.fault.Refusal.TheVariants.{Busy, LogFull, BallotsSpent}
 use Rattle.proposer.specs.declared.plan.Plan.{Plan}
-use Rattle.proposer.specs.declared.role.Heard.{Heard}
+use Rattle.proposer.specs.declared.role.PromisingDesk.{PromisingDesk}
 use Rattle.proposer.specs.declared.role.Role.{Role}
 use Rattle.proposer.specs.declared.role.Role.TheVariants.{Idle, Gathering, Proposing, Leading}
 use Rattle.proposer.specs.Plans.{Passing, role_after, only_say, become, give_way, append}
@@ -170,7 +170,7 @@ promise_fits n d x from b pos v (Proposing own at f heard) = (tt, tt)
 promise_fits n d x from b pos v (Leading own) = (tt, tt)
 promise_fits n d x from b pos v (Gathering own at heard) = same (is_same own b)
   where
-    more : List Heard
+    more : List PromisingDesk
     more = record { desk = from; vote = v } ∷ heard
 
     chosen : (o : Option Entry) → PlanFits n (length x.log) (propose n d (passing x) own at o)

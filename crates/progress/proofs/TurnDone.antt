@@ -15,7 +15,7 @@ use Rattle.acceptor.specs.Answers.{reported}
 use Rattle.proposer.specs.declared.fault.Refusal.{Refusal}
 use Rattle.proposer.specs.declared.fault.Refusal.TheVariants.{LogFull, BallotsSpent}
 use Rattle.proposer.specs.declared.plan.Plan.{Plan}
-use Rattle.proposer.specs.declared.role.Heard.{Heard}
+use Rattle.proposer.specs.declared.role.PromisingDesk.{PromisingDesk}
 use Rattle.proposer.specs.declared.role.Role.TheVariants.{Idle, Gathering, Proposing, Leading}
 use Rattle.proposer.specs.Plans.{become, append, only_say}
 use Rattle.proposer.specs.Proposing.{is_full, last_number, gather, start, start_by_role, ask}
@@ -126,7 +126,7 @@ mid_gathers a c l w h reached1 =
     role2 : (u2.desks k).role ≡ Gathering b m []
     role2 = ap (λ y. y.role) self2 ∙ ap (λ y. y.role) self1
 
-    heard : List Heard
+    heard : List PromisingDesk
     heard = record { desk = k; vote = vote } ∷ []
 
     p3 : Plan

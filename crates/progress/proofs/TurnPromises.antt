@@ -11,7 +11,7 @@ use Rattle.acceptor.specs.declared.message.Body.TheVariants.{Prepare, Promise}
 use Rattle.acceptor.specs.declared.stored.Stored.{Stored}
 use Rattle.acceptor.specs.Messages.{message}
 use Rattle.acceptor.specs.Answers.{reported}
-use Rattle.proposer.specs.declared.role.Heard.{Heard}
+use Rattle.proposer.specs.declared.role.PromisingDesk.{PromisingDesk}
 use Rattle.proposer.specs.declared.role.Role.TheVariants.{Gathering}
 use Rattle.proposer.specs.declared.plan.Plan.{Plan}
 use Rattle.proposer.specs.Plans.{become}
@@ -37,7 +37,8 @@ use Rattle.progress.proofs.TurnLevels.{comes_plain}
 use Rattle.progress.proofs.TurnVotes.{IsEven, even_at, Asks, asks_from, or_true}
 
 -- desk d gathers promises of its ballot, and has still to hear these desks
-pub record Gathers (a : Aim) (c : ℕ) (b : Ballot) (m : ℕ) (left : List ℕ) (heard : List Heard)
+pub record Gathers (a : Aim) (c : ℕ) (b : Ballot) (m : ℕ) (left : List ℕ)
+    (heard : List PromisingDesk)
     (w : World) : Type 0 where
   pub fit : Fit a c w
   pub role : (w.desks a.d).role ≡ Gathering b m heard
@@ -75,10 +76,11 @@ even_asked a c b m f u v h g j i = go (a.d == j) refl
         subst (λ (x : Desk). IsAtMost x.stored.promised b × (length x.log ≡ m)) (sym e) (h j i)
 
 -- a desk promises
-gives : (a : Aim) (c : ℕ) (b : Ballot) (m k : ℕ) (ks : List ℕ) (heard : List Heard) (w : World)
+gives : (a : Aim) (c : ℕ) (b : Ballot) (m k : ℕ) (ks : List ℕ) (heard : List PromisingDesk)
+    (w : World)
     → Gathers a c b m (k ∷ ks) heard w → ¬ (k ≡ a.d)
     → ((f : Entry) (v : World) → Proposes a c b m f v → Comes a v)
-    → ((more : List Heard) (v : World) → Gathers a c b m ks more v → Comes a v)
+    → ((more : List PromisingDesk) (v : World) → Gathers a c b m ks more v → Comes a v)
     → Comes a w
 gives a c b m k ks heard w g ne proposes again =
     comes_plain a w (message a.d k (Prepare b m)) promising fit.reached a.mine i
@@ -111,7 +113,7 @@ gives a c b m k ks heard w g ne proposes again =
     z : Desk
     z = u.desks a.d
 
-    more : List Heard
+    more : List PromisingDesk
     more = record { desk = k; vote = vote } ∷ heard
 
     role1 : z.role ≡ Gathering b m heard
@@ -200,7 +202,7 @@ gives a c b m k ks heard w g ne proposes again =
 -- all are heard, until a majority has promised
 pub gather_all : (a : Aim) (c : ℕ) (b : Ballot) (m : ℕ)
     → ((f : Entry) (v : World) → Proposes a c b m f v → Comes a v)
-    → (left : List ℕ) (heard : List Heard) (w : World) → Gathers a c b m left heard w
+    → (left : List ℕ) (heard : List PromisingDesk) (w : World) → Gathers a c b m left heard w
     → Comes a w
 gather_all a c b m proposes [] heard w g =
     let few = g.few in let enough = g.enough in absurd (grind (arith, nat_tests, few, enough))

@@ -14,7 +14,7 @@ use Rattle.acceptor.specs.Answers.{reported}
 use Rattle.proposer.specs.declared.fault.Refusal.{Refusal}
 use Rattle.proposer.specs.declared.fault.Refusal.TheVariants.{LogFull, BallotsSpent}
 use Rattle.proposer.specs.declared.plan.Plan.{Plan}
-use Rattle.proposer.specs.declared.role.Heard.{Heard}
+use Rattle.proposer.specs.declared.role.PromisingDesk.{PromisingDesk}
 use Rattle.proposer.specs.declared.role.Role.{Role}
 use Rattle.proposer.specs.declared.role.Role.TheVariants.{Idle, Gathering, Proposing, Leading}
 use Rattle.proposer.specs.Plans.{become, append}
@@ -156,7 +156,7 @@ gathers a c k l Q w h i reached1 next =
     role2 : (u2.desks k).role ≡ Gathering b m []
     role2 = ap (λ y. y.role) self2 ∙ ap (λ y. y.role) self1
 
-    heard : List Heard
+    heard : List PromisingDesk
     heard = record { desk = k; vote = vote } ∷ []
 
     p3 : World → Plan
@@ -343,7 +343,7 @@ pub record Restarted (a : Aim) (c k : ℕ) (w v : World) : Type 0 where
   pub sent : (x : Message) → IsPending a w x → IsPending a v x
   pub low : (number : ℕ) → Low a c w number → Low a c v number
 
-pub free_gathering : (x : Desk) (b : Ballot) (m : ℕ) (heard : List Heard)
+pub free_gathering : (x : Desk) (b : Ballot) (m : ℕ) (heard : List PromisingDesk)
     → x.role ≡ Gathering b m heard → IsFree x
 free_gathering x b m heard h =
     subst (λ (r : Role). IsFreeIn x.stored.promised r) (sym h) tt

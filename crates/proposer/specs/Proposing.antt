@@ -16,7 +16,7 @@ use Rattle.acceptor.specs.Ballots.{is_below, is_same}
 use Rattle.acceptor.specs.Messages.{has, desks_from, without, to_each, to_all, to_others}
 use Rattle.proposer.specs.declared.fault.Refusal.{Refusal}
 use Rattle.proposer.specs.declared.fault.Refusal.TheVariants.{Busy, LogFull, BallotsSpent}
-use Rattle.proposer.specs.declared.role.Heard.{Heard}
+use Rattle.proposer.specs.declared.role.PromisingDesk.{PromisingDesk}
 use Rattle.proposer.specs.declared.role.Role.{Role}
 use Rattle.proposer.specs.declared.role.Role.TheVariants.{Idle, Gathering, Proposing, Leading}
 use Rattle.proposer.specs.declared.plan.Plan.{Plan}
@@ -137,7 +137,7 @@ abbrev pub tick : ℕ → ℕ → Stored → ℕ → Passing → Result Plan Ref
 tick n d s len p = tick_by_role n d s len p p.role
 
 -- the desk is among those heard
-abbrev pub was_heard : List Heard → ℕ → Bool
+abbrev pub was_heard : List PromisingDesk → ℕ → Bool
 was_heard hs d = list_any (λ h. h.desk == d) hs
 
 -- of two reports the one of the higher ballot
@@ -147,7 +147,7 @@ higher (Some r) None = Some r
 higher (Some r) (Some s) = if is_below r.ballot s.ballot then Some s else Some r
 
 -- the report of the highest ballot
-abbrev pub highest : List Heard → Option Report
+abbrev pub highest : List PromisingDesk → Option Report
 highest [] = None
 highest (h ∷ hs) = higher h.vote (highest hs)
 
@@ -163,7 +163,7 @@ propose n d p b pos None = become p Idle []
 propose n d p b pos (Some e) = ask n d p b pos e
 
 -- these desks have promised
-abbrev pub promises_heard : ℕ → ℕ → Passing → Ballot → ℕ → List Heard → Plan
+abbrev pub promises_heard : ℕ → ℕ → Passing → Ballot → ℕ → List PromisingDesk → Plan
 promises_heard n d p b pos heard =
     if is_majority n (length heard)
     then propose n d p b pos (choice (highest heard) p.queue)

@@ -16,5 +16,5 @@ pub mod votes;
 pub use fault::{Refusal, StepFault};
 pub use plan::Plan;
 pub use proposer::Proposer;
-pub use role::{Heard, Promises, Role};
+pub use role::{Promises, PromisingDesk, Role};
 pub use votes::Votes;

@@ -10,7 +10,7 @@ use std::marker::Model;
 
 /// A desk that has promised, with the vote that it reported.
 #[derive(Debug, Drop)]
-pub struct Heard {
+pub struct PromisingDesk {
     pub desk: u8,
     pub vote: Option<Report>,
 }
@@ -18,14 +18,14 @@ pub struct Heard {
 /// The desks that have promised so far, the last one first.
 #[derive(Debug, Drop)]
 pub struct Promises {
-    heard: Vec<Heard>,
+    heard: Vec<PromisingDesk>,
 }
 
 impl Model for Promises {
     ghost use Rattle.std.specs.Prelude.{List};
-    ghost use Rattle.proposer.specs.declared.role.Heard.{Heard};
+    ghost use Rattle.proposer.specs.declared.role.PromisingDesk.{PromisingDesk};
 
-    ghost Value = { List Heard };
+    ghost Value = { List PromisingDesk };
 
     ghost view = { λ p. p.heard.items };
 }
@@ -44,21 +44,21 @@ impl Promises {
     }
 
     /// These desks, the last one first.
-    pub fn from_vec(heard: Vec<Heard>) -> Promises
+    pub fn from_vec(heard: Vec<PromisingDesk>) -> Promises
         ensures { result ≡ heard.items }
     {
         Promises { heard }
     }
 
     /// The desks as a slice.
-    pub fn as_slice(&self) -> &[Heard]
+    pub fn as_slice(&self) -> &[PromisingDesk]
         ensures { result.now ≡ self.now }
     {
         self.heard.as_slice()
     }
 
     /// The `Vec` of the desks, with no copy made.
-    pub fn into_vec(self) -> Vec<Heard>
+    pub fn into_vec(self) -> Vec<PromisingDesk>
         ensures { result.items ≡ self }
     {
         let Promises { heard } = self;
@@ -78,10 +78,10 @@ impl Promises {
     {
         let mut heard = Vec::new(*self.heard.allocator());
         let vote = copy_report(vote)?;
-        heard.push(Heard { desk, vote })?;
+        heard.push(PromisingDesk { desk, vote })?;
         for h in &self.heard {
             let vote = copy_report(&h.vote)?;
-            heard.push(Heard { desk: h.desk, vote })?;
+            heard.push(PromisingDesk { desk: h.desk, vote })?;
         }
         Ok(Promises { heard })
     }

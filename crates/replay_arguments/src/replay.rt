@@ -40,9 +40,9 @@ Standard input has one command a line:
   REOPEN 333 1                  opens round 1 again, while round 2 is not open
   EDITION 4                     from this line on the lines below are commands, and CARD, FIX, ATT,
                                 COR, STR and WDR may end with ` # ` and a remark
-  CARD 333 1 1 - T:1200:0/DNF   all attempts of competitor 1 at once, where none stands (-)
+  CARD 333 1 1 - T:1200:0/DNF   all attempts of competitor 1 at once, where it has none yet (-)
   CARD 333 1 1 1200,DNF =/T:998:0
-                                the same where 12.00 and DNF stand; = keeps one as it stands
+                                the same over 12.00 and DNF; = keeps one as it is
   FIX 333 1 1 1200,998 =/DNF    the same in a closed round
   CANCEL 333 2                  takes back the opening of round 2, while nobody has an attempt
 

@@ -1,5 +1,5 @@
 -- What an event is answered, from the plan of its step.
-use Rattle.std.proofs.Common.{◌≡◌, ℕ, ◌↔◌, Bool, true, false, if◌then◌else◌, List, Result, Ok, Err}
+use Rattle.std.proofs.Common.{◌≡◌, ℕ, ◌↔◌, List, Result, Err}
 use Rattle.std.proofs.Common.{refl, sym, ap, subst}
 use Rattle.acceptor.specs.declared.entry.Entry.{Entry}
 use Rattle.acceptor.specs.declared.message.Message.{Message}
@@ -9,9 +9,8 @@ use Rattle.proposer.specs.declared.fault.Refusal.TheVariants.{Busy, LogFull, Bal
 use Rattle.proposer.specs.declared.fault.StepFault.{StepFault}
 use Rattle.proposer.specs.declared.fault.StepFault.TheVariants.{Refused, NoMemory}
 use Rattle.proposer.specs.declared.plan.Plan.{Plan}
-use Rattle.learner.specs.declared.event.DeskEvent.TheVariants.{Deliver}
 use Rattle.learner.specs.Desks.{Desk}
-use Rattle.learner.specs.Steps.{Done, done, idle, is_heeded, on_body, step}
+use Rattle.learner.specs.Steps.{Done}
 use Rattle.replica.specs.declared.roles.fault.NodeFault.{NodeFault}
 use Rattle.replica.specs.declared.roles.fault.NodeFault.TheVariants as fault
 use Rattle.replica.specs.roles.Faults.{refused_as, fault_of}
@@ -122,15 +121,3 @@ left_as a b p s may_hold may_break same planned h =
     let desk : b.desk ≡ a.desk = ap (λ (r : RunningDesk). r.desk) same in
     subst (λ (x : Desk). HoldsBeforeOrAfter may_hold may_break x s) desk
     (h s (subst (λ (x : Desk). IsPlanned x p s) (sym desk) planned))
-
--- a message is never refused
-pub message_is_taken : (n d : ℕ) (x : Desk) (m : Message) (why : Refusal)
-    → step n d x (Deliver m) ≡ Err why → ⊥
-message_is_taken n d x m why = go (is_heeded n d m)
-  where
-    met : Bool → Result Done Refusal
-    met t = if t then Ok (done x (on_body n d x m.from m.body)) else Ok (idle x)
-
-    go : (t : Bool) → met t ≡ Err why → ⊥
-    go true e = absurd cc
-    go false e = absurd cc

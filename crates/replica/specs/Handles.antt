@@ -21,7 +21,7 @@ use Rattle.replica.specs.declared.roles.fault.NodeFault.TheVariants.{Down}
 use Rattle.replica.specs.roles.Faults.{refused_as}
 use Rattle.replica.specs.Lengths.{told_after}
 use Rattle.replica.specs.Nodes.{NodeValue}
-use Rattle.replica.specs.Stores.{HoldsDesk, HoldsStep}
+use Rattle.replica.specs.Stores.{FindsOldOrHeld, HoldsDesk, HoldsStep}
 
 -- What is answered to an event, where desk d of n is x before it and y after it, and this is the
 -- protocol's step for the event: the step's messages, each from the desk and in range, or the
@@ -79,10 +79,12 @@ pub record Handles {K : Type 0} (k : Ghosts K) (old : NodeValue K) (event : Desk
   pub counted : old.is_down ≡ false → result ≡ Err Down
       → k.failures_of old.keeper < k.failures_of new.keeper
   pub uncounted : ¬ (result ≡ Err Down) → k.failures_of new.keeper ≡ k.failures_of old.keeper
-  -- at every other answer a store that is opened again holds the desk's state alone
+  -- at every other answer a store that is settled and opened again holds the desk's state alone
   pub stored : new.is_down ≡ false → HoldsDesk k new.keeper new.desk
   -- and at the first Down it holds the state before the step or the one after it
   pub left : old.is_down ≡ false → new.is_down ≡ true
       → HoldsStep k new.keeper old.desk (step_at (k.home_of old.keeper) old.desk event)
+  -- until it is settled an opening finds what it found before, where its change waits
+  pub finds : FindsOldOrHeld k old.keeper new.keeper
   pub honest : k.is_honest new.keeper → k.is_honest old.keeper
   pub home : k.home_of new.keeper ≡ k.home_of old.keeper

@@ -20,6 +20,8 @@ pub record Opens {K : Type 0} (k : Ghosts K) (keeper : K) (node : NodeValue K) :
   pub same : HasKept k keeper node.keeper node.desk
   -- and its store holds that alone
   pub stored : HoldsDesk k node.keeper node.desk
+  -- and nothing waits
+  pub settled : k.is_settled node.keeper
   pub honest : k.is_honest node.keeper → k.is_honest keeper
   pub home : k.home_of node.keeper ≡ k.home_of keeper
 

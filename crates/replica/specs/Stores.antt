@@ -8,7 +8,7 @@ use Rattle.acceptor.specs.declared.stored.Stored.{Stored}
 use Rattle.proposer.specs.declared.fault.Refusal.{Refusal}
 use Rattle.learner.specs.Desks.{Desk}
 use Rattle.learner.specs.Steps.{Done}
-use Rattle.store.specs.Keeping.{HoldsOnly, HoldsEither}
+use Rattle.store.specs.Keeping.{HoldsOnly, HoldsEither, FindsOldOrKept}
 use Rattle.store.specs.Ranges.{IsFit}
 use Rattle.store.specs.declared.keeper.Keeper.{Ghosts}
 
@@ -16,7 +16,7 @@ use Rattle.store.specs.declared.keeper.Keeper.{Ghosts}
 abbrev pub KeepsDesk : {K : Type 0} → Ghosts K → K → Desk → Type 0
 KeepsDesk k keeper x = k.is_honest keeper → k.keeps keeper x.stored x.log
 
--- a store that is opened again holds this desk's state alone
+-- a store that is settled and then opened again holds this desk's state alone
 abbrev pub HoldsDesk : {K : Type 0} → Ghosts K → K → Desk → Type 0
 HoldsDesk k keeper x =
     k.is_honest keeper → HoldsOnly (k.may_hold keeper) (k.may_break keeper) x.stored x.log
@@ -31,6 +31,13 @@ HoldsBeforeOrAfter may_hold may_break x step =
 abbrev pub HoldsStep : {K : Type 0} → Ghosts K → K → Desk → Result Done Refusal → Type 0
 HoldsStep k keeper x step =
     k.is_honest keeper → HoldsBeforeOrAfter (k.may_hold keeper) (k.may_break keeper) x step
+
+-- An opening finds what it could find before, or nothing waits, and it finds what the store may
+-- hold.
+abbrev pub FindsOldOrHeld : {K : Type 0} → Ghosts K → K → K → Type 0
+FindsOldOrHeld k old new =
+    k.is_honest new
+    → FindsOldOrKept (k.finds old) (k.finds new) (k.may_hold new) (k.is_settled new)
 
 -- ---- a change, where the keeper kept a state before it, and the state after it is in its ranges
 

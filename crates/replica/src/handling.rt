@@ -9,7 +9,8 @@ ghost use Rattle.proposer.specs.Plans.{IsNothing};
 ghost use Rattle.proposer.specs.Refusals.{RefusesAs};
 ghost use Rattle.replica.specs.roles.model.RunningDesks.{Fits, delivery};
 ghost use Rattle.replica.specs.Handles.{IsIgnored};
-ghost use Rattle.replica.specs.Stores.{HoldsOneOf, HoldsStep, KeepsAfter, KeepsBefore, KeepsDesk};
+ghost use Rattle.replica.specs.Stores.{FindsOldOrHeld, HoldsOneOf, HoldsStep, KeepsAfter};
+ghost use Rattle.replica.specs.Stores.{KeepsBefore, KeepsDesk};
 ghost use Rattle.replica.specs.model.Planning.{HoldsPlan, IsSameDesk, TakesPlan, TakesStep};
 ghost use Rattle.replica.specs.model.Planning.{running_step};
 
@@ -24,6 +25,7 @@ use store::fault::SaveFault;
 use store::keeper::Keeper;
 
 /// Saves the change, where there is one, with a keeper that is not Down.
+#[tactic(auto, using(crate::proofs::Finding::finds_same))]
 fn save_change<K: Keeper>(keeper: &mut K, change: &Option<Change>) -> Result<(), NodeFault>
     requires up { K.is_down keeper.old ≡ false }
     ensures honest { K.is_honest keeper.new → K.is_honest keeper.old }
@@ -41,6 +43,7 @@ fn save_change<K: Keeper>(keeper: &mut K, change: &Option<Change>) -> Result<(),
     ensures uncounted { result ≢ Err NodeFault.Down
         → K.failures_of keeper.new ≡ K.failures_of keeper.old }
     ensures still { change.now ≡ None → IsOk result × (keeper.new ≡ keeper.old) }
+    ensures finds { FindsOldOrHeld K.Keeper keeper.old keeper.new }
 {
     let Some(change) = change else {
         return Ok(());
@@ -54,6 +57,7 @@ fn save_change<K: Keeper>(keeper: &mut K, change: &Option<Change>) -> Result<(),
 }
 
 /// Carries out what the desk plans at an event, or gives the refusal.
+#[tactic(auto, using(crate::proofs::Finding::finds_same))]
 fn carry_out<K: Keeper>(
     keeper: &mut K,
     desk: &mut Running,
@@ -76,6 +80,7 @@ fn carry_out<K: Keeper>(
         → K.failures_of keeper.new ≡ K.failures_of keeper.old }
     ensures still { IfOk planned
         (λ p. p.change ≡ None → IsOk result × (keeper.new ≡ keeper.old)) }
+    ensures finds { FindsOldOrHeld K.Keeper keeper.old keeper.new }
 {
     match planned {
         Err(fault) => Err(NodeFault::from(fault)),
@@ -104,6 +109,7 @@ fn plan_message(desk: &mut Running, message: &Message) -> Result<Plan, StepFault
 }
 
 /// Takes an event at a desk whose keeper is not Down.
+#[tactic(auto, using(crate::proofs::Finding::finds_same))]
 pub fn take_event<K: Keeper>(
     alloc: Global,
     keeper: &mut K,
@@ -127,6 +133,7 @@ pub fn take_event<K: Keeper>(
         → K.failures_of keeper.new ≡ K.failures_of keeper.old }
     ensures ignored { let x = desk.old in IsIgnored x.desks x.number x.desk event
         → IsOk result × (keeper.new ≡ keeper.old) }
+    ensures finds { FindsOldOrHeld K.Keeper keeper.old keeper.new }
 {
     match event {
         DeskEvent::Submit(entry) => match desk.submit(entry) {

@@ -1,8 +1,8 @@
 //! A replicated log at one desk: the protocol's steps over the store that keeps what they change.
 //!
 //! A desk takes part in the protocol, as Lamport's 'Paxos Made Simple' has it. Each event makes at
-//! most one change to what is stored, and that change is stored before any message of the event is
-//! handed out. What the entries of the log mean is not its matter.
+//! most one change to what is stored. It is saved before the messages of the event are handed out,
+//! and these may leave the desk once it is settled. What a log's entries mean is not its matter.
 #![tactic(auto)]
 
 mod entries;

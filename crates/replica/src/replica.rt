@@ -1,7 +1,7 @@
 //! One desk of a replicated log, over the store that keeps its state.
 
 ghost use Rattle.std.specs.Prelude.{◌≡◌, ◌≢◌, ◌⊎◌, ◌↔◌, ◌≤◌, ◌<◌, Err, true};
-ghost use Rattle.std.specs.Prelude.{false, IsOk, IfOk, OnOk, IfErr, IsTrue, length};
+ghost use Rattle.std.specs.Prelude.{false, not, IsOk, IfOk, OnOk, IfErr, IsTrue, length};
 ghost use Rattle.std.specs.List.{AllByRecursion};
 ghost use Rattle.acceptor.specs.Ballots.{no_ballot};
 ghost use Rattle.learner.specs.Ranges.{IsReal};
@@ -11,7 +11,9 @@ ghost use Rattle.replica.specs.Handles.{FitInFrames, Handles};
 ghost use Rattle.replica.specs.Lengths.{nothing_told, told_after};
 ghost use Rattle.replica.specs.Opens.{GivesBack, Opens};
 ghost use Rattle.replica.specs.model.Planning.{Ignores, TakesAt, step_of};
-ghost use Rattle.replica.specs.Stores.{HasKept, HoldsDesk, HoldsNoOther, HoldsStep, KeepsStill};
+ghost use Rattle.replica.specs.Settles.{FindsEither, Settles};
+ghost use Rattle.replica.specs.Stores.{FindsOldOrHeld, HasKept, HoldsDesk, HoldsNoOther};
+ghost use Rattle.replica.specs.Stores.{HoldsStep, KeepsStill};
 
 use crate::entries::look_at_all;
 use crate::handling::take_event;
@@ -79,13 +81,14 @@ impl<K: Keeper> Model for Replica<K> {
 
 impl<K: Keeper + Drop> Replica<K> {
     /// Opens the desk that the keeper keeps: it has the state and the log that the keeper loads, is
-    /// idle, and has an empty queue.
+    /// idle, and has an empty queue. Nothing may wait in the keeper.
     ///
     /// Damaged: what the store holds is not a state in its ranges, or the count of failures is at
     /// its end. Device: the device refused, and a failure was counted. NoMemory: the keeper's load
     /// or the desk was refused memory. A refusal drops the keeper: `open_or_give_back` says what it
     /// leaves.
     pub fn open(alloc: Global, keeper: K) -> Result<Replica<K>, LoadFault>
+        requires settled { K.is_settled keeper }
         ensures opened { IfOk result (λ replica. Opens K.Keeper keeper replica) }
         ensures refused { IfErr result (λ fault. (fault ≡ LoadFault.NoMemory)
             ⊎ ((k : K) × K.load_gives keeper (Err fault) k)) }
@@ -104,6 +107,7 @@ impl<K: Keeper + Drop> Replica<K> {
     /// store holds nothing that it could not hold before, and is lost only where it could be
     /// before.
     pub fn open_or_give_back(alloc: Global, keeper: K) -> Result<Replica<K>, (LoadFault, K)>
+        requires settled { K.is_settled keeper }
         ensures opened { IfOk result (λ replica. Opens K.Keeper keeper replica) }
         ensures given_back { IfErr result (λ e. GivesBack K.Keeper keeper e.0 e.1) }
         ensures refused { IfErr result (λ e. (e.0 ≡ LoadFault.NoMemory)
@@ -114,6 +118,7 @@ impl<K: Keeper + Drop> Replica<K> {
 
     /// The same, clause by clause.
     fn load(alloc: Global, keeper: K) -> Result<Replica<K>, (LoadFault, K)>
+        requires settled { K.is_settled keeper }
         ensures up { IfOk result (λ node. node.is_down ≡ false) }
         ensures first { IfOk result (λ node. node.desk ≡ opened node.desk.stored node.desk.log) }
         ensures told { IfOk result (λ node. node.told ≡ nothing_told) }
@@ -121,6 +126,7 @@ impl<K: Keeper + Drop> Replica<K> {
             → K.may_hold keeper node.desk.stored node.desk.log) }
         ensures same { IfOk result (λ node. HasKept K.Keeper keeper node.keeper node.desk) }
         ensures stored { IfOk result (λ node. HoldsDesk K.Keeper node.keeper node.desk) }
+        ensures settled { IfOk result (λ node. K.is_settled node.keeper) }
         ensures honest { IfOk result (λ node. K.is_honest node.keeper → K.is_honest keeper) }
         ensures home { IfOk result (λ node. K.home_of node.keeper ≡ K.home_of keeper) }
         ensures back_honest { IfErr result (λ e. K.is_honest e.1 → K.is_honest keeper) }
@@ -164,7 +170,8 @@ impl<K: Keeper + Drop> Replica<K> {
         self.keeper.home()
     }
 
-    /// Whether the desk is Down: a save has failed, and `handle` answers Down to each event.
+    /// Whether the desk is Down: a save or a settling has failed, and `handle` answers Down to each
+    /// event.
     pub fn is_down(&self) -> bool
         ensures { result ≡ self.now.is_down }
     {
@@ -206,8 +213,9 @@ impl<K: Keeper + Drop> Replica<K> {
         self.told
     }
 
-    /// Takes an event: does the step of the protocol, with its one change committed to the store
-    /// before any message is handed out.
+    /// Takes an event: does the step of the protocol, and saves its one change. That may wait until
+    /// `settle` is called: no message that was handed out may leave the desk before that call has
+    /// answered true.
     ///
     /// The messages are in the order in which they are to be sent. Each is from this desk to a desk
     /// of the hall, with its fields in the ranges of a frame. A message for another desk, from none
@@ -221,8 +229,8 @@ impl<K: Keeper + Drop> Replica<K> {
     /// no number is left. Where memory is refused, the answer is NoMemory. Each of these leaves the
     /// desk and its store as they were. Where the save fails by the device, the answer is Down, in
     /// this call and in every later one: nothing is handed out, the desk still shows its state
-    /// before that event, and a store that is opened again holds the state before it or the one
-    /// after it.
+    /// before that event, and a store that is settled and opened again holds the state before it or
+    /// the one after it.
     pub fn handle(&mut self, event: DeskEvent) -> Result<Messages, NodeFault>
         ensures { Handles K.Keeper self.old event result self.new }
     {
@@ -230,6 +238,7 @@ impl<K: Keeper + Drop> Replica<K> {
     }
 
     /// The same, clause by clause.
+    #[tactic(auto, using(crate::proofs::Finding::finds_same))]
     fn take(&mut self, event: DeskEvent) -> Result<Messages, NodeFault>
         ensures ended { self.old.is_down ≡ true
             → (result ≡ Err NodeFault.Down) × (self.new ≡ self.old) }
@@ -249,6 +258,7 @@ impl<K: Keeper + Drop> Replica<K> {
             → HoldsDesk K.Keeper self.new.keeper self.new.desk }
         ensures left { self.old.is_down ≡ false → self.new.is_down ≡ true
             → HoldsStep K.Keeper self.new.keeper self.old.desk (step_of K.Keeper self.old event) }
+        ensures finds { FindsOldOrHeld K.Keeper self.old.keeper self.new.keeper }
         ensures honest { K.is_honest self.new.keeper → K.is_honest self.old.keeper }
         ensures home { K.home_of self.new.keeper ≡ K.home_of self.old.keeper }
     {
@@ -268,6 +278,46 @@ impl<K: Keeper + Drop> Replica<K> {
             }
             Err(fault) => Err(fault),
         }
+    }
+
+    /// Commits the changes of all events since the last such call, together and in order: after a
+    /// stop at any moment a store that is opened again holds the state before them all, or the
+    /// state after them all. Where none waits, the device is not asked.
+    ///
+    /// False: the desk is Down, as it was before, or from now on.
+    pub fn settle(&mut self) -> bool
+        ensures { Settles K.Keeper self.old result self.new }
+    {
+        self.commit()
+    }
+
+    /// The same, clause by clause.
+    fn commit(&mut self) -> bool
+        ensures desk { self.new.desk ≡ self.old.desk }
+        ensures told { self.new.told ≡ self.old.told }
+        ensures ended { self.old.is_down ≡ true → self.new ≡ self.old }
+        ensures down { self.new.is_down ≡ not result }
+        ensures settled { IsTrue result → K.is_settled self.new.keeper }
+        ensures idle { IsTrue result → K.is_settled self.old.keeper → self.new ≡ self.old }
+        ensures stored { self.new.is_down ≡ false
+            → HoldsDesk K.Keeper self.new.keeper self.new.desk }
+        ensures left { self.old.is_down ≡ false
+            → FindsEither K.Keeper self.old.keeper self.new.keeper }
+        ensures counted { self.old.is_down ≡ false → result ≡ false
+            → K.failures_of self.old.keeper < K.failures_of self.new.keeper }
+        ensures uncounted { IsTrue result
+            → K.failures_of self.new.keeper ≡ K.failures_of self.old.keeper }
+        ensures honest { K.is_honest self.new.keeper → K.is_honest self.old.keeper }
+        ensures home { K.home_of self.new.keeper ≡ K.home_of self.old.keeper }
+    {
+        if self.is_down {
+            return false;
+        }
+        if self.keeper.settle() {
+            return true;
+        }
+        self.is_down = true;
+        false
     }
 
     /// The entries that this desk knows to be decided. At a desk that is Down they are those before

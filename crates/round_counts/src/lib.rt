@@ -8,5 +8,5 @@ mod progress;
 
 pub use attempts_in::numbers_in;
 pub use counts::{Counts, counts_of, numbers_with};
-pub use opened::{Opened, round_opened};
+pub use opened::{OpenedRound, round_opened};
 pub use progress::{Progress, allotted, progress_of};

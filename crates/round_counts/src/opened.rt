@@ -9,13 +9,13 @@ use texts::{RoundId, Settings};
 
 /// A round that was opened: how it is run now, and its table.
 #[derive(Clone, Copy)]
-pub struct Opened<'a> {
+pub struct OpenedRound<'a> {
     pub settings: Settings,
     pub table: &'a RoundTable,
 }
 
 /// A round, where it was opened.
-pub fn round_opened(meet: &Meet, id: RoundId) -> Option<Opened<'_>>
+pub fn round_opened(meet: &Meet, id: RoundId) -> Option<OpenedRound<'_>>
     ensures { option_map (λ round. (round.settings, round.table.now)) result
         ≡ round_by meet.now.accepted id }
 {
@@ -25,5 +25,5 @@ pub fn round_opened(meet: &Meet, id: RoundId) -> Option<Opened<'_>>
     ) else {
         return None;
     };
-    Some(Opened { settings, table })
+    Some(OpenedRound { settings, table })
 }

@@ -13,7 +13,7 @@ use Rattle.formats.specs.declared.results.RankKey.{RankKey}
 use Rattle.formats.specs.Results.{is_better}
 use Rattle.indexmap.specs.IndexMap.{set_value_at}
 use Rattle.rounds.specs.declared.rules.Rules.{Rules}
-use Rattle.rounds.specs.declared.kept.Kept.{Kept}
+use Rattle.rounds.specs.declared.kept.EntrantResult.{EntrantResult}
 use Rattle.rounds.specs.declared.kept_entrant.KeptEntrant.{KeptEntrant}
 use Rattle.rounds.specs.Tables.{Entrant, allotted, is_started_attempt, has_started, started}
 use Rattle.rounds.specs.model.Field.{as_table, set_values_at, with_values_at}
@@ -181,7 +181,7 @@ module _ (rules : Rules) (es : List (ℕ × KeptEntrant)) (i : ℕ) (e : ℕ × 
       (pass_each (IsMade rules) (IsMade rules) old_key new_key
       (λ x h.
       ap
-      (λ (k : Kept).
+      (λ (k : EntrantResult).
       record k {
         place =
             recounted x.1.kept.place (is_better old_key x.1.kept.key)

@@ -16,7 +16,7 @@ use Rattle.formats.specs.declared.results.RankKey.{RankKey}
 use Rattle.formats.specs.Events.{attempts_of}
 use Rattle.formats.specs.Results.{is_better, is_same}
 use Rattle.rounds.specs.declared.rules.Rules.{Rules}
-use Rattle.rounds.specs.declared.kept.Kept.{Kept}
+use Rattle.rounds.specs.declared.kept.EntrantResult.{EntrantResult}
 use Rattle.attempts.specs.declared.Value.TheVariants.{Dns}
 use Rattle.formats.specs.declared.results.Averaged.TheVariants.{Missing}
 use Rattle.rounds.specs.declared.kept_entrant.KeptEntrant.{KeptEntrant}
@@ -143,17 +143,28 @@ module _ (rules : Rules) (es : List (ℕ × KeptEntrant)) (n : ℕ) (s : KeptEnt
 
 -- what no values make
 pub own_of_none : (rules : Rules) (vs : List Value) (place : ℕ) → vs ≡ []
-    → let k : Kept = record { best = Dns; average = Missing; key = no_result; place = place } in
+    → let k : EntrantResult = record {
+      best = Dns;
+      average = Missing;
+      key = no_result;
+      place = place;
+    } in
     k ≡ kept_of rules vs place
 own_of_none rules vs place none =
     subst
-    (λ ws. let k : Kept =
+    (λ ws. let k : EntrantResult =
     record { best = Dns; average = Missing; key = no_result; place = place } in
     k ≡ kept_of rules ws place)
     (sym none) (by rules.format refl)
   where
     by : (format : Format) → rules.format ≡ format
-        → let k : Kept = record { best = Dns; average = Missing; key = no_result; place = place } in
+        → let k : EntrantResult = record {
+          best = Dns;
+          average = Missing;
+          key = no_result;
+          place =
+              place;
+        } in
         k ≡ kept_of rules [] place
     by Ao5 is = rw is refl
     by Mo3 is = rw is refl
@@ -163,7 +174,7 @@ own_of_none rules vs place none =
 
 -- no values have no key
 pub no_key : (rules : Rules) (place : ℕ) → (kept_of rules [] place).key ≡ no_result
-no_key rules place = ap (λ (k : Kept). k.key) (sym (own_of_none rules [] place refl))
+no_key rules place = ap (λ (k : EntrantResult). k.key) (sym (own_of_none rules [] place refl))
 
 -- one without attempts more
 pub up_to_date_newcomer : (rules : Rules) (es : List (ℕ × KeptEntrant)) (n : ℕ) (s : KeptEntrant)
@@ -172,8 +183,8 @@ pub up_to_date_newcomer : (rules : Rules) (es : List (ℕ × KeptEntrant)) (n : 
     → IsNewcomer (with_result + 1) s
     → AreUpToDate rules (es ++ (n, s) ∷ []) started (unfinished + 1) with_result
 up_to_date_newcomer rules es n s started unfinished with_result before room new =
-    let at : s.kept.place ≡ with_result + 1 = ap (λ (k : Kept). k.place) new.kept in
-    let key : s.kept.key ≡ no_result = ap (λ (k : Kept). k.key) new.kept in
+    let at : s.kept.place ≡ with_result + 1 = ap (λ (k : EntrantResult). k.place) new.kept in
+    let key : s.kept.key ≡ no_result = ap (λ (k : EntrantResult). k.key) new.kept in
     up_to_date_entered rules es n s key started unfinished with_result before room new.row
     (new.kept ∙ own_of_none rules s.row (with_result + 1) new.row
     ∙ ap (kept_of rules s.row) (sym at))

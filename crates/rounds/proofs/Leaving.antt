@@ -14,7 +14,7 @@ use Rattle.attempts.specs.Attempts.{IsInRangeOf}
 use Rattle.formats.specs.declared.results.RankKey.{RankKey}
 use Rattle.formats.specs.Results.{IsFormatOf, is_better}
 use Rattle.rounds.specs.declared.rules.Rules.{Rules}
-use Rattle.rounds.specs.declared.kept.Kept.{Kept}
+use Rattle.rounds.specs.declared.kept.EntrantResult.{EntrantResult}
 use Rattle.rounds.specs.declared.kept_entrant.KeptEntrant.{KeptEntrant}
 use Rattle.rounds.specs.Tables.{Entrant, IsCutoff, allotted, has_done, is_started_attempt}
 use Rattle.rounds.specs.model.PackedKeys.{HasPackedKey}
@@ -81,7 +81,7 @@ module _ (rules : Rules) (es : List (ℕ × KeptEntrant)) (i : ℕ) (e : ℕ × 
     (at : slice_get es i ≡ Some e) (none : e.1.row ≡ []) where
   no_key_there : All (IsMade rules) es → e.1.kept.key ≡ no_result
   no_key_there made =
-      ap (λ (k : Kept). k.key) (at_index (IsMade rules) es i e made at)
+      ap (λ (k : EntrantResult). k.key) (at_index (IsMade rules) es i e made at)
       ∙ ap (λ vs. (kept_of rules vs e.1.kept.place).key) none
       ∙ no_key rules e.1.kept.place
 

@@ -1,10 +1,10 @@
 -- Why an attempt, another value or a strike is refused, and when it is not.
-use Rattle.std.proofs.Common.{◌≡◌, ℕ, ◌+◌, ◌<◌, ◌≤◌, ◌==◌, nat_le, true, false, length, None, Some}
+use Rattle.std.proofs.Common.{◌≡◌, ℕ, ◌+◌, ◌≤◌, ◌==◌, nat_le, true, false, length, Some}
 use Rattle.std.proofs.Common.{arith, eq-eqb, refl}
 use Rattle.std.proofs.lemmas.Bool.Decides.{nat_tests}
 use Rattle.attempts.specs.declared.Value.{Value}
 use Rattle.rounds.specs.Tables.{Entrant, Table, entrant, allotted, put_fault, is_done, replaced}
-use Rattle.rounds.specs.Tables.{loses_cutoff, correct_fault, strike_fault}
+use Rattle.rounds.specs.Tables.{loses_cutoff, correct_fault}
 use Rattle.rounds.specs.declared.fault.PutFault.TheVariants as put
 use Rattle.rounds.specs.declared.fault.CorrectFault.TheVariants as correct
 use Rattle.std.proofs.Common.{List}
@@ -19,40 +19,9 @@ no_more t n k e is_open found next all =
     grind (arith, nat_tests) in
     rw (is_open, found, at, done) refl
 
-pub may_put : (t : Table) (n k : ℕ) (e : Entrant) → t.is_closed ≡ false → entrant t n ≡ Some e
-    → k ≡ length e.values + 1 → length e.values < allotted t.format t.cutoff e.values
-    → put_fault t n k ≡ None
-may_put t n k e is_open found next left =
-    let at : (k == length e.values + 1) ≡ true = eq-eqb _ _ next in
-    let more : nat_le (allotted t.format t.cutoff e.values) (length e.values) ≡ false =
-    grind (arith, nat_tests) in
-    rw (is_open, found, at, more) refl
-
 -- the causes why another value is refused, in order
 done_there : (k : ℕ) (vs : List Value) → 1 ≤ k → k ≤ length vs → is_done k vs ≡ true
 done_there k vs low high = grind (arith, nat_tests)
-
-low_not_there : (k : ℕ) (vs : List Value) → k < 1 → is_done k vs ≡ false
-low_not_there k vs low = grind (arith, nat_tests)
-
-high_not_there : (k : ℕ) (vs : List Value) → length vs < k → is_done k vs ≡ false
-high_not_there k vs high = grind (arith, nat_tests)
-
-no_such : (t : Table) (n k : ℕ) (v : Value) (e : Entrant) → t.is_closed ≡ false
-    → entrant t n ≡ Some e → is_done k e.values ≡ false
-    → correct_fault t n k v ≡ Some correct.NoSuchAttempt
-no_such t n k v e is_open found there = rw (is_open, found, there) refl
-
-pub no_such_low : (t : Table) (n k : ℕ) (v : Value) (e : Entrant) → t.is_closed ≡ false
-    → entrant t n ≡ Some e → k < 1 → correct_fault t n k v ≡ Some correct.NoSuchAttempt
-no_such_low t n k v e is_open found low =
-    no_such t n k v e is_open found (low_not_there k e.values low)
-
-pub no_such_high : (t : Table) (n k : ℕ) (v : Value) (e : Entrant) → t.is_closed ≡ false
-    → entrant t n ≡ Some e → length e.values < k
-    → correct_fault t n k v ≡ Some correct.NoSuchAttempt
-no_such_high t n k v e is_open found high =
-    no_such t n k v e is_open found (high_not_there k e.values high)
 
 pub lost : (t : Table) (n k : ℕ) (v : Value) (e : Entrant) → t.is_closed ≡ false
     → entrant t n ≡ Some e → 1 ≤ k → k ≤ length e.values
@@ -61,15 +30,3 @@ pub lost : (t : Table) (n k : ℕ) (v : Value) (e : Entrant) → t.is_closed ≡
 lost t n k v e is_open found low high loses =
     let there = done_there k e.values low high in
     rw (is_open, found, there, loses) refl
-
-pub may_correct : (t : Table) (n k : ℕ) (v : Value) (e : Entrant) → t.is_closed ≡ false
-    → entrant t n ≡ Some e → 1 ≤ k → k ≤ length e.values
-    → loses_cutoff t.cutoff (replaced k v e.values) ≡ false
-    → correct_fault t n k v ≡ None
-may_correct t n k v e is_open found low high keeps =
-    let there = done_there k e.values low high in
-    rw (is_open, found, there, keeps) refl
-
-pub may_strike : (t : Table) (n : ℕ) (e : Entrant) → t.is_closed ≡ false → entrant t n ≡ Some e
-    → (length e.values == 0) ≡ false → strike_fault t n ≡ None
-may_strike t n e is_open found some = rw (is_open, found, some) refl

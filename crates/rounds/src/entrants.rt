@@ -20,7 +20,7 @@ ghost use Rattle.rounds.specs.model.KeptEntrants.{is_unfinished};
 ghost use Rattle.rounds.specs.model.UpToDate.{IsNewcomer};
 
 use crate::cutoff::{allotted, has_started};
-use crate::kept::Kept;
+use crate::kept::EntrantResult;
 use crate::kept_entrant::KeptEntrant;
 use crate::packed_key::packed_key_of;
 use crate::recount::{move_places, recounted};
@@ -45,7 +45,7 @@ fn newcomer(place: u16) -> KeptEntrant
 {
     KeptEntrant {
         row: ValueRow::new(),
-        kept: Kept {
+        kept: EntrantResult {
             best: Value::Dns,
             average: Averaged::Missing,
             key: NO_RESULT,
@@ -198,7 +198,7 @@ impl Entrants {
         ensures { self.new ≡ with_values_at self.old index row }
     {
         let before = &self.by_number[index];
-        let mut kept = Kept::of(self.rules, row.values(), 0);
+        let mut kept = EntrantResult::of(self.rules, row.values(), 0);
         let (old, new) = (before.kept.key, kept.key);
         let packed_key = packed_key_of(new);
         self.started = recounted(

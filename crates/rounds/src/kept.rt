@@ -11,7 +11,7 @@ use formats::{Averaged, RankKey, average, best, key};
 
 /// What an entrant's values make, and its place among the entrants.
 #[derive(Clone, Copy, Debug, PartialEq, Eq)]
-pub struct Kept {
+pub struct EntrantResult {
     /// The least number; without one DNF where a DNF is there, else DNS.
     pub best: Value,
     /// The average of an ao5 or the mean of an mo3; Missing in the best-of formats, and until all
@@ -23,14 +23,14 @@ pub struct Kept {
     pub place: u16,
 }
 
-impl Kept {
+impl EntrantResult {
     /// What these values make, with this place.
     pub(crate) fn of(rules: Rules, values: &[Value], place: u16) -> Self
         requires format { IsFormatOf rules.unit rules.format }
         requires in_range { All (IsInRangeOf rules.unit) values.now }
         ensures { result ≡ kept_of rules values.now place }
     {
-        Kept {
+        EntrantResult {
             best: best(values),
             average: average(rules.format, rules.unit, values),
             key: key(rules.format, rules.unit, values),

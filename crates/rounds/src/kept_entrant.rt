@@ -1,6 +1,6 @@
 //! What an entrant did, and what the table keeps of it.
 
-use crate::kept::Kept;
+use crate::kept::EntrantResult;
 use crate::value_row::ValueRow;
 
 /// An entrant's values, with what they make and the place. The packed key is the key as one number,
@@ -8,6 +8,6 @@ use crate::value_row::ValueRow;
 #[derive(Drop)]
 pub(crate) struct KeptEntrant {
     pub row: ValueRow,
-    pub kept: Kept,
+    pub kept: EntrantResult,
     pub packed_key: u64,
 }

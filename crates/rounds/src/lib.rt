@@ -19,6 +19,6 @@ pub use fault::{
     CloseFault, CorrectFault, EnterFault, FixFault, PutFault, ReopenFault, RulesFault, SetFault,
     StrikeFault, WithdrawFault,
 };
-pub use kept::Kept;
+pub use kept::EntrantResult;
 pub use laws::who_met_the_cutoff_is_better;
-pub use table::{RoundTable, Row};
+pub use table::{EntrantRow, RoundTable};

@@ -1,8 +1,8 @@
 -- A text is mended byte by byte.
-use Rattle.std.proofs.Common.{◌≡◌, ℕ, zero, suc, ◌+◌, ◌-◌, ◌<◌, ◌≤◌, true, false, List, []}
+use Rattle.std.proofs.Common.{◌≡◌, ℕ, zero, suc, ◌+◌, ◌-◌, ◌<◌, true, false, List, []}
 use Rattle.std.proofs.Common.{◌∷◌, ◌++◌, length, take, drop, get_or, bytes_eq, refl, sym, ap, ◌∙◌}
 use Rattle.std.proofs.Common.{arith, append_assoc}
-use Rattle.std.proofs.lemmas.List.{at_drop_more, at_drop_all}
+use Rattle.std.proofs.lemmas.List.{at_drop_more}
 use Rattle.scorecard.specs.Spelling.{apostrophe, mended_after}
 
 -- what is left after one byte
@@ -28,11 +28,6 @@ mended_plain i bytes within is =
     let here : bytes_eq apostrophe (take 3 (get_or bytes i 0 ∷ drop (i + 1) bytes)) ≡ false =
     sym (at_drop_more (λ x. bytes_eq apostrophe (take 3 x)) bytes i 0 within) ∙ is in
     at_drop_more (mended_after 0) bytes i 0 within ∙ rw here refl
-
-pub mended_end : (skipped i : ℕ) (bytes : List ℕ) → length bytes ≤ i
-    → mended_after skipped (drop i bytes) ≡ []
-mended_end zero i bytes end = at_drop_all (mended_after 0) bytes i end
-mended_end (suc k) i bytes end = at_drop_all (mended_after (suc k)) bytes i end
 
 -- a step of the loop that leaves a byte out
 pub after_skip : (items bytes all : List ℕ) (skipped skipped' i : ℕ) → i < length bytes

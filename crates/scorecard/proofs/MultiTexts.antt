@@ -13,8 +13,8 @@ use Rattle.texts.proofs.Spelled.{IsSpelled}
 use Rattle.texts.specs.Fields.{cut, number_between}
 use Rattle.texts.specs.declared.command.Entered.{Entered}
 use Rattle.texts.specs.declared.command.Entered.TheVariants as entered
-use Rattle.scorecard.specs.declared.fault.CardFault.{CardFault}
-use Rattle.scorecard.specs.declared.fault.CardFault.TheVariants as fault
+use Rattle.scorecard.specs.declared.fault.ScorecardFault.{ScorecardFault}
+use Rattle.scorecard.specs.declared.fault.ScorecardFault.TheVariants as fault
 use Rattle.scorecard.specs.Spelling.{EndsInPair, IsFilledSeconds, IsMinutesSeconds}
 use Rattle.scorecard.specs.Spelling.{IsMulti}
 use Rattle.scorecard.specs.Reading.{number_of, pair_of, filled_seconds, seconds_after, ◌>>=◌}
@@ -145,11 +145,11 @@ pub record Multis (text : List ℕ) (x : Entered) : Type 0 where
   pub spelled : IsMulti text solved attempted seconds
 
 -- the cubes, where no more are solved than attempted
-abbrev picked : ℕ → ℕ → Bool → Result (ℕ × ℕ) CardFault
+abbrev picked : ℕ → ℕ → Bool → Result (ℕ × ℕ) ScorecardFault
 picked s a b = cond b (Ok (s, a)) (Err (fault.MoreSolved a))
 
 -- what is read after the solved cubes
-abbrev rest-of : ℕ → Option (List ℕ) → Result Entered CardFault
+abbrev rest-of : ℕ → Option (List ℕ) → Result Entered ScorecardFault
 rest-of s o = or_fault fault.NotAResult o >>= (λ rest.
     or_fault fault.BadAttempted (number_between 2 99 (cut 32 rest).0) >>= (λ a.
     solved_of s a >>= (λ cubes.
@@ -197,7 +197,7 @@ multi-read text x h = first (number_between 0 99 (cut 47 text).0) refl h
 
     fifth : (s a : ℕ) (rest clock : List ℕ) → number_between 0 99 (cut 47 text).0 ≡ Some s
         → (cut 47 text).1 ≡ Some rest → number_between 2 99 (cut 32 rest).0 ≡ Some a → s ≤ a
-        → (cut 32 rest).1 ≡ Some clock → (o : Result ℕ CardFault) → whole_seconds_of clock ≡ o
+        → (cut 32 rest).1 ≡ Some clock → (o : Result ℕ ScorecardFault) → whole_seconds_of clock ≡ o
         → (o >>= (λ time. some_seconds time >>= (λ seconds. Ok (entered.Multi s a seconds))))
         ≡ Ok x
         → Multis text x

@@ -15,8 +15,8 @@ use Rattle.texts.specs.Fields.{cut, number_between}
 use Rattle.texts.proofs.FieldSpellings.{decimal_digits, number_spelled}
 use Rattle.texts.specs.declared.command.Entered.{Entered}
 use Rattle.texts.specs.declared.command.Entered.TheVariants as entered
-use Rattle.scorecard.specs.declared.fault.CardFault.{CardFault}
-use Rattle.scorecard.specs.declared.fault.CardFault.TheVariants as fault
+use Rattle.scorecard.specs.declared.fault.ScorecardFault.{ScorecardFault}
+use Rattle.scorecard.specs.declared.fault.ScorecardFault.TheVariants as fault
 use Rattle.scorecard.specs.Spelling.{EndsInPair, is_among, points, colons, IsFilled}
 use Rattle.scorecard.specs.Spelling.{IsSeconds, IsMinutes, IsTime, IsPenalty, IsTimed}
 use Rattle.scorecard.specs.Reading.{number_of, pair_of, filled, seconds_with, minutes_with}
@@ -145,7 +145,7 @@ time-read text time h = start (clock_of text) refl h
           most = omega arith;
         }
 
-    start : (o : Result ℕ CardFault) → clock_of text ≡ o → (o >>= within_limits) ≡ Ok time
+    start : (o : Result ℕ ScorecardFault) → clock_of text ≡ o → (o >>= within_limits) ≡ Ok time
         → IsTime text time
     start (Err e) is r = absurd (let bad : Err e ≡ Ok time = r in cc)
     start (Ok t) is r = step t is (nat_le 1 t && nat_le t 999999) refl r
@@ -319,7 +319,7 @@ pub timed-read : (text : List ℕ) (x : Entered) → timed_of text ≡ Ok x → 
 unfolding timed_of
 timed-read text x h = start (penalties_of (cut 43 text).1) refl h
   where
-    next : (p : ℕ) → penalties_of (cut 43 text).1 ≡ Ok p → (o : Result ℕ CardFault)
+    next : (p : ℕ) → penalties_of (cut 43 text).1 ≡ Ok p → (o : Result ℕ ScorecardFault)
         → time_of (cut 43 text).0 ≡ o → (o >>= (λ t. Ok (entered.Time t p))) ≡ Ok x → Timed text x
     next p marks (Err e) is r = absurd (let bad : Err e ≡ Ok x = r in cc)
     next p marks (Ok t) is r = record {
@@ -335,7 +335,7 @@ timed-read text x h = start (penalties_of (cut 43 text).1) refl h
       };
     }
 
-    start : (o : Result ℕ CardFault) → penalties_of (cut 43 text).1 ≡ o
+    start : (o : Result ℕ ScorecardFault) → penalties_of (cut 43 text).1 ≡ o
         → (o >>= (λ p. time_of (cut 43 text).0 >>= (λ t. Ok (entered.Time t p)))) ≡ Ok x
         → Timed text x
     start (Err e) is r = absurd (let bad : Err e ≡ Ok x = r in cc)

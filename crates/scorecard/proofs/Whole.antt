@@ -20,8 +20,8 @@ use Rattle.attempts.specs.declared.Unit.TheVariants.{Time, Moves, Multi}
 use Rattle.cube.proofs.notation.Scanning.{spells_once}
 use Rattle.texts.specs.declared.command.Entered.{Entered}
 use Rattle.texts.specs.declared.command.Entered.TheVariants as entered
-use Rattle.scorecard.specs.declared.fault.CardFault.{CardFault}
-use Rattle.scorecard.specs.declared.fault.CardFault.TheVariants as fault
+use Rattle.scorecard.specs.declared.fault.ScorecardFault.{ScorecardFault}
+use Rattle.scorecard.specs.declared.fault.ScorecardFault.TheVariants as fault
 use Rattle.scorecard.specs.Laws.{SpellsOnce}
 use Rattle.scorecard.specs.Spelling.{Spells, SpellsBare, IsSolution, is_dnf, is_dns, mended}
 use Rattle.scorecard.specs.Spelling.{trimmed}
@@ -32,7 +32,7 @@ use Rattle.scorecard.proofs.Begins.{BeginsWithDigit, timed_begins, multi_begins,
 use Rattle.scorecard.proofs.Starts.{solution_no_dnf, solution_no_dns, solution_some}
 
 -- what is read, by the three tests
-abbrev Branches : Measure → List ℕ → Result Entered CardFault → Bool → Bool → Bool → Type 0
+abbrev Branches : Measure → List ℕ → Result Entered ScorecardFault → Bool → Bool → Bool → Type 0
 Branches unit text r empty dnf dns =
     MatchBool empty (r ≡ Err fault.Empty)
     (MatchBool dnf (r ≡ Ok entered.Dnf)
@@ -117,14 +117,14 @@ by_digit unit text h = record {
   dns = no_dns unit text h;
 }
 
-kept : (unit : Measure) (text : List ℕ) (r : Result Entered CardFault) → IsResult unit text
+kept : (unit : Measure) (text : List ℕ) (r : Result Entered ScorecardFault) → IsResult unit text
     → ReadsBare unit text r → ReadsResult unit text r
 kept unit text r is h =
     subst (λ (c : Bool). Branches unit text r false false c) is.dns
     (subst (λ (b : Bool). Branches unit text r false b (is_dns unit text)) is.dnf
     (subst (λ (a : Bool). Branches unit text r a (is_dnf unit text) (is_dns unit text)) is.some h))
 
-solution-read : (text : List ℕ) (moves : List Move) (r : Result Entered CardFault)
+solution-read : (text : List ℕ) (moves : List Move) (r : Result Entered ScorecardFault)
     → IsSolution text moves → ReadsSolution text r → IsReadAs Moves (entered.Solution moves) r
 solution-read text moves (Ok (entered.Time t p)) h is = absurd is
 solution-read text moves (Ok (entered.Solution others)) h is =
@@ -161,14 +161,14 @@ dns-some Moves [] h = absurd (false≢true h)
 dns-some Multi [] h = absurd (false≢true h)
 dns-some unit (b ∷ bs) h = grind (arith, nat_tests)
 
-dnf-read : (unit : Measure) (text : List ℕ) (r : Result Entered CardFault)
+dnf-read : (unit : Measure) (text : List ℕ) (r : Result Entered ScorecardFault)
     → is_dnf unit text ≡ true → ReadsBare unit text r → r ≡ Ok entered.Dnf
 dnf-read unit text r is h =
     subst (λ (b : Bool). Branches unit text r false b (is_dns unit text)) is
     (subst (λ (a : Bool). Branches unit text r a (is_dnf unit text) (is_dns unit text))
     (dnf-some unit text is) h)
 
-dns-read : (unit : Measure) (text : List ℕ) (r : Result Entered CardFault)
+dns-read : (unit : Measure) (text : List ℕ) (r : Result Entered ScorecardFault)
     → is_dnf unit text ≡ false → is_dns unit text ≡ true → ReadsBare unit text r
     → r ≡ Ok entered.Dns
 dns-read unit text r other is h =
@@ -228,7 +228,8 @@ by_solution text moves h = record {
   dns = solution_no_dns text moves h;
 }
 
-pub spelled-read : (unit : Measure) (text : List ℕ) (x : Entered) (r : Result Entered CardFault)
+pub spelled-read : (unit : Measure) (text : List ℕ) (x : Entered)
+    (r : Result Entered ScorecardFault)
     → SpellsBare unit text x → ReadsBare unit text r → IsReadAs unit x r
 spelled-read Time text (entered.Time t p) r h is =
     inl
@@ -252,7 +253,7 @@ spelled-read Multi text (entered.Solution moves) r h is = absurd h
 
 -- ---- at most one
 
-keep : (unit : Measure) (text : List ℕ) (r : Result Entered CardFault) → IsResult unit text
+keep : (unit : Measure) (text : List ℕ) (r : Result Entered ScorecardFault) → IsResult unit text
     → ReadsResult unit text r → ReadsBare unit text r
 keep unit text r is h =
     subst (λ (a : Bool). Branches unit text r a (is_dnf unit text) (is_dns unit text))
@@ -260,14 +261,14 @@ keep unit text r is h =
     (subst (λ (b : Bool). Branches unit text r false b (is_dns unit text)) (sym is.dnf)
     (subst (λ (c : Bool). Branches unit text r false false c) (sym is.dns) h))
 
-dnf-reads : (unit : Measure) (text : List ℕ) (r : Result Entered CardFault)
+dnf-reads : (unit : Measure) (text : List ℕ) (r : Result Entered ScorecardFault)
     → is_dnf unit text ≡ true → r ≡ Ok entered.Dnf → ReadsBare unit text r
 dnf-reads unit text r is h =
     subst (λ (a : Bool). Branches unit text r a (is_dnf unit text) (is_dns unit text))
     (sym (dnf-some unit text is))
     (subst (λ (b : Bool). Branches unit text r false b (is_dns unit text)) (sym is) h)
 
-dns-reads : (unit : Measure) (text : List ℕ) (r : Result Entered CardFault)
+dns-reads : (unit : Measure) (text : List ℕ) (r : Result Entered ScorecardFault)
     → is_dns unit text ≡ true → r ≡ Ok entered.Dns → ReadsBare unit text r
 dns-reads unit text r is h =
     subst (λ (a : Bool). Branches unit text r a (is_dnf unit text) (is_dns unit text))
@@ -307,19 +308,19 @@ spelled-once unit text x y h k = go (spelled-read unit text x (Ok y) h (may-read
 
 -- ---- fields
 
-pub field-read : (unit unit' : Measure) (bytes bytes' : List ℕ) (r : Result Entered CardFault)
+pub field-read : (unit unit' : Measure) (bytes bytes' : List ℕ) (r : Result Entered ScorecardFault)
     → unit ≡ unit' → bytes ≡ bytes' → ReadsBare unit bytes r → ReadsBare unit' bytes' r
 field-read unit unit' bytes bytes' r a b h =
     subst (λ (u : Measure). ReadsBare u bytes' r) a
     (subst (λ (t : List ℕ). ReadsBare unit t r) b h)
 
-pub field-found : (unit : Measure) (text : List ℕ) (r : Result Entered CardFault)
+pub field-found : (unit : Measure) (text : List ℕ) (r : Result Entered ScorecardFault)
     → Reads unit text r → (x : Entered) → r ≡ Ok x → Spells unit text x
 field-found unit text r h x is =
     read-spelled unit (trimmed text) x
-    (subst (λ (s : Result Entered CardFault). ReadsBare unit (trimmed text) s) is h)
+    (subst (λ (s : Result Entered ScorecardFault). ReadsBare unit (trimmed text) s) is h)
 
-pub field-only : (unit : Measure) (text : List ℕ) (r : Result Entered CardFault)
+pub field-only : (unit : Measure) (text : List ℕ) (r : Result Entered ScorecardFault)
     → Reads unit text r → (x : Entered) → Spells unit text x → IsReadAs unit x r
 field-only unit text r h x is = spelled-read unit (trimmed text) x r is h
 
@@ -377,7 +378,7 @@ spelled-fits Moves text (entered.Multi s a t) h = absurd h
 spelled-fits Multi text (entered.Time t p) h = absurd h
 spelled-fits Multi text (entered.Solution moves) h = absurd h
 
-pub field-fits : (unit : Measure) (text : List ℕ) (r : Result Entered CardFault)
+pub field-fits : (unit : Measure) (text : List ℕ) (r : Result Entered ScorecardFault)
     → Reads unit text r → IfOk r IsEntered
 field-fits unit text (Ok x) h =
     spelled-fits unit (trimmed text) x (read-spelled unit (trimmed text) x h)

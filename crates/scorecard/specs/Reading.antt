@@ -14,14 +14,14 @@ use Rattle.attempts.specs.declared.Unit.{Unit as Measure}
 use Rattle.attempts.specs.declared.Unit.TheVariants.{Time, Moves, Multi}
 use Rattle.texts.specs.declared.command.Entered.{Entered}
 use Rattle.texts.specs.declared.command.Entered.TheVariants as entered
-use Rattle.scorecard.specs.declared.fault.CardFault.{CardFault}
-use Rattle.scorecard.specs.declared.fault.CardFault.TheVariants as fault
+use Rattle.scorecard.specs.declared.fault.ScorecardFault.{ScorecardFault}
+use Rattle.scorecard.specs.declared.fault.ScorecardFault.TheVariants as fault
 use Rattle.scorecard.specs.Spelling.{is_among, points, colons, is_dnf, is_dns, trimmed}
 use Rattle.scorecard.specs.Spelling.{IsSolution}
 
 infixl 10 ◌>>=◌
-abbrev pub ◌>>=◌ : {A B : Type 0} → Result A CardFault → (A → Result B CardFault)
-    → Result B CardFault
+abbrev pub ◌>>=◌ : {A B : Type 0} → Result A ScorecardFault → (A → Result B ScorecardFault)
+    → Result B ScorecardFault
 (Ok x) >>= f = f x
 (Err e) >>= f = Err e
 
@@ -51,56 +51,56 @@ pair_of marks bytes =
 -- ---- times
 
 -- a number whose digits fill a clock from the right
-abbrev pub filled : Option ℕ → Result ℕ CardFault
+abbrev pub filled : Option ℕ → Result ℕ ScorecardFault
 filled None = Err fault.NotATime
 filled (Some number) =
     if nat_le 10000 number && nat_le 6000 (number % 10000) then Err fault.BadSeconds
     else Ok (6000 * (number / 10000) + number % 10000)
 
 -- seconds alone, with hundredths
-abbrev pub seconds_with : ℕ → Option ℕ → Result ℕ CardFault
+abbrev pub seconds_with : ℕ → Option ℕ → Result ℕ ScorecardFault
 seconds_with hundredths None = Err fault.NotATime
 seconds_with hundredths (Some seconds) = Ok (100 * seconds + hundredths)
 
 -- minutes, with seconds and hundredths
-abbrev pub minutes_with : ℕ → ℕ → Option ℕ → Result ℕ CardFault
+abbrev pub minutes_with : ℕ → ℕ → Option ℕ → Result ℕ ScorecardFault
 minutes_with hundredths seconds None = Err fault.NotATime
 minutes_with hundredths seconds (Some minutes) =
     if nat_le 60 seconds then Err fault.BadSeconds
     else Ok (6000 * minutes + 100 * seconds + hundredths)
 
 -- what is before a point and hundredths: seconds, or minutes and seconds
-abbrev pub before_point : ℕ → List ℕ → Option (List ℕ × ℕ) → Result ℕ CardFault
+abbrev pub before_point : ℕ → List ℕ → Option (List ℕ × ℕ) → Result ℕ ScorecardFault
 before_point hundredths front None = seconds_with hundredths (number_of 2 front)
 before_point hundredths front (Some split) =
     minutes_with hundredths split.1 (number_of 3 split.0)
 
-abbrev pub clock_with : List ℕ → Option (List ℕ × ℕ) → Result ℕ CardFault
+abbrev pub clock_with : List ℕ → Option (List ℕ × ℕ) → Result ℕ ScorecardFault
 clock_with bytes None = filled (number_of 7 bytes)
 clock_with bytes (Some split) = before_point split.1 split.0 (pair_of colons split.0)
 
 -- the hundredths of a time, of whatever length
-unfoldable pub clock_of : List ℕ → Result ℕ CardFault
+unfoldable pub clock_of : List ℕ → Result ℕ ScorecardFault
 clock_of bytes = clock_with bytes (pair_of points bytes)
 
 -- a time that may be entered
-abbrev pub within_limits : ℕ → Result ℕ CardFault
+abbrev pub within_limits : ℕ → Result ℕ ScorecardFault
 within_limits time =
     if nat_le 1 time && nat_le time 999999 then Ok time else Err fault.OutOfRange
 
-unfoldable pub time_of : List ℕ → Result ℕ CardFault
+unfoldable pub time_of : List ℕ → Result ℕ ScorecardFault
 time_of bytes = do
   time ← clock_of bytes
   within_limits time
 
 -- the penalties of this many seconds, two for each
-abbrev pub halved : Option ℕ → Result ℕ CardFault
+abbrev pub halved : Option ℕ → Result ℕ ScorecardFault
 halved None = Err fault.BadPenalty
 halved (Some seconds) =
     if seconds % 2 == 0 then Ok (seconds / 2) else Err fault.BadPenalty
 
 -- the penalties that are marked after the first plus
-abbrev pub penalties_of : Option (List ℕ) → Result ℕ CardFault
+abbrev pub penalties_of : Option (List ℕ) → Result ℕ ScorecardFault
 penalties_of None = Ok 0
 penalties_of (Some mark) =
     if bytes_eq mark (codes "") then Ok 1
@@ -108,7 +108,7 @@ penalties_of (Some mark) =
     else halved (number_between 2 18 mark)
 
 -- a time and its penalties
-unfoldable pub timed_of : List ℕ → Result Entered CardFault
+unfoldable pub timed_of : List ℕ → Result Entered ScorecardFault
 timed_of bytes = do
   penalties ← penalties_of (cut 43 bytes).1
   time ← time_of (cut 43 bytes).0
@@ -117,39 +117,39 @@ timed_of bytes = do
 -- ---- results of multi-blind
 
 -- a number whose digits fill a clock of minutes and seconds from the right
-abbrev pub filled_seconds : Option ℕ → Result ℕ CardFault
+abbrev pub filled_seconds : Option ℕ → Result ℕ ScorecardFault
 filled_seconds None = Err fault.NotAResult
 filled_seconds (Some number) =
     if nat_le 100 number && nat_le 60 (number % 100) then Err fault.BadSeconds
     else Ok (60 * (number / 100) + number % 100)
 
-abbrev pub seconds_after : ℕ → Option ℕ → Result ℕ CardFault
+abbrev pub seconds_after : ℕ → Option ℕ → Result ℕ ScorecardFault
 seconds_after seconds None = Err fault.NotAResult
 seconds_after seconds (Some minutes) =
     if nat_le 60 seconds then Err fault.BadSeconds else Ok (60 * minutes + seconds)
 
-abbrev pub whole_seconds_with : List ℕ → Option (List ℕ × ℕ) → Result ℕ CardFault
+abbrev pub whole_seconds_with : List ℕ → Option (List ℕ × ℕ) → Result ℕ ScorecardFault
 whole_seconds_with bytes None = filled_seconds (number_of 4 bytes)
 whole_seconds_with bytes (Some split) = seconds_after split.1 (number_of 2 split.0)
 
 -- the seconds of a time, of whatever length
-unfoldable pub whole_seconds_of : List ℕ → Result ℕ CardFault
+unfoldable pub whole_seconds_of : List ℕ → Result ℕ ScorecardFault
 whole_seconds_of bytes = whole_seconds_with bytes (pair_of (codes ":") bytes)
 
-abbrev pub or_fault : {A : Type 0} → CardFault → Option A → Result A CardFault
+abbrev pub or_fault : {A : Type 0} → ScorecardFault → Option A → Result A ScorecardFault
 or_fault fault None = Err fault
 or_fault fault (Some x) = Ok x
 
 -- cubes solved of those attempted
-abbrev pub solved_of : ℕ → ℕ → Result (ℕ × ℕ) CardFault
+abbrev pub solved_of : ℕ → ℕ → Result (ℕ × ℕ) ScorecardFault
 solved_of solved attempted =
     if nat_le solved attempted then Ok (solved, attempted) else Err (fault.MoreSolved attempted)
 
-abbrev pub some_seconds : ℕ → Result ℕ CardFault
+abbrev pub some_seconds : ℕ → Result ℕ ScorecardFault
 some_seconds seconds = if nat_le 1 seconds then Ok seconds else Err fault.NoSeconds
 
 -- a result, cut at its slash and at the first space after it
-unfoldable pub multi_of : List ℕ → Result Entered CardFault
+unfoldable pub multi_of : List ℕ → Result Entered ScorecardFault
 multi_of bytes = do
   solved ← or_fault fault.NotAResult (number_between 0 99 (cut 47 bytes).0)
   rest ← or_fault fault.NotAResult (cut 47 bytes).1
@@ -163,30 +163,30 @@ multi_of bytes = do
 -- ---- fields
 
 -- a solution is read where the text spells one, and memory may run out
-abbrev pub ReadsSolution : List ℕ → Result Entered CardFault → Type 0
+abbrev pub ReadsSolution : List ℕ → Result Entered ScorecardFault → Type 0
 ReadsSolution text (Ok (entered.Solution moves)) = IsSolution text moves
 ReadsSolution text (Err fault.NotMoves) = (moves : List Move) → IsSolution text moves → ⊥
 ReadsSolution text (Err fault.NoMemory) = Unit {0}
 ReadsSolution _ _ = ⊥
 
 -- what is read of a text that is neither empty nor a word of no result
-abbrev pub ReadsResult : Measure → List ℕ → Result Entered CardFault → Type 0
+abbrev pub ReadsResult : Measure → List ℕ → Result Entered ScorecardFault → Type 0
 ReadsResult Time text result = result ≡ timed_of text
 ReadsResult Moves text result = ReadsSolution text result
 ReadsResult Multi text result = result ≡ multi_of text
 
 -- what is read of a text with no white space around
-abbrev pub ReadsBare : Measure → List ℕ → Result Entered CardFault → Type 0
+abbrev pub ReadsBare : Measure → List ℕ → Result Entered ScorecardFault → Type 0
 ReadsBare unit text result =
     MatchBool (length text == 0) (result ≡ Err fault.Empty)
     (MatchBool (is_dnf unit text) (result ≡ Ok entered.Dnf)
     (MatchBool (is_dns unit text) (result ≡ Ok entered.Dns) (ReadsResult unit text result)))
 
 -- what is read of a field
-abbrev pub Reads : Measure → List ℕ → Result Entered CardFault → Type 0
+abbrev pub Reads : Measure → List ℕ → Result Entered ScorecardFault → Type 0
 Reads unit text result = ReadsBare unit (trimmed text) result
 
 -- an outcome is read, unless memory runs out for the moves of a solution
-abbrev pub IsReadAs : Measure → Entered → Result Entered CardFault → Type 0
+abbrev pub IsReadAs : Measure → Entered → Result Entered ScorecardFault → Type 0
 IsReadAs unit outcome result =
     (result ≡ Ok outcome) ⊎ ((unit ≡ Moves) × (result ≡ Err fault.NoMemory))

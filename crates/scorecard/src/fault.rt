@@ -5,7 +5,7 @@ use thiserror::Error;
 
 /// What is wrong with a text of a scorecard. Its text is a few words for the scoretaker.
 #[derive(Clone, Copy, Debug, PartialEq, Eq, Error)]
-pub enum CardFault {
+pub enum ScorecardFault {
     /// There is nothing but spaces.
     #[error("nothing is written")]
     Empty,
@@ -42,13 +42,13 @@ pub enum CardFault {
     NoMemory,
 }
 
-impl From<AllocError> for CardFault {
+impl From<AllocError> for ScorecardFault {
     ghost use Rattle.std.specs.Prelude.{◌≡◌};
-    ghost use Rattle.scorecard.specs.declared.fault.CardFault.TheVariants.{NoMemory};
+    ghost use Rattle.scorecard.specs.declared.fault.ScorecardFault.TheVariants.{NoMemory};
 
     ghost from_gives = { λ _ fault. fault ≡ NoMemory };
 
-    fn from(_: AllocError) -> CardFault {
-        CardFault::NoMemory
+    fn from(_: AllocError) -> ScorecardFault {
+        ScorecardFault::NoMemory
     }
 }

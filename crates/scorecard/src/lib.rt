@@ -14,7 +14,7 @@ mod solutions;
 mod times;
 mod words;
 
-pub use fault::CardFault;
+pub use fault::ScorecardFault;
 pub use laws::{
     entered_reads_back, number_of_moves_is_no_solution, sheet_reads_back, spelled_once,
 };

@@ -7,7 +7,7 @@ ghost use Rattle.scorecard.specs.Spelling.{trimmed, Spells};
 ghost use Rattle.texts.specs.declared.command.Entered.{Entered as Outcome};
 ghost use Rattle.scorecard.specs.Reading.{Reads, ReadsBare, IsReadAs};
 
-use crate::fault::CardFault;
+use crate::fault::ScorecardFault;
 use crate::multi::multi_of;
 use crate::solutions::solution_of;
 use crate::times::timed_of;
@@ -26,11 +26,11 @@ fn trimmed(bytes: &[u8]) -> &[u8]
 }
 
 /// Reads a text with no white space around it.
-fn read_bare(alloc: Global, unit: Unit, bytes: &[u8]) -> Result<Entered, CardFault>
+fn read_bare(alloc: Global, unit: Unit, bytes: &[u8]) -> Result<Entered, ScorecardFault>
     ensures { ReadsBare unit bytes.now result }
 {
     if bytes.is_empty() {
-        Err(CardFault::Empty)
+        Err(ScorecardFault::Empty)
     } else if is_dnf(unit, bytes) {
         Ok(Entered::Dnf)
     } else if is_dns(unit, bytes) {
@@ -70,7 +70,7 @@ fn read_bare(alloc: Global, unit: Unit, bytes: &[u8]) -> Result<Entered, CardFau
 ///   but `Empty`, DNF and DNS.
 /// - In multi-blind, from the left: `NotAResult`, where a number or a mark is wrong,
 ///   `BadAttempted`, `MoreSolved`, `BadSeconds` and `NoSeconds`.
-pub fn read(alloc: Global, event: Event, text: &[u8]) -> Result<Entered, CardFault>
+pub fn read(alloc: Global, event: Event, text: &[u8]) -> Result<Entered, ScorecardFault>
     // The outcome, or the first fault.
     ensures value { Reads (unit_of event) text.now result }
     // What is read is spelled so.

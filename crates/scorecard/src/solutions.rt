@@ -4,8 +4,8 @@ ghost use Rattle.std.specs.Prelude.{◌≡◌, ◌≤◌, IfOk};
 ghost use Rattle.scorecard.specs.Spelling.{mended};
 ghost use Rattle.scorecard.specs.Reading.{ReadsSolution};
 
-use crate::fault::CardFault;
-use cube::notation::ReadFault;
+use crate::fault::ScorecardFault;
+use cube::notation::NotationFault;
 use std::alloc::{AllocError, Global};
 use texts::Entered;
 
@@ -33,13 +33,13 @@ fn mended(alloc: Global, bytes: &[u8]) -> Result<Vec<u8>, AllocError>
 
 /// A solution, with plain or typographic apostrophes, or `NotMoves` where it is none. `NoMemory`
 /// comes only where memory is wanting.
-pub fn solution_of(alloc: Global, bytes: &[u8]) -> Result<Entered, CardFault>
+pub fn solution_of(alloc: Global, bytes: &[u8]) -> Result<Entered, ScorecardFault>
     ensures { ReadsSolution bytes.now result }
 {
     let text = mended(alloc, bytes)?;
     match cube::notation::read(alloc, &text) {
         Ok(moves) => Ok(Entered::Solution { moves }),
-        Err(ReadFault::NoMemory) => Err(CardFault::NoMemory),
-        Err(_) => Err(CardFault::NotMoves),
+        Err(NotationFault::NoMemory) => Err(ScorecardFault::NoMemory),
+        Err(_) => Err(ScorecardFault::NotMoves),
     }
 }

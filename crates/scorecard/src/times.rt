@@ -9,7 +9,7 @@ ghost use Rattle.scorecard.specs.Spelling.{colons};
 ghost use Rattle.texts.specs.Fields.{number_between as between};
 
 use crate::digits::{number_of, pair_of};
-use crate::fault::CardFault;
+use crate::fault::ScorecardFault;
 use texts::{Entered, cut, number_between};
 
 /// What is before hundredths. A comma is a point.
@@ -22,36 +22,36 @@ const COLONS: &[u8] = b":.,";
 const MOST: u32 = 999_999;
 
 /// The hundredths of a time of digits alone: they fill a clock from the right.
-fn filled(bytes: &[u8]) -> Result<u32, CardFault>
+fn filled(bytes: &[u8]) -> Result<u32, ScorecardFault>
     ensures { result ≡ filled (number_of 7 bytes.now) }
 {
-    let number = number_of(7, bytes).ok_or(CardFault::NotATime)?;
+    let number = number_of(7, bytes).ok_or(ScorecardFault::NotATime)?;
     let rest = number % 10_000;
     if number >= 10_000 && rest >= 6_000 {
-        Err(CardFault::BadSeconds)
+        Err(ScorecardFault::BadSeconds)
     } else {
         Ok(6_000 * (number / 10_000) + rest)
     }
 }
 
 /// The hundredths of a time of seconds and hundredths.
-fn seconds_with(hundredths: u32, bytes: &[u8]) -> Result<u32, CardFault>
+fn seconds_with(hundredths: u32, bytes: &[u8]) -> Result<u32, ScorecardFault>
     requires { hundredths ≤ 99 }
     ensures { result ≡ seconds_with hundredths (number_of 2 bytes.now) }
 {
-    let seconds = number_of(2, bytes).ok_or(CardFault::NotATime)?;
+    let seconds = number_of(2, bytes).ok_or(ScorecardFault::NotATime)?;
     Ok(100 * seconds + hundredths)
 }
 
 /// The hundredths of a time of minutes, seconds and hundredths.
-fn minutes_with(hundredths: u32, seconds: u32, bytes: &[u8]) -> Result<u32, CardFault>
+fn minutes_with(hundredths: u32, seconds: u32, bytes: &[u8]) -> Result<u32, ScorecardFault>
     requires hundredths { hundredths ≤ 99 }
     requires seconds { seconds ≤ 99 }
     ensures { result ≡ minutes_with hundredths seconds (number_of 3 bytes.now) }
 {
-    let minutes = number_of(3, bytes).ok_or(CardFault::NotATime)?;
+    let minutes = number_of(3, bytes).ok_or(ScorecardFault::NotATime)?;
     if seconds >= 60 {
-        Err(CardFault::BadSeconds)
+        Err(ScorecardFault::BadSeconds)
     } else {
         Ok(6_000 * minutes + 100 * seconds + hundredths)
     }
@@ -59,7 +59,7 @@ fn minutes_with(hundredths: u32, seconds: u32, bytes: &[u8]) -> Result<u32, Card
 
 /// The hundredths of a time, whatever its length.
 #[tactic(auto, unfolding(crate::specs::Reading::clock_of))]
-fn clock_of(bytes: &[u8]) -> Result<u32, CardFault>
+fn clock_of(bytes: &[u8]) -> Result<u32, ScorecardFault>
     ensures { result ≡ clock_of bytes.now }
 {
     match pair_of(POINTS, bytes) {
@@ -73,31 +73,31 @@ fn clock_of(bytes: &[u8]) -> Result<u32, CardFault>
 
 /// The hundredths of a time that may be entered, 1 to 999,999.
 #[tactic(auto, unfolding(crate::specs::Reading::time_of))]
-fn time_of(bytes: &[u8]) -> Result<u32, CardFault>
+fn time_of(bytes: &[u8]) -> Result<u32, ScorecardFault>
     ensures { result ≡ time_of bytes.now }
 {
     let time = clock_of(bytes)?;
     if 1 <= time && time <= MOST {
         Ok(time)
     } else {
-        Err(CardFault::OutOfRange)
+        Err(ScorecardFault::OutOfRange)
     }
 }
 
 /// The penalties of this many seconds, two for each.
-fn halved(mark: &[u8]) -> Result<u8, CardFault>
+fn halved(mark: &[u8]) -> Result<u8, ScorecardFault>
     ensures { result ≡ halved (between 2 18 mark.now) }
 {
-    let seconds = number_between(2, 18, mark).ok_or(CardFault::BadPenalty)?;
+    let seconds = number_between(2, 18, mark).ok_or(ScorecardFault::BadPenalty)?;
     if seconds % 2 == 0 {
         Ok((seconds / 2) as u8)
     } else {
-        Err(CardFault::BadPenalty)
+        Err(ScorecardFault::BadPenalty)
     }
 }
 
 /// The penalties that are marked after a plus.
-fn penalties_of(mark: Option<&[u8]>) -> Result<u8, CardFault>
+fn penalties_of(mark: Option<&[u8]>) -> Result<u8, ScorecardFault>
     ensures { result ≡ penalties_of (option_copied mark.entry) }
 {
     match mark {
@@ -110,7 +110,7 @@ fn penalties_of(mark: Option<&[u8]>) -> Result<u8, CardFault>
 
 /// A time and its penalties.
 #[tactic(auto, unfolding(crate::specs::Reading::timed_of))]
-pub fn timed_of(bytes: &[u8]) -> Result<Entered, CardFault>
+pub fn timed_of(bytes: &[u8]) -> Result<Entered, ScorecardFault>
     ensures { result ≡ timed_of bytes.now }
 {
     let (time, mark) = cut(bytes, b'+');

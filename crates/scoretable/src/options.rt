@@ -3,22 +3,23 @@
 use clap::builder::ValueParser;
 use clap::{Arg, ArgAction, ArgMatches, Command, Error};
 use command_line::borrowed;
-use explaining::{explain_listening, is_wanted};
+use fault_hints::{explain_listening, is_wanted};
 use hall_file::hall_options::{
     FoundHall, Mistake, address_at, hall_of, option, tell, tell_mistake, tell_parse_error,
     tell_system, with_desks,
 };
-use hall_standings::Hall;
+use hall_survey::Hall;
 use http_server::Config;
 use outbox::JournalFault;
 use page_sockets::browsers_at;
-use pages::Terms;
+use pages::BrowserLimits;
 use std::alloc::{AllocError, Global};
 use std::io::{ErrorKind, Read, Write};
 use std::net::SocketAddr;
 use std::{fs, io};
 use table_service::{
-    End, FileFault, Opened, PROGRAM, SystemFile, hall_name, is_table_name, open_journal, serve,
+    JournalFileFault, OpenedJournal, PROGRAM, ScoreTableEnd, SystemFile, hall_name, is_table_name,
+    open_journal, serve,
 };
 
 const ABOUT: &str = "Takes scorecards in a browser, and enters them at the desks of a hall.";
@@ -31,7 +32,7 @@ const TITLE: &str = "Results";
 /// The name of the table where the arguments do not say it.
 const NAME: &str = "A";
 
-/// What is said of another one that is none.
+/// What is said of an invalid name of a table.
 const NO_NAME: &str = "--name has to be 1 to 60 bytes of text, with single spaces, without double \
                        quotes or hidden characters";
 
@@ -66,7 +67,7 @@ The desks are those of --hall and --to, or without these all desks of the hall t
 Where they have a key, it is in the file of --key, or in the one that FILE names. Standard error
 gets a line where a desk has another key, has no key, has a key and the score table has none, or is
 of another hall, and where no majority of the desks answers.
-Whoever reaches ADDR can enter results, so it has to be an address of this machine alone, as
+Anybody who reaches ADDR can enter results, so it has to be an address of this machine alone, as
 127.0.0.1:8081, unless --open-network is given.
 
 Exit status: 2 invalid arguments, or help or the version; 3 FILE describes no hall, the key's file
@@ -89,14 +90,14 @@ const LONGEST_BODY: usize = 8_388_608;
 
 /// What the score table is to do.
 #[derive(Drop)]
-struct Order {
+struct ScoreTableOptions {
     /// The hall, with one to five desks.
     hall: FoundHall,
     title: String,
     name: String,
     proposals: Vec<u8>,
     listen: SocketAddr,
-    journal: Opened<SystemFile>,
+    journal: OpenedJournal<SystemFile>,
 }
 
 /// The program, as the parser knows it.
@@ -130,7 +131,7 @@ fn command<'a>(alloc: Global) -> Result<Command<'a>, AllocError> {
 
 /// Why the arguments give no order.
 #[derive(Drop)]
-enum Refusal<'a> {
+enum OptionsFault<'a> {
     /// The options are wrong.
     Wrong(Mistake<'a>),
     /// No table can have the name of `--name`.
@@ -142,29 +143,29 @@ enum Refusal<'a> {
     /// The file at this path, which has the commands of the competition, can't be read.
     Setup(&'a str),
     /// The journal at this path can't be used.
-    Journal(&'a str, FileFault),
+    Journal(&'a str, JournalFileFault),
 }
 
-impl<'a> From<Mistake<'a>> for Refusal<'a> {
+impl<'a> From<Mistake<'a>> for OptionsFault<'a> {
     ghost use Rattle.std.specs.Prelude.{◌≡◌};
-    ghost use Rattle.scoretable.specs.declared.options.Refusal.TheVariants.{Wrong};
+    ghost use Rattle.scoretable.specs.declared.options.OptionsFault.TheVariants.{Wrong};
 
     ghost from_gives = { λ mistake refusal. refusal ≡ Wrong mistake };
 
-    fn from(mistake: Mistake<'a>) -> Refusal<'a> {
-        Refusal::Wrong(mistake)
+    fn from(mistake: Mistake<'a>) -> OptionsFault<'a> {
+        OptionsFault::Wrong(mistake)
     }
 }
 
 /// The name of the table.
-fn name_of<'a>(rt: &HostRuntime, found: &ArgMatches<'a>) -> Result<String, Refusal<'a>> {
+fn name_of<'a>(rt: &HostRuntime, found: &ArgMatches<'a>) -> Result<String, OptionsFault<'a>> {
     let name = found.get_str("name").unwrap_or(NAME);
     if !is_table_name(name.as_bytes()) {
-        return Err(Refusal::Name);
+        return Err(OptionsFault::Name);
     }
     match String::from_str(rt.alloc(), name) {
         Ok(name) => Ok(name),
-        Err(_) => Err(Refusal::Wrong(Mistake::NoMemory)),
+        Err(_) => Err(OptionsFault::Wrong(Mistake::NoMemory)),
     }
 }
 
@@ -178,42 +179,45 @@ fn read_setup(rt: &HostRuntime, path: &str) -> io::Result<Vec<u8>> {
 
 /// The commands with which the competition was set up; nothing where the arguments name no file and
 /// there is none.
-fn proposals_of<'a>(rt: &HostRuntime, found: &ArgMatches<'a>) -> Result<Vec<u8>, Refusal<'a>> {
+fn proposals_of<'a>(rt: &HostRuntime, found: &ArgMatches<'a>) -> Result<Vec<u8>, OptionsFault<'a>> {
     let named = found.get_str("setup");
     let path = named.unwrap_or(SETUP);
     match read_setup(rt, path) {
         Ok(bytes) if bytes.len() as u64 <= LONGEST_SETUP => Ok(bytes),
         Err(error) if error.kind() == ErrorKind::OutOfMemory => {
-            Err(Refusal::Wrong(Mistake::NoMemory))
+            Err(OptionsFault::Wrong(Mistake::NoMemory))
         }
         Err(error) if error.kind() == ErrorKind::NotFound && named.is_none() => {
             Ok(Vec::new(rt.alloc()))
         }
-        _ => Err(Refusal::Setup(path)),
+        _ => Err(OptionsFault::Setup(path)),
     }
 }
 
 /// What the arguments ask for. The journal is opened last.
-fn order_of<'a>(rt: &HostRuntime, found: &ArgMatches<'a>) -> Result<Order, Refusal<'a>> {
+fn order_of<'a>(
+    rt: &HostRuntime,
+    found: &ArgMatches<'a>,
+) -> Result<ScoreTableOptions, OptionsFault<'a>> {
     let name = name_of(rt, found)?;
     let hall = hall_of(rt, found)?;
     let listen = address_at(rt, found, "listen")?;
     if listen.ip().is_unspecified() {
-        return Err(Refusal::Nameless);
+        return Err(OptionsFault::Nameless);
     }
     if !listen.ip().is_loopback() && !found.get_flag("open-network") {
-        return Err(Refusal::Open);
+        return Err(OptionsFault::Open);
     }
     let Ok(title) = String::from_str(rt.alloc(), found.get_str("title").unwrap_or(TITLE)) else {
-        return Err(Refusal::Wrong(Mistake::NoMemory));
+        return Err(OptionsFault::Wrong(Mistake::NoMemory));
     };
     let proposals = proposals_of(rt, found)?;
     let path = found.get_str("journal").unwrap_or(JOURNAL);
     let Ok(named) = hall_name(rt.alloc(), hall.hall, &hall.desks) else {
-        return Err(Refusal::Wrong(Mistake::NoMemory));
+        return Err(OptionsFault::Wrong(Mistake::NoMemory));
     };
     match open_journal(rt, path, &named, 0) {
-        Ok(journal) => Ok(Order {
+        Ok(journal) => Ok(ScoreTableOptions {
             hall,
             title,
             name,
@@ -221,35 +225,35 @@ fn order_of<'a>(rt: &HostRuntime, found: &ArgMatches<'a>) -> Result<Order, Refus
             listen,
             journal,
         }),
-        Err(fault) => Err(Refusal::Journal(path, fault)),
+        Err(fault) => Err(OptionsFault::Journal(path, fault)),
     }
 }
 
 /// Says why the arguments give no order, and returns the status.
-fn tell_refusal<F: Write>(faults: &mut F, refusal: Refusal<'_>) -> u8 {
+fn tell_refusal<F: Write>(faults: &mut F, refusal: OptionsFault<'_>) -> u8 {
     match refusal {
-        Refusal::Wrong(mistake) => tell_mistake(faults, PROGRAM, mistake),
-        Refusal::Name => tell(faults, PROGRAM, NO_NAME, 2),
-        Refusal::Open => {
+        OptionsFault::Wrong(mistake) => tell_mistake(faults, PROGRAM, mistake),
+        OptionsFault::Name => tell(faults, PROGRAM, NO_NAME, 2),
+        OptionsFault::Open => {
             let why = "other machines reach the address of --listen: see --open-network";
             tell(faults, PROGRAM, why, 4)
         }
-        Refusal::Nameless => {
+        OptionsFault::Nameless => {
             let why = "--listen has to name the one address that browsers are to use";
             tell(faults, PROGRAM, why, 4)
         }
-        Refusal::Setup(path) => {
+        OptionsFault::Setup(path) => {
             let _ = writeln!(faults, "{PROGRAM}: {path}: cannot be read");
             4
         }
-        Refusal::Journal(_, FileFault::Unread(JournalFault::NoMemory)) => {
+        OptionsFault::Journal(_, JournalFileFault::Unread(JournalFault::NoMemory)) => {
             tell(faults, PROGRAM, "no memory", 5)
         }
-        Refusal::Journal(path, fault) => {
+        OptionsFault::Journal(path, fault) => {
             let _ = writeln!(faults, "{PROGRAM}: {path}: {fault}");
             match fault {
-                FileFault::Unread(_) => 3,
-                FileFault::System | FileFault::InUse | FileFault::TooLong => 4,
+                JournalFileFault::Unread(_) => 3,
+                JournalFileFault::System | JournalFileFault::InUse | JournalFileFault::TooLong => 4,
             }
         }
     }
@@ -274,12 +278,12 @@ fn tell_listening<F: Write>(
 fn run_order<W: Write, F: Write>(
     rt: &HostRuntime,
     found: &ArgMatches<'_>,
-    order: Order,
+    order: ScoreTableOptions,
     writer: &mut W,
     faults: &mut F,
 ) -> u8 {
     let alloc = rt.alloc();
-    let Order {
+    let ScoreTableOptions {
         hall,
         title,
         name,
@@ -294,7 +298,7 @@ fn run_order<W: Write, F: Write>(
     let mut config = Config::default();
     config.limits.max_head_len = LONGEST_HEAD;
     config.max_body_len = LONGEST_BODY;
-    let terms = Terms {
+    let terms = BrowserLimits {
         most: MOST_BROWSERS,
         patience: PATIENCE,
         config,
@@ -311,8 +315,8 @@ fn run_order<W: Write, F: Write>(
     match serve(
         rt, alloc, asked, title, name, proposals, journal, browsers, writer, faults,
     ) {
-        Ok(End::Failed) => tell(faults, PROGRAM, "cannot continue", 4),
-        Ok(End::Broken) => tell(faults, PROGRAM, BROKEN, 4),
+        Ok(ScoreTableEnd::Failed) => tell(faults, PROGRAM, "cannot continue", 4),
+        Ok(ScoreTableEnd::Broken) => tell(faults, PROGRAM, BROKEN, 4),
         Err(error) => tell_system(faults, PROGRAM, &error, "cannot continue"),
     }
 }

@@ -5,7 +5,7 @@ use Rattle.std.proofs.Common.{slice_index, slice_set}
 use Rattle.std.specs.Int.{w16, w32, to_be_bytes, from_be_bytes}
 use Rattle.std.proofs.lemmas.List.{append-nil, take_at, get_or-set_same, length-set}
 use Rattle.seal.specs.declared.channel.Channel.{Channel}
-use Rattle.seal.specs.declared.fault.OpenFault.{OpenFault}
+use Rattle.seal.specs.declared.fault.StreamFault.{StreamFault}
 use Rattle.seal.specs.Records.{mark, tag, record_of, records, IsBody, AreBodies}
 use Rattle.seal.specs.Streams.{BeginsRecord, joined, HandsOn}
 use Rattle.seal.specs.Laws.{IsNoMark, ReadsBack, GoesOn, IsNotForged, Differs}

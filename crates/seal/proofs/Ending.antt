@@ -4,8 +4,8 @@ use Rattle.std.proofs.Common.{drop, Option, Some, None, refl, sym, ap, subst, �
 use Rattle.std.proofs.Common.{append_assoc}
 use Rattle.std.proofs.lemmas.List.{length-append, take_at, take-append-drop, take-append-le}
 use Rattle.seal.specs.declared.channel.Channel.{Channel}
-use Rattle.seal.specs.declared.fault.OpenFault.{OpenFault}
-use Rattle.seal.specs.declared.fault.OpenFault.TheVariants.{BadLength, BadTag}
+use Rattle.seal.specs.declared.fault.StreamFault.{StreamFault}
+use Rattle.seal.specs.declared.fault.StreamFault.TheVariants.{BadLength, BadTag}
 use Rattle.seal.specs.Records.{IsLength, IsBody, AreBodies, record_of, records}
 use Rattle.seal.specs.Streams.{length_at, Waits, IsWhole, BeginsRecord, Ends, held_of}
 use Rattle.seal.proofs.Whole.{length-record, begun_length, begun_whole, length_at-more, one_record}
@@ -17,7 +17,7 @@ waits_not : (length_now length_then have : ℕ) (good : Type 0)
 waits_not a b have good (inl h) e m = omega arith
 waits_not a b have good (inr h) e m = omega (arith, h.1)
 
-pub not_begun : (c : Channel) (n : ℕ) (f : Option OpenFault) (rest : List ℕ) → Ends c n f rest
+pub not_begun : (c : Channel) (n : ℕ) (f : Option StreamFault) (rest : List ℕ) → Ends c n f rest
     → ¬ BeginsRecord c n rest
 not_begun c n None rest ends begun =
     waits_not (length begun.0) (length_at rest) (length rest) (IsLength (length_at rest)) ends
@@ -51,7 +51,7 @@ begun_less c n bytes more whole begun =
       sym (take-append-drop k bytes) ∙ ap (λ (s : List ℕ). s ++ drop k bytes) front,
     )
 
-pub ends_more : (c : Channel) (n : ℕ) (f : Option OpenFault) (rest more : List ℕ) → ¬ (f ≡ None)
+pub ends_more : (c : Channel) (n : ℕ) (f : Option StreamFault) (rest more : List ℕ) → ¬ (f ≡ None)
     → Ends c n f rest → Ends c n f (rest ++ more)
 ends_more c n None rest more broken ends = absurd (broken refl)
 ends_more c n (Some BadLength) rest more broken ends =
@@ -62,7 +62,7 @@ ends_more c n (Some BadLength) rest more broken ends =
 ends_more c n (Some BadTag) rest more broken ends =
     (whole_more rest more ends.0, λ begun. ends.1 (begun_less c n rest more ends.0 begun))
 
-pub held_none : (f : Option OpenFault) (x y : List ℕ) → ¬ (f ≡ None) → held_of f x ≡ held_of f y
+pub held_none : (f : Option StreamFault) (x y : List ℕ) → ¬ (f ≡ None) → held_of f x ≡ held_of f y
 held_none None x y broken = absurd (broken refl)
 held_none (Some e) x y broken = refl
 
@@ -77,7 +77,7 @@ waits_less : (have then : ℕ) (good : Type 0) → (have < 2) ⊎ (good × (have
 waits_less have then good (inl h) m = omega arith
 waits_less have then good (inr h) m = omega (arith, h.1)
 
-pub one_end : (c : Channel) (n : ℕ) (f g : Option OpenFault) (rest : List ℕ) → Ends c n f rest
+pub one_end : (c : Channel) (n : ℕ) (f g : Option StreamFault) (rest : List ℕ) → Ends c n f rest
     → Ends c n g rest → f ≡ g
 one_end c n None None rest a b = refl
 one_end c n None (Some BadLength) rest a b =

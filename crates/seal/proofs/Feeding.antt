@@ -9,13 +9,13 @@ use Rattle.std.proofs.lemmas.Grind.{flat_map-append}
 use Rattle.std.proofs.lemmas.List.{take_all, take-append-drop}
 use Rattle.std.proofs.lemmas.List.{length-append, append-nil, length-take, length-drop}
 use Rattle.seal.specs.declared.channel.Channel.{Channel}
-use Rattle.seal.specs.declared.fault.OpenFault.{OpenFault}
+use Rattle.seal.specs.declared.fault.StreamFault.{StreamFault}
 use Rattle.seal.specs.Records.{IsBody, record_of}
 use Rattle.seal.specs.Streams.{Waits, Ends, Opening, held_of, Reads, FedAt, Fed, stream_of}
 use Rattle.seal.specs.model.Steps.{IsToppedUp, IsRecord, Takes}
 use Rattle.seal.proofs.Reading.{reads_none, reads_one, reads_more, reads_after}
 
-held_le : (f : Option OpenFault) (bytes : List ℕ) → length (held_of f bytes) ≤ length bytes
+held_le : (f : Option StreamFault) (bytes : List ℕ) → length (held_of f bytes) ≤ length bytes
 held_le None bytes = omega arith
 held_le (Some e) bytes = omega arith
 
@@ -44,17 +44,8 @@ pub takes_waits : (piece before bytes : List ℕ) (old new : Opening) (added : �
     → new.fault ≡ None → Waits bytes → new.held ≡ bytes → Takes piece old new before before added
 takes_waits piece before bytes old new added up kept counted none waits held =
     takes_none piece before bytes old new added up kept counted
-    (subst (λ (f : Option OpenFault). Ends old.channel old.number f bytes) (sym none) waits)
-    (held ∙ ap (λ (f : Option OpenFault). held_of f bytes) (sym none))
-
-pub takes_breaks : (piece before bytes : List ℕ) (old new : Opening) (added : ℕ) (e : OpenFault)
-    → IsToppedUp piece old.held bytes added → new.channel ≡ old.channel → new.number ≡ old.number
-    → new.fault ≡ Some e → Ends old.channel old.number (Some e) bytes → new.held ≡ []
-    → Takes piece old new before before added
-takes_breaks piece before bytes old new added e up kept counted some ends held =
-    takes_none piece before bytes old new added up kept counted
-    (subst (λ (f : Option OpenFault). Ends old.channel old.number f bytes) (sym some) ends)
-    (held ∙ ap (λ (f : Option OpenFault). held_of f bytes) (sym some))
+    (subst (λ (f : Option StreamFault). Ends old.channel old.number f bytes) (sym none) waits)
+    (held ∙ ap (λ (f : Option StreamFault). held_of f bytes) (sym none))
 
 -- the body of a record is handed on
 pub takes_one : (piece before after bytes : List ℕ) (old new : Opening) (added : ℕ)
@@ -83,21 +74,12 @@ takes_one piece before after bytes old new added up is gives kept counted none h
 
 -- ---- what was fed
 
-pub fed_start : (f : Option OpenFault) (old : Opening) → old.fault ≡ f → Waits old.held
-    → FedAt f [] old old []
-fed_start None old none waits =
-    let P : List ℕ → Type 0 = λ s. Reads old.channel old.number s [] old in
-    subst P (sym (append-nil old.held))
-    (reads_none old.channel old.number old.held old refl refl
-    (subst (λ (f : Option OpenFault). Ends old.channel old.number f old.held) (sym none) waits)
-    (ap (λ (f : Option OpenFault). held_of f old.held) (sym none)))
-fed_start (Some e) old some waits = (refl, refl)
-
-still : (old mid : Opening) (e : OpenFault) → old.fault ≡ Some e → mid ≡ old → mid.fault ≡ None → ⊥
+still : (old mid : Opening) (e : StreamFault) → old.fault ≡ Some e → mid ≡ old → mid.fault ≡ None
+    → ⊥
 still old mid e some same none =
     let bad : Some e ≡ None = sym some ∙ sym (ap (λ (o : Opening). o.fault) same) ∙ none in cc
 
-pub fed_more : (f : Option OpenFault) (piece more handed extra : List ℕ) (old mid new : Opening)
+pub fed_more : (f : Option StreamFault) (piece more handed extra : List ℕ) (old mid new : Opening)
     → old.fault ≡ f → FedAt f piece old mid handed → mid.fault ≡ None
     → Reads mid.channel mid.number (mid.held ++ more) extra new
     → FedAt f (piece ++ more) old new (handed ++ extra)
@@ -108,7 +90,7 @@ fed_more None piece more handed extra old mid new is fed none reads =
 fed_more (Some e) piece more handed extra old mid new is fed none reads =
     absurd (still old mid e is fed.1 none)
 
-pub fed_after : (f : Option OpenFault) (piece more handed : List ℕ) (old mid : Opening)
+pub fed_after : (f : Option StreamFault) (piece more handed : List ℕ) (old mid : Opening)
     → FedAt f piece old mid handed → ¬ (mid.fault ≡ None) → FedAt f (piece ++ more) old mid handed
 fed_after None piece more handed old mid fed broken =
     let P : List ℕ → Type 0 = λ s. Reads old.channel old.number s handed mid in
@@ -116,11 +98,11 @@ fed_after None piece more handed old mid fed broken =
     (reads_after old.channel old.number (old.held ++ piece) handed more mid fed broken)
 fed_after (Some e) piece more handed old mid fed broken = fed
 
-broken : (f : Option OpenFault) (e : OpenFault) → f ≡ Some e → f ≡ None → ⊥
+broken : (f : Option StreamFault) (e : StreamFault) → f ≡ Some e → f ≡ None → ⊥
 broken f e some none = let bad : Some e ≡ None = sym some ∙ none in cc
 
 -- one more piece of a stream
-fed_on : (f : Option OpenFault) (c : Channel) (n : ℕ) (s x piece handed : List ℕ)
+fed_on : (f : Option StreamFault) (c : Channel) (n : ℕ) (s x piece handed : List ℕ)
     (old new : Opening) → old.fault ≡ f → Reads c n s x old → FedAt f piece old new handed
     → Reads c n (s ++ piece) (x ++ handed) new
 fed_on None c n s x piece handed old new is reads fed =

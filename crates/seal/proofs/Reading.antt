@@ -4,7 +4,7 @@ use Rattle.std.proofs.Common.{None, refl, sym, ap, subst, ◌∙◌, append_asso
 use Rattle.std.proofs.lemmas.List.{length-append, append-nil}
 use Rattle.std.proofs.lemmas.Grind.{flat_map-append}
 use Rattle.seal.specs.declared.channel.Channel.{Channel}
-use Rattle.seal.specs.declared.fault.OpenFault.{OpenFault}
+use Rattle.seal.specs.declared.fault.StreamFault.{StreamFault}
 use Rattle.seal.specs.Records.{IsBody, AreBodies, record_of, records}
 use Rattle.seal.specs.Streams.{Waits, Ends, joined, Opens, HandsOn, HandsOnOnly, Opening, held_of}
 use Rattle.seal.specs.Streams.{Reads}
@@ -39,7 +39,8 @@ pub reads_more : (c : Channel) (n : ℕ) (s x piece y : List ℕ) (old new : Ope
     → Reads c n (s ++ piece) (x ++ y) new
 reads_more c n s x piece y old new a none r0 =
     let m = n + length a.bodies in
-    let held : old.held ≡ a.rest = a.held ∙ ap (λ (f : Option OpenFault). held_of f a.rest) none in
+    let held : old.held ≡ a.rest = a.held ∙ ap
+    (λ (f : Option StreamFault). held_of f a.rest) none in
     let r1 = subst (λ (d : Channel). Reads d old.number (old.held ++ piece) y new)
     a.channel_kept r0 in
     let r2 = subst (λ (k : ℕ). Reads c k (old.held ++ piece) y new) a.counted r1 in
@@ -101,10 +102,10 @@ reads_none c n bytes new kept counted ends held =
       held = held;
     }
 
-waits_none : (c : Channel) (n : ℕ) (f : Option OpenFault) → f ≡ None → Ends c n f []
-waits_none c n f e = subst (λ (g : Option OpenFault). Ends c n g []) (sym e) (inl (omega arith))
+waits_none : (c : Channel) (n : ℕ) (f : Option StreamFault) → f ≡ None → Ends c n f []
+waits_none c n f e = subst (λ (g : Option StreamFault). Ends c n g []) (sym e) (inl (omega arith))
 
-held_nothing : (f : Option OpenFault) → [] ≡ held_of f []
+held_nothing : (f : Option StreamFault) → [] ≡ held_of f []
 held_nothing None = refl
 held_nothing (Some e) = refl
 
@@ -128,24 +129,24 @@ reads_one c n bytes body new good is kept counted none held =
     }
 
 -- all of the stream was read
-pub reads_all : (c : Channel) (s x : List ℕ) (o : Opening) (f : Option OpenFault)
+pub reads_all : (c : Channel) (s x : List ℕ) (o : Opening) (f : Option StreamFault)
     → Reads c 0 s x o → f ≡ o.fault → HandsOn c s x f
 reads_all c s x o f r e =
     let zero : 0 + length r.bodies ≡ length r.bodies = omega arith in
     let ends = subst (λ (k : ℕ). Ends c k o.fault r.rest) zero r.ends in
-    let end = subst (λ (g : Option OpenFault). Ends c (length r.bodies) g r.rest) (sym e) ends in (
+    let end = subst (λ (g : Option StreamFault). Ends c (length r.bodies) g r.rest) (sym e) ends in (
       r.bodies,
       record { rest = r.rest; whole = r.whole; each = r.each; ends = end },
       r.gives,
     )
 
-pub from_zero : (c : Channel) (n : ℕ) (f : Option OpenFault) (rest : List ℕ) → Ends c n f rest
+pub from_zero : (c : Channel) (n : ℕ) (f : Option StreamFault) (rest : List ℕ) → Ends c n f rest
     → Ends c (0 + n) f rest
 from_zero c n f rest ends = let zero : n ≡ 0 + n = omega arith in
     subst (λ (k : ℕ). Ends c k f rest) zero ends
 
 -- and it can be read in no other way
-pub reads_only : (c : Channel) (s x : List ℕ) (f : Option OpenFault) → HandsOn c s x f
+pub reads_only : (c : Channel) (s x : List ℕ) (f : Option StreamFault) → HandsOn c s x f
     → HandsOnOnly c s x f
 reads_only c s x f a y g b =
     let p = from_zero c (length a.0) f a.1.rest a.1.ends in

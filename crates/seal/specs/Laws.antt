@@ -3,7 +3,7 @@ use Rattle.std.specs.Prelude.{◌≡◌, ℕ, ◌^◌, ◌<◌, ◌≤◌, List,
 use Rattle.std.specs.Prelude.{Option, None, slice_index, slice_set}
 use Rattle.std.specs.Int.{w16, w32, to_be_bytes, from_be_bytes}
 use Rattle.seal.specs.declared.channel.Channel.{Channel}
-use Rattle.seal.specs.declared.fault.OpenFault.{OpenFault}
+use Rattle.seal.specs.declared.fault.StreamFault.{StreamFault}
 use Rattle.seal.specs.Records.{mark, tag, record_of, records, IsBody, AreBodies}
 use Rattle.seal.specs.Streams.{joined, HandsOn, HandsOnOnly}
 
@@ -43,7 +43,7 @@ pub record Differs (channel : Channel) (front : List (List ℕ)) (sent came : Li
 -- only the bodies in front are handed on
 abbrev pub HandsOnFront : Channel → List (List ℕ) → List ℕ → Type 0
 HandsOnFront channel front came =
-    (handed : List ℕ) (fault : Option OpenFault) → HandsOn channel came handed fault
+    (handed : List ℕ) (fault : Option StreamFault) → HandsOn channel came handed fault
     → handed ≡ joined front
 
 -- one byte of a record was changed: the record with this number, its byte at, what is there

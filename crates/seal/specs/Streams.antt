@@ -5,8 +5,8 @@ use Rattle.std.specs.Global.{Vec}
 use Rattle.std.specs.List.{flat_map}
 use Rattle.std.specs.Int.{w16, from_be_bytes}
 use Rattle.seal.specs.declared.channel.Channel.{Channel}
-use Rattle.seal.specs.declared.fault.OpenFault.{OpenFault}
-use Rattle.seal.specs.declared.fault.OpenFault.TheVariants.{BadLength, BadTag}
+use Rattle.seal.specs.declared.fault.StreamFault.{StreamFault}
+use Rattle.seal.specs.declared.fault.StreamFault.TheVariants.{BadLength, BadTag}
 use Rattle.seal.specs.Records.{IsLength, IsBody, AreBodies, record_of, records}
 
 -- the number in the first two bytes
@@ -31,7 +31,7 @@ BeginsRecord channel number bytes =
 
 -- what ends a stream: it waits for more, its next length is bad, or its next record has not the tag
 -- of its body under this number
-abbrev pub Ends : Channel → ℕ → Option OpenFault → List ℕ → Type 0
+abbrev pub Ends : Channel → ℕ → Option StreamFault → List ℕ → Type 0
 Ends channel number None rest = Waits rest
 Ends channel number (Some BadLength) rest = (2 ≤ length rest) × ¬ IsLength (length_at rest)
 Ends channel number (Some BadTag) rest = IsWhole rest × ¬ BeginsRecord channel number rest
@@ -42,21 +42,21 @@ joined bodies = flat_map (λ body. body) bodies
 
 -- the stream is the records of these bodies, and then less than a record, or this fault
 pub record Opens (channel : Channel) (stream : List ℕ) (bodies : List (List ℕ))
-    (fault : Option OpenFault) : Type 0 where
+    (fault : Option StreamFault) : Type 0 where
   pub rest : List ℕ
   pub whole : stream ≡ records channel 0 bodies ++ rest
   pub each : AreBodies 0 bodies
   pub ends : Ends channel (length bodies) fault rest
 
 -- what is handed on of a stream: the bytes of its bodies
-abbrev pub HandsOn : Channel → List ℕ → List ℕ → Option OpenFault → Type 0
+abbrev pub HandsOn : Channel → List ℕ → List ℕ → Option StreamFault → Type 0
 HandsOn channel stream handed fault =
     (bodies : List (List ℕ)) × Opens channel stream bodies fault × (handed ≡ joined bodies)
 
 -- and the stream can be read in no other way
-abbrev pub HandsOnOnly : Channel → List ℕ → List ℕ → Option OpenFault → Type 0
+abbrev pub HandsOnOnly : Channel → List ℕ → List ℕ → Option StreamFault → Type 0
 HandsOnOnly channel stream handed fault =
-    (other : List ℕ) (end : Option OpenFault) → HandsOn channel stream other end
+    (other : List ℕ) (end : Option StreamFault) → HandsOn channel stream other end
     → (handed ≡ other) × (fault ≡ end)
 
 -- an opener: which stream it opens, the number of the next record, the bytes of that record that
@@ -65,10 +65,10 @@ pub record Opening : Type 0 where
   pub channel : Channel
   pub number : ℕ
   pub held : List ℕ
-  pub fault : Option OpenFault
+  pub fault : Option StreamFault
 
 -- what is held of the rest of a stream: nothing after a fault
-abbrev pub held_of : Option OpenFault → List ℕ → List ℕ
+abbrev pub held_of : Option StreamFault → List ℕ → List ℕ
 held_of None rest = rest
 held_of (Some e) rest = []
 
@@ -86,7 +86,7 @@ pub record Reads (channel : Channel) (number : ℕ) (stream handed : List ℕ) (
   pub held : opener.held ≡ held_of opener.fault rest
 
 -- one more piece: after a fault nothing is handed on, and nothing changes
-abbrev pub FedAt : Option OpenFault → List ℕ → Opening → Opening → List ℕ → Type 0
+abbrev pub FedAt : Option StreamFault → List ℕ → Opening → Opening → List ℕ → Type 0
 FedAt None piece old new handed = Reads old.channel old.number (old.held ++ piece) handed new
 FedAt (Some e) piece old new handed = (handed ≡ []) × (new ≡ old)
 

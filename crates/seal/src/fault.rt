@@ -26,7 +26,7 @@ impl From<AllocError> for SealFault {
 
 /// What ended a stream. The first that applies, in this order.
 #[derive(Clone, Copy, Debug, PartialEq, Eq)]
-pub enum OpenFault {
+pub enum StreamFault {
     /// The length of a record is 0 or above 16,384. It is known with the two bytes of the length.
     BadLength,
     /// The tag of a record is not that of its body, with its number and direction, under the

@@ -6,7 +6,7 @@ ghost use Rattle.seal.specs.Streams.{Waits};
 ghost use Rattle.seal.specs.model.Steps.{IsSize, IsBegun, IsToppedUp, IsFront};
 
 use crate::channel::Channel;
-use crate::fault::OpenFault;
+use crate::fault::StreamFault;
 use crate::record::{LENGTH, TAG, fits};
 
 /// The most bytes of a record.
@@ -39,34 +39,34 @@ pub(crate) fn hold(held: &mut Vec<u8>, piece: &[u8]) -> usize
 
 /// What the bytes at the front of a stream are, which go no further than a record.
 #[derive(Drop)]
-pub(crate) enum Front {
+pub(crate) enum RecordFront {
     /// The beginning of a record.
     Waits,
     /// A whole record whose tag fits.
     Fits,
     /// No record.
-    Breaks(OpenFault),
+    Breaks(StreamFault),
 }
 
 /// What the bytes at the front are, where the next record has this number.
-pub(crate) fn front_of(channel: &Channel, number: u64, bytes: &[u8]) -> Front
+pub(crate) fn front_of(channel: &Channel, number: u64, bytes: &[u8]) -> RecordFront
     requires { IsBegun bytes.now }
     ensures { IsFront result channel.now number bytes.now }
 {
     if bytes.len() < LENGTH {
-        return Front::Waits;
+        return RecordFront::Waits;
     }
     let size = size_of(bytes);
     if size == LENGTH + TAG || size > MOST_BYTES {
-        return Front::Breaks(OpenFault::BadLength);
+        return RecordFront::Breaks(StreamFault::BadLength);
     }
     if bytes.len() < size {
-        return Front::Waits;
+        return RecordFront::Waits;
     }
     if fits(channel, number, bytes) {
-        Front::Fits
+        RecordFront::Fits
     } else {
-        Front::Breaks(OpenFault::BadTag)
+        RecordFront::Breaks(StreamFault::BadTag)
     }
 }
 

@@ -18,9 +18,9 @@ mod record;
 mod sealer;
 
 pub use channel::{Channel, Direction};
-pub use fault::{OpenFault, SealFault};
+pub use fault::{SealFault, StreamFault};
 pub use mac::{hmac, hmac_of_parts};
-pub use opener::{Opened, Opener, open_pieces};
+pub use opener::{OpenedStream, Opener, open_pieces};
 pub use prefaces::{connection_key, is_sealed, preface, random_of};
 pub use sealer::Sealer;
 pub use std::alloc::AllocError as NoMemory;

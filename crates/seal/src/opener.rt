@@ -7,8 +7,8 @@ ghost use Rattle.seal.specs.model.Steps.{Takes};
 
 use crate::NoMemory;
 use crate::channel::Channel;
-use crate::fault::OpenFault;
-use crate::front::{Front, MOST_BYTES, front_of, hand_on, hold};
+use crate::fault::StreamFault;
+use crate::front::{MOST_BYTES, RecordFront, front_of, hand_on, hold};
 use std::alloc::Global;
 use std::marker::Model;
 
@@ -23,7 +23,7 @@ pub struct Opener {
     number: u64,
     /// The unfinished record.
     bytes: Vec<u8>,
-    fault: Option<OpenFault>,
+    fault: Option<StreamFault>,
 }
 
 impl Model for Opener {
@@ -71,7 +71,7 @@ impl Opener {
     }
 
     /// The fault that ended the stream, if one did.
-    pub fn fault(&self) -> Option<OpenFault>
+    pub fn fault(&self) -> Option<StreamFault>
         ensures { result ≡ self.now.fault }
     {
         self.fault
@@ -108,13 +108,13 @@ impl Opener {
     {
         let added = hold(&mut self.bytes, piece);
         match front_of(&self.channel, self.number, &self.bytes) {
-            Front::Waits => {}
-            Front::Fits => {
+            RecordFront::Waits => {}
+            RecordFront::Fits => {
                 hand_on(&self.bytes, handed);
                 self.bytes.clear();
                 self.number += 1;
             }
-            Front::Breaks(fault) => {
+            RecordFront::Breaks(fault) => {
                 self.bytes.clear();
                 self.fault = Some(fault);
             }
@@ -125,11 +125,11 @@ impl Opener {
 
 /// What a stream holds.
 #[derive(Drop)]
-pub struct Opened {
+pub struct OpenedStream {
     /// The bytes of the bodies, in order, up to the fault.
     pub bytes: Vec<u8>,
     /// The fault that ended it. None: less than a whole record is left.
-    pub fault: Option<OpenFault>,
+    pub fault: Option<StreamFault>,
 }
 
 /// What is handed on of a stream that comes in these pieces, after the preface, and the fault that
@@ -137,7 +137,11 @@ pub struct Opened {
 ///
 /// However the stream was cut, the answer is the same: the stream is the records of these bodies,
 /// and then less than a record, or the fault, and there is no other way to read it.
-pub fn open_pieces(alloc: Global, channel: Channel, pieces: &[Vec<u8>]) -> Result<Opened, NoMemory>
+pub fn open_pieces(
+    alloc: Global,
+    channel: Channel,
+    pieces: &[Vec<u8>],
+) -> Result<OpenedStream, NoMemory>
     ensures hands_on { IfOk result (λ r.
         HandsOn channel (stream_of pieces.now) r.bytes.items r.fault) }
     ensures only { IfOk result (λ r.
@@ -149,5 +153,5 @@ pub fn open_pieces(alloc: Global, channel: Channel, pieces: &[Vec<u8>]) -> Resul
         bytes.append(&mut opener.feed(piece)?)?;
     }
     let fault = opener.fault();
-    Ok(Opened { bytes, fault })
+    Ok(OpenedStream { bytes, fault })
 }

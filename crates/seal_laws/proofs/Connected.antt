@@ -6,23 +6,23 @@ use Rattle.std.proofs.lemmas.List.{append-nil, append_cancel_left}
 use Rattle.sha2.specs.Sha256.{sha256, first_words, schedule, rounds, compress, hash_after}
 use Rattle.sha2.specs.Sha256.{digest_bytes}
 use Rattle.seal.specs.declared.channel.Channel.{Channel}
-use Rattle.seal.specs.declared.fault.OpenFault.TheVariants.{BadTag}
+use Rattle.seal.specs.declared.fault.StreamFault.TheVariants.{BadTag}
 use Rattle.seal.specs.Hmac.{hmac, key_block}
 use Rattle.seal.specs.Records.{IsBody, key_of, preface_of, record_of, records, tag}
 use Rattle.seal.specs.Streams.{BeginsRecord, IsWhole}
 use Rattle.seal.proofs.Whole.{length-record, length_at-record, same_parts, short}
-use Rattle.sealed.specs.declared.callers.Doors.TheVariants.{Locked}
+use Rattle.sealed.specs.declared.callers.Access.TheVariants.{Locked}
 use Rattle.sealed.specs.declared.callers.Holder.{Holder}
 use Rattle.sealed.specs.declared.callers.Holder.TheVariants.{Hall, Entry}
-use Rattle.sealed.specs.declared.callers.Locks.{Locks}
+use Rattle.sealed.specs.declared.callers.DeskKeys.{DeskKeys}
 use Rattle.sealed.specs.Admitting.{comes_under, goes_under}
-use Rattle.sealed.specs.Calls.{CalledOf, IsOfLocks}
-use Rattle.sealed.specs.Callings.{CallingOf}
+use Rattle.sealed.specs.ServerSeals.{ServerSealOf, IsOfLocks}
+use Rattle.sealed.specs.ClientSeals.{ClientSealOf}
 use Rattle.sealed.specs.Fronts.{IsPrefaced}
 use Rattle.sealed.specs.Sent.{SentAs, SentOver, key_for}
 use Rattle.sealed.specs.Trials.{ReadsAll, TrialOf, Tries, entry_of}
 use Rattle.sealed.specs.Tunnels.{TunnelOf}
-use Rattle.sealed.specs.ends.Calls.{CallOf}
+use Rattle.sealed.specs.ends.ClientStreams.{ClientStreamOf}
 use Rattle.sealed.proofs.Fresh.{fresh_of_locks}
 use Rattle.seal_laws.specs.BothSides.{AreConnected, EntryIsConnected, IsNotTheHalls}
 use Rattle.seal_laws.specs.BothSides.{SidesAreConnected, fours, threes, two_locks}
@@ -70,7 +70,7 @@ prefaced : (random stream : List ℕ) → length random ≡ 16
 prefaced random stream sixteen = record { sixteen = sixteen; whole = refl }
 
 -- where the desk has tried what came so, under its keys
-record IsTried (locks : Locks) (who : Holder) (key client server question answer : List ℕ)
+record IsTried (locks : DeskKeys) (who : Holder) (key client server question answer : List ℕ)
     (trial : TrialOf) : Type 0 where
   held : key_for locks who ≡ Some key
   keys : IsOfLocks locks client server trial
@@ -81,10 +81,10 @@ record IsTried (locks : Locks) (who : Holder) (key client server question answer
       IsNotTheHalls who locks client server
       (preface_of client ++ records (comes_under client server key) 0 (question ∷ []))
 
-connected_by : (locks : Locks) (who : Holder) (key client server question answer : List ℕ)
+connected_by : (locks : DeskKeys) (who : Holder) (key client server question answer : List ℕ)
     (trial : TrialOf) → AreRandom client server → IsBody 0 question → IsBody 0 answer
     → IsTried locks who key client server question answer trial
-    → (caller : CallOf) × (desk : CalledOf)
+    → (caller : ClientStreamOf) × (desk : ServerSealOf)
     × (m : AreConnected caller desk question question answer answer) × (m.who ≡ who)
 unfolding one_each
 connected_by locks who key client server question answer trial random good fine tried =
@@ -93,20 +93,20 @@ connected_by locks who key client server question answer trial random good fine 
     let there = records comes 0 (question ∷ []) in
     let back = records goes 0 (answer ∷ []) in
     let sent = preface_of client ++ there in
-    let side : CallingOf = record {
+    let side : ClientSealOf = record {
       key = key;
       random = client;
       held = [];
       tunnel = Some (one_each goes comes);
       unsealed = false;
     } in
-    let caller : CallOf = record {
+    let caller : ClientStreamOf = record {
       calling = Some side;
       front = take 4 (preface_of server ++ back);
       heard = not (length answer == 0);
       output = [];
     } in
-    let desk : CalledOf = record {
+    let desk : ServerSealOf = record {
       doors = Locked locks;
       random = server;
       held = [];

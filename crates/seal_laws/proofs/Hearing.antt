@@ -6,28 +6,28 @@ use Rattle.std.proofs.lemmas.List.{append-nil, append_cancel_left, length-append
 use Rattle.std.specs.Prelude.{IfSome, option_map}
 use Rattle.seal.specs.declared.channel.Channel.{Channel}
 use Rattle.seal.specs.declared.channel.Direction.TheVariants.{ToClient}
-use Rattle.seal.specs.declared.fault.OpenFault.{OpenFault}
+use Rattle.seal.specs.declared.fault.StreamFault.{StreamFault}
 use Rattle.seal.specs.Records.{AreBodies, key_of, mark, preface_of, record_of, records}
 use Rattle.seal.specs.Streams.{BeginsRecord, HandsOn, joined}
 use Rattle.seal.proofs.Differing.{back}
 use Rattle.seal.proofs.Whole.{parted}
 use Rattle.sealed.specs.declared.callers.Caller.{Caller}
-use Rattle.sealed.specs.declared.callers.Caller.TheVariants.{Anyone, Passer}
+use Rattle.sealed.specs.declared.callers.Caller.TheVariants.{Anyone, Visitor}
 use Rattle.sealed.specs.declared.callers.Caller.TheVariants as caller
-use Rattle.sealed.specs.declared.callers.Doors.{Doors}
-use Rattle.sealed.specs.declared.callers.Doors.TheVariants.{Locked}
+use Rattle.sealed.specs.declared.callers.Access.{Access}
+use Rattle.sealed.specs.declared.callers.Access.TheVariants.{Locked}
 use Rattle.sealed.specs.declared.callers.Holder.{Holder}
 use Rattle.sealed.specs.declared.callers.Holder.TheVariants.{Hall, Entry}
-use Rattle.sealed.specs.declared.callers.Locks.{Locks}
+use Rattle.sealed.specs.declared.callers.DeskKeys.{DeskKeys}
 use Rattle.sealed.specs.declared.ends.trouble.CallTrouble.{CallTrouble}
 use Rattle.sealed.specs.declared.ends.trouble.CallTrouble.TheVariants.{NoKey, OtherKey, HasKey}
 use Rattle.sealed.specs.Admitting.{Admits, IsNobody, IsSealed, comes_under, goes_under}
-use Rattle.sealed.specs.Calls.{caller_of, held_by}
+use Rattle.sealed.specs.ServerSeals.{caller_of, held_by}
 use Rattle.sealed.specs.Fronts.{IsShort, IsUnsealed}
 use Rattle.sealed.specs.Sent.{IsSent, IsSentSealed, key_for}
 use Rattle.sealed.specs.Trials.{Hands, HandsBy}
 use Rattle.sealed.specs.Tunnels.{channel_of}
-use Rattle.sealed.specs.ends.Calls.{trouble_of}
+use Rattle.sealed.specs.ends.ClientStreams.{trouble_of}
 use Rattle.sealed.specs.ends.Laws as ends
 use Rattle.sealed.proofs.Admitted.{admits}
 use Rattle.sealed.proofs.Sending.{sends_what_is_given}
@@ -61,7 +61,7 @@ long_no r x h (inr few) =
 
 -- what is handed on of the records of bodies
 one_way : (c : Channel) (bodies : List (List ℕ)) (stream handed : List ℕ)
-    (fault : Option OpenFault) → AreBodies 0 bodies → stream ≡ records c 0 bodies
+    (fault : Option StreamFault) → AreBodies 0 bodies → stream ≡ records c 0 bodies
     → HandsOn c stream handed fault → (handed ≡ joined bodies) × (fault ≡ None)
 one_way c bodies stream handed fault each is hands =
     let h = subst (λ (s : List ℕ). HandsOn c s handed fault) is hands in
@@ -120,7 +120,7 @@ went key client server asked sent more sixteen (inr h) =
 -- ---- what the desk handed on
 
 -- of the records of a caller it hands on what the caller was given, and to nobody else
-handed_is : (who : Holder) (by : Option Holder) (locks : Locks)
+handed_is : (who : Holder) (by : Option Holder) (locks : DeskKeys)
     (key client server sent stream asked handed : List ℕ) (bodies : List (List ℕ))
     → key_for locks who ≡ Some key → IsNotTheHalls who locks client server sent
     → sent ≡ preface_of client ++ stream → AreBodies 0 bodies → joined bodies ≡ asked
@@ -169,7 +169,7 @@ handed_is Entry (Some Entry) locks key client server sent stream asked handed bo
     let all = one_way (comes_under client server key) bodies stream handed hands.0 each under
     hands.1 in (all.0 ∙ gives, inr refl)
 
-sealed_side : (who : Holder) (by : Option Holder) (l locks : Locks)
+sealed_side : (who : Holder) (by : Option Holder) (l locks : DeskKeys)
     (key client server sent asked handed : List ℕ) → locks ≡ l → length client ≡ 16
     → key_for locks who ≡ Some key → IsNotTheHalls who locks client server sent
     → Went key client server asked sent → IsSealed l server sent handed by
@@ -178,7 +178,7 @@ sealed_side who by l locks key client server sent asked handed same sixteen is a
     let front = one_preface s.client client s.stream
     (records (comes_under client server key) 0 w.bodies) s.prefaced.sixteen sixteen
     (sym s.prefaced.whole ∙ w.whole) in
-    let hands = subst (λ (x : Locks).
+    let hands = subst (λ (x : DeskKeys).
     HandsBy by (comes_under s.client server x.hall)
     (option_map (comes_under s.client server) x.entry) s.stream handed) (sym same) s.hands in
     let here = subst (λ (x : List ℕ).
@@ -196,20 +196,20 @@ record Answered (key client server answered sent : List ℕ) : Type 0 where
   gives : joined bodies ≡ answered
   whole : sent ≡ records (goes_under client server key) 0 bodies
 
-one_lock : (l locks : Locks) → Locked locks ≡ Locked l → locks ≡ l
+one_lock : (l locks : DeskKeys) → Locked locks ≡ Locked l → locks ≡ l
 one_lock l locks e = cc
 
-answered_by : (k who : Holder) (locks : Locks) (key client server sent answered out : List ℕ)
+answered_by : (k who : Holder) (locks : DeskKeys) (key client server sent answered out : List ℕ)
     → k ≡ who → key_for locks who ≡ Some key → length client ≡ 16
     → (stream : List ℕ) → sent ≡ preface_of client ++ stream
-    → (l : Locks) × (Locked locks ≡ Locked l) × IsSentSealed l server sent answered out k
+    → (l : DeskKeys) × (Locked locks ≡ Locked l) × IsSentSealed l server sent answered out k
     → Answered key client server answered out
 answered_by k who locks key client server sent answered out by is sixteen stream front (l, d, s) =
     let one = one_preface s.client client s.stream stream s.prefaced.sixteen sixteen
     (sym s.prefaced.whole ∙ front) in
     let same = one_lock l locks d in
     let mine : key_for l k ≡ Some key =
-    ap (λ (x : Locks). key_for x k) (sym same) ∙ ap (λ (x : Holder). key_for locks x) by ∙ is in
+    ap (λ (x : DeskKeys). key_for x k) (sym same) ∙ ap (λ (x : Holder). key_for locks x) by ∙ is in
     let both : Some s.secret ≡ Some key = sym s.held ∙ mine in
     let secret : s.secret ≡ key = cc in
     record {
@@ -227,7 +227,7 @@ by_who k who (inl h) = absurd cc
 by_who k who (inr h) = cc
 
 -- where nobody is let in, the caller was given nothing
-nobody : (who : Holder) (locks l : Locks) (key client server sent asked handed : List ℕ)
+nobody : (who : Holder) (locks l : DeskKeys) (key client server sent asked handed : List ℕ)
     → locks ≡ l → length client ≡ 16 → key_for locks who ≡ Some key
     → IsNotTheHalls who locks client server sent → Went key client server asked sent
     → handed ≡ [] → IsNobody l server sent → handed ≡ asked
@@ -241,7 +241,7 @@ nobody who locks l key client server sent asked handed same sixteen is apart w n
     none ∙ (sealed_side who None l locks key client server sent asked [] same sixteen is apart w
     s).0
 
-desk_side : (w : Option Caller) (who : Holder) (locks : Locks)
+desk_side : (w : Option Caller) (who : Holder) (locks : DeskKeys)
     (key client server sent asked handed answered out : List ℕ) → length client ≡ 16
     → key_for locks who ≡ Some key → IsNotTheHalls who locks client server sent
     → Went key client server asked sent → Admits (Locked locks) server sent handed w
@@ -249,7 +249,7 @@ desk_side : (w : Option Caller) (who : Holder) (locks : Locks)
     → (handed ≡ asked) × Answered key client server answered out
 desk_side (Some Anyone) who locks key client server sent asked handed answered out sixteen is apart
     w a g = absurd cc
-desk_side (Some Passer) who locks key client server sent asked handed answered out sixteen is apart
+desk_side (Some Visitor) who locks key client server sent asked handed answered out sixteen is apart
     w a g =
     absurd (sealed_no client (records (comes_under client server key) 0 w.bodies)
     (subst (λ (s : List ℕ). IsUnsealed s) w.whole a.3))
@@ -268,7 +268,7 @@ desk_side None who locks key client server sent asked handed answered out sixtee
 )
 
 -- once something was asked, the desk knows whose key it is
-known_as : (w : Option Caller) (who : Holder) (locks : Locks)
+known_as : (w : Option Caller) (who : Holder) (locks : DeskKeys)
     (key client server sent asked handed : List ℕ) → length client ≡ 16
     → key_for locks who ≡ Some key → IsNotTheHalls who locks client server sent
     → Went key client server asked sent → Admits (Locked locks) server sent handed w
@@ -276,7 +276,7 @@ known_as : (w : Option Caller) (who : Holder) (locks : Locks)
 known_as (Some Anyone) who locks key client server sent asked handed sixteen is apart w a same
     some =
     absurd cc
-known_as (Some Passer) who locks key client server sent asked handed sixteen is apart w a same
+known_as (Some Visitor) who locks key client server sent asked handed sixteen is apart w a same
     some =
     absurd (sealed_no client (records (comes_under client server key) 0 w.bodies)
     (subst (λ (s : List ℕ). IsUnsealed s) w.whole a.3))
@@ -290,7 +290,7 @@ known_as None who locks key client server sent asked handed sixteen is apart w a
 
 -- ---- what the caller heard
 
-opened_is : (key client server answered out heard : List ℕ) (fault : Option OpenFault)
+opened_is : (key client server answered out heard : List ℕ) (fault : Option StreamFault)
     → length server ≡ 16 → Answered key client server answered out
     → ends.IsOpenedTo key client (preface_of server ++ out) heard fault
     → (heard ≡ answered) × (fault ≡ None)
@@ -332,11 +332,11 @@ both_hear caller desk asked handed answered heard m =
     ends.IsSent (Some m.key) m.client (preface_of m.server ++ m.back) asked s) all spoken.gone in
     let w = went m.key m.client m.server asked m.sent m.back m.random.of_server gone in
     let admitted = admits desk m.sent handed m.stands in
-    let here = subst (λ (d : Doors). Admits d m.server m.sent handed (caller_of desk)) m.doors
+    let here = subst (λ (d : Access). Admits d m.server m.sent handed (caller_of desk)) m.doors
     (subst (λ (r : List ℕ). Admits desk.doors r m.sent handed (caller_of desk)) m.desk_random
     admitted) in
     let given = sends_what_is_given desk m.sent handed answered m.back m.stands m.gone in
-    let out = subst (λ (d : Doors). IsSent d m.server m.sent (caller_of desk) answered m.back)
+    let out = subst (λ (d : Access). IsSent d m.server m.sent (caller_of desk) answered m.back)
     m.doors (subst (λ (r : List ℕ). IsSent desk.doors r m.sent (caller_of desk) answered m.back)
     m.desk_random given) in
     let d = desk_side (caller_of desk) m.who m.locks m.key m.client m.server m.sent asked handed

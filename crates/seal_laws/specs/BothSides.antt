@@ -3,20 +3,20 @@
 use Rattle.std.specs.Prelude.{◌≡◌, ◌≢◌, ℕ, false, List, [], ◌∷◌, ◌++◌, Some, None, replicate}
 use Rattle.seal.specs.Records.{IsBody, preface_of}
 use Rattle.seal.specs.Streams.{BeginsRecord}
-use Rattle.sealed.specs.declared.callers.Doors.TheVariants.{Locked}
+use Rattle.sealed.specs.declared.callers.Access.TheVariants.{Locked}
 use Rattle.sealed.specs.declared.callers.Holder.{Holder}
 use Rattle.sealed.specs.declared.callers.Holder.TheVariants.{Hall, Entry}
-use Rattle.sealed.specs.declared.callers.Locks.{Locks}
+use Rattle.sealed.specs.declared.callers.DeskKeys.{DeskKeys}
 use Rattle.sealed.specs.Admitting.{comes_under}
-use Rattle.sealed.specs.Calls.{CalledOf, Stands, caller_of, held_by}
+use Rattle.sealed.specs.ServerSeals.{ServerSealOf, Stands, caller_of, held_by}
 use Rattle.sealed.specs.Sent.{HasSent, key_for}
-use Rattle.sealed.specs.ends.Calls.{CallOf, trouble_of}
+use Rattle.sealed.specs.ends.ClientStreams.{ClientStreamOf, trouble_of}
 use Rattle.sealed.specs.ends.Laws.{IsCall}
 use Rattle.seal_laws.specs.Keys.{AreRandom}
 
 -- under the entry key: what the caller sent after its preface does not begin with a record that
 -- fits under the hall's key too
-abbrev pub IsNotTheHalls : Holder → Locks → List ℕ → List ℕ → List ℕ → Type 0
+abbrev pub IsNotTheHalls : Holder → DeskKeys → List ℕ → List ℕ → List ℕ → Type 0
 IsNotTheHalls Hall locks client server sent = Unit {0}
 IsNotTheHalls Entry locks client server sent =
     (stream : List ℕ) → sent ≡ preface_of client ++ stream
@@ -24,9 +24,9 @@ IsNotTheHalls Entry locks client server sent =
 
 -- a caller and a desk, as the calls of each side have led to it: all that the caller sent came to
 -- the desk, and the desk's preface and all that it sent came to the caller
-pub record AreConnected (caller : CallOf) (desk : CalledOf)
+pub record AreConnected (caller : ClientStreamOf) (desk : ServerSealOf)
     (asked handed answered heard : List ℕ) : Type 0 where
-  pub locks : Locks
+  pub locks : DeskKeys
   pub who : Holder
   pub key : List ℕ
   pub client : List ℕ
@@ -47,7 +47,7 @@ pub record AreConnected (caller : CallOf) (desk : CalledOf)
 
 -- Each side is handed on just what the other was given. The caller finds nothing wrong, and the
 -- desk knows whose key it is, once something was asked.
-pub record HearEachOther (caller : CallOf) (desk : CalledOf) (who : Holder)
+pub record HearEachOther (caller : ClientStreamOf) (desk : ServerSealOf) (who : Holder)
     (asked handed answered heard : List ℕ) : Type 0 where
   pub questions : handed ≡ asked
   pub answers : heard ≡ answered
@@ -56,20 +56,20 @@ pub record HearEachOther (caller : CallOf) (desk : CalledOf) (who : Holder)
 
 abbrev pub BothSidesHear : Type 0
 BothSidesHear =
-    (caller : CallOf) (desk : CalledOf) (asked handed answered heard : List ℕ)
+    (caller : ClientStreamOf) (desk : ServerSealOf) (asked handed answered heard : List ℕ)
     → (m : AreConnected caller desk asked handed answered heard)
     → HearEachOther caller desk m.who asked handed answered heard
 
 -- whatever one body is asked and another answered, there is such a connection under the hall's key
 abbrev pub SidesAreConnected : Type 0
 SidesAreConnected =
-    (locks : Locks) (client server question answer : List ℕ) → AreRandom client server
+    (locks : DeskKeys) (client server question answer : List ℕ) → AreRandom client server
     → IsBody 0 question → IsBody 0 answer
-    → (caller : CallOf) × (desk : CalledOf)
+    → (caller : ClientStreamOf) × (desk : ServerSealOf)
     × AreConnected caller desk question question answer answer
 
 -- a desk with two keys, and the random bytes of a connection
-abbrev pub two_locks : Locks
+abbrev pub two_locks : DeskKeys
 two_locks = record {
   hall = replicate 32 1;
   entry = Some (replicate 32 2);
@@ -87,5 +87,5 @@ fours = replicate 16 4
 abbrev pub EntryIsConnected : Type 0
 EntryIsConnected =
     (answer : List ℕ) → IsBody 0 answer
-    → (caller : CallOf) × (desk : CalledOf)
+    → (caller : ClientStreamOf) × (desk : ServerSealOf)
     × (m : AreConnected caller desk (7 ∷ []) (7 ∷ []) answer answer) × (m.who ≡ Entry)

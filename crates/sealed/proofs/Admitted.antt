@@ -5,15 +5,16 @@ use Rattle.std.specs.Prelude.{IfSome, option_map}
 use Rattle.seal.specs.declared.channel.Channel.{Channel}
 use Rattle.seal.proofs.Reading.{reads_all}
 use Rattle.sealed.specs.declared.callers.Caller.{Caller}
-use Rattle.sealed.specs.declared.callers.Caller.TheVariants.{Anyone, Passer}
+use Rattle.sealed.specs.declared.callers.Caller.TheVariants.{Anyone, Visitor}
 use Rattle.sealed.specs.declared.callers.Caller.TheVariants as caller
 use Rattle.sealed.specs.declared.callers.Holder.{Holder}
 use Rattle.sealed.specs.declared.callers.Holder.TheVariants.{Hall, Entry}
-use Rattle.sealed.specs.declared.callers.Refusal.{Refusal}
-use Rattle.sealed.specs.declared.callers.Refusal.TheVariants.{Unsealed, NoMemory}
+use Rattle.sealed.specs.declared.callers.StreamRefusal.{StreamRefusal}
+use Rattle.sealed.specs.declared.callers.StreamRefusal.TheVariants.{Unsealed, NoMemory}
 use Rattle.sealed.specs.Admitting.{Admits, IsSealed, comes_under}
-use Rattle.sealed.specs.Calls.{CalledOf, StandsAt, StandsPassing, StandsReading, StandsTrying}
-use Rattle.sealed.specs.Calls.{caller_by, caller_of, held_by}
+use Rattle.sealed.specs.ServerSeals.{ServerSealOf, StandsAt, StandsPassing, StandsReading}
+use Rattle.sealed.specs.ServerSeals.{StandsTrying}
+use Rattle.sealed.specs.ServerSeals.{caller_by, caller_of, held_by}
 use Rattle.sealed.specs.Trials.{Hands, HandsBy, ReadsAll, TrialOf, TriesAs, comes_by, entry_by}
 use Rattle.sealed.specs.Tunnels.{TunnelOf}
 
@@ -47,7 +48,7 @@ hands_by (Some Entry) hall entry s x t is are q = (
   hands_of hall t.hall s [] is q.4,
 )
 
-admits_holder : (holder : Option Holder) (c : CalledOf) (t : TrialOf) (came handed : List ℕ)
+admits_holder : (holder : Option Holder) (c : ServerSealOf) (t : TrialOf) (came handed : List ℕ)
     → t.holder ≡ holder → StandsTrying c t came handed
     → Admits c.doors c.random came handed (option_map held_by holder)
 admits_holder None c t came handed is h =
@@ -75,20 +76,21 @@ admits_holder (Some key) c t came handed is h =
     } in
     (h.locks, h.doors, sealed)
 
-admits_passing : (p : Option Caller) (c : CalledOf) (came handed : List ℕ)
+admits_passing : (p : Option Caller) (c : ServerSealOf) (came handed : List ℕ)
     → StandsPassing c p came handed → Admits c.doors c.random came handed p
 admits_passing (Some Anyone) c came handed h = h
-admits_passing (Some Passer) c came handed h = h
+admits_passing (Some Visitor) c came handed h = h
 admits_passing (Some (caller.Holder key)) c came handed h = absurd h
 admits_passing None c came handed h = (h.0, h.1, h.4, inl h.2)
 
-admits_trial : (o : Option TrialOf) (c : CalledOf) (came handed : List ℕ) → c.trial ≡ o
+admits_trial : (o : Option TrialOf) (c : ServerSealOf) (came handed : List ℕ) → c.trial ≡ o
     → StandsReading c o came handed
     → Admits c.doors c.random came handed (caller_by o c.passing)
 admits_trial None c came handed is h = admits_passing c.passing c came handed h
 admits_trial (Some t) c came handed is h = admits_holder t.holder c t came handed refl h
 
-admits_at : (r : Option Refusal) (c : CalledOf) (came handed : List ℕ) → StandsAt r c came handed
+admits_at : (r : Option StreamRefusal) (c : ServerSealOf) (came handed : List ℕ)
+    → StandsAt r c came handed
     → Admits c.doors c.random came handed (caller_of c)
 admits_at None c came handed h = admits_trial c.trial c came handed refl h
 admits_at (Some Unsealed) c came handed h =
@@ -96,6 +98,6 @@ admits_at (Some Unsealed) c came handed h =
     (h.locks, h.doors, h.nothing, inr (inl (h.shut, h.unsealed)))
 admits_at (Some NoMemory) c came handed h = absurd h
 
-pub admits : (c : CalledOf) (came handed : List ℕ) → StandsAt c.refusal c came handed
+pub admits : (c : ServerSealOf) (came handed : List ℕ) → StandsAt c.refusal c came handed
     → Admits c.doors c.random came handed (caller_of c)
 admits c came handed h = admits_at c.refusal c came handed h

@@ -1,26 +1,19 @@
 -- Connections at their beginning have read nothing.
 use Rattle.std.proofs.Common.{◌≡◌, ℕ, List, [], Option, Some, None, refl, arith, inl}
 use Rattle.std.specs.Prelude.{IfSome, option_map}
-use Rattle.seal.specs.declared.channel.Direction.{Direction}
 use Rattle.seal.proofs.Reading.{reads_none}
-use Rattle.sealed.specs.declared.callers.Locks.{Locks}
+use Rattle.sealed.specs.declared.callers.DeskKeys.{DeskKeys}
 use Rattle.sealed.specs.Admitting.{comes_under, goes_under}
-use Rattle.sealed.specs.Calls.{IsOfLocks}
+use Rattle.sealed.specs.ServerSeals.{IsOfLocks}
 use Rattle.sealed.specs.Sent.{IsNew}
 use Rattle.sealed.specs.Trials.{ReadsAll, Tries, comes_by, entry_of, fresh_trial, goes_by}
-use Rattle.sealed.specs.Tunnels.{channel_of, fresh_tunnel}
-
-pub reads_fresh : (key : List ℕ) (comes : Direction) → ReadsAll (fresh_tunnel key comes) [] []
-reads_fresh key comes =
-    reads_none (channel_of key comes) 0 [] (fresh_tunnel key comes).opener refl refl
-    (inl (omega arith)) refl
 
 entry_fresh : (entry : Option (List ℕ)) (client server : List ℕ)
     → IfSome (entry_of entry client server) (λ e. ReadsAll e [] [])
 entry_fresh None client server = tt
 entry_fresh (Some key) client server = reads_none _ 0 [] _ refl refl (inl (omega arith)) refl
 
-pub tries_fresh : (locks : Locks) (client server : List ℕ)
+pub tries_fresh : (locks : DeskKeys) (client server : List ℕ)
     → Tries [] [] (fresh_trial locks client server)
 tries_fresh locks client server = (
   refl,
@@ -40,7 +33,7 @@ entry_goes : (entry : Option (List ℕ)) (client server : List ℕ)
 entry_goes None client server = refl
 entry_goes (Some key) client server = refl
 
-pub fresh_of_locks : (locks : Locks) (client server : List ℕ)
+pub fresh_of_locks : (locks : DeskKeys) (client server : List ℕ)
     → IsOfLocks locks client server (fresh_trial locks client server)
 fresh_of_locks locks client server = record {
   hall = refl;
@@ -55,7 +48,7 @@ entry_new None client server = tt
 entry_new (Some key) client server = refl
 
 -- and have sent nothing
-pub fresh_is_new : (locks : Locks) (client server : List ℕ)
+pub fresh_is_new : (locks : DeskKeys) (client server : List ℕ)
     → IsNew (fresh_trial locks client server)
 fresh_is_new locks client server =
     record { hall = refl; entry = entry_new locks.entry client server }

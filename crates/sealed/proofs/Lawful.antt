@@ -9,17 +9,17 @@ use Rattle.seal.specs.Records.{AreBodies, records}
 use Rattle.seal.specs.Sealing.{Sealing}
 use Rattle.seal.specs.Streams.{joined}
 use Rattle.seal.proofs.Reading.{bodies-append, records-append}
-use Rattle.sealed.specs.Callings.{CallingOf, IsOpened, StandsBy, StandsClosed}
+use Rattle.sealed.specs.ClientSeals.{ClientSealOf, IsOpened, StandsBy, StandsClosed}
 use Rattle.sealed.specs.Laws.{HolderIsAdmitted, SealsOn}
 use Rattle.sealed.specs.Tunnels.{TunnelOf}
 use Rattle.sealed.proofs.Admitted.{hands_of}
 
-opens_closed : (b : Bool) (c : CallingOf) (came handed : List ℕ) → StandsClosed b c came handed
+opens_closed : (b : Bool) (c : ClientSealOf) (came handed : List ℕ) → StandsClosed b c came handed
     → handed ≡ []
 opens_closed true c came handed h = h.1
 opens_closed false c came handed h = h.2
 
-pub opens : (o : Option TunnelOf) (c : CallingOf) (came handed : List ℕ)
+pub opens : (o : Option TunnelOf) (c : ClientSealOf) (came handed : List ℕ)
     → StandsBy o c came handed → (handed ≡ []) ⊎ IsOpened c.key c.random came handed
 opens None c came handed h = inl (opens_closed c.unsealed c came handed h)
 opens (Some t) c came handed h =

@@ -1,27 +1,28 @@
 -- The side of whoever calls a desk, as more of the stream comes.
 use Rattle.std.proofs.Common.{◌≡◌, ℕ, List, [], ◌++◌, length, drop, true, false, Bool}
-use Rattle.std.proofs.Common.{Option, Some, None, refl, sym, ap, subst, ◌∙◌}
+use Rattle.std.proofs.Common.{Option, Some, None, sym, ap, subst, ◌∙◌}
 use Rattle.std.proofs.lemmas.List.{append-nil}
 use Rattle.seal.specs.declared.channel.Direction.TheVariants.{ToClient}
 use Rattle.seal.specs.Records.{key_of, preface_of}
 use Rattle.seal.specs.Streams.{Fed}
-use Rattle.sealed.specs.Callings.{CallingOf, Receives, SendsOn, Stands, StandsBy, StandsClosed}
-use Rattle.sealed.specs.Fronts.{IsShort, IsUnsealed}
+use Rattle.sealed.specs.ClientSeals.{ClientSealOf, Receives, SendsOn, Stands, StandsBy}
+use Rattle.sealed.specs.ClientSeals.{StandsClosed}
+use Rattle.sealed.specs.Fronts.{IsUnsealed}
 use Rattle.sealed.specs.Trials.{ReadsAll}
 use Rattle.sealed.specs.Tunnels.{TunnelOf, channel_of}
 use Rattle.sealed.specs.model.Opening.{OpensTo}
 use Rattle.sealed.specs.model.Steps.{IsHeld}
-use Rattle.sealed.proofs.Fronting.{all_held, held_and_rest, prefaced_first, prefaced_more}
+use Rattle.sealed.proofs.Fronting.{held_and_rest, prefaced_first, prefaced_more}
 use Rattle.sealed.proofs.Fronting.{unsealed_more}
 use Rattle.sealed.proofs.Trying.{fed_all, fed_same}
 
-is_closed : (b : Bool) (c : CallingOf) (came handed : List ℕ) → c.tunnel ≡ None → c.unsealed ≡ b
+is_closed : (b : Bool) (c : ClientSealOf) (came handed : List ℕ) → c.tunnel ≡ None → c.unsealed ≡ b
     → Stands c came handed → StandsClosed b c came handed
 is_closed b c came handed none is h =
     subst (λ (u : Bool). StandsClosed u c came handed) is
     (subst (λ (t : Option TunnelOf). StandsBy t c came handed) none h)
 
-closed_is : (b : Bool) (c : CallingOf) (came handed : List ℕ) → c.tunnel ≡ None → c.unsealed ≡ b
+closed_is : (b : Bool) (c : ClientSealOf) (came handed : List ℕ) → c.tunnel ≡ None → c.unsealed ≡ b
     → StandsClosed b c came handed → Stands c came handed
 closed_is b c came handed none is h =
     subst (λ (t : Option TunnelOf). StandsBy t c came handed) (sym none)
@@ -33,24 +34,9 @@ sends_none None None was is = tt
 sends_none None (Some u) was is = absurd cc
 sends_none (Some t) n was is = absurd cc
 
--- it isn't known yet what the stream is
-pub receives_short : (old new : CallingOf) (piece : List ℕ) (added : ℕ) → old.tunnel ≡ None
-    → old.unsealed ≡ false → new.tunnel ≡ None → new.unsealed ≡ false → new.key ≡ old.key
-    → new.random ≡ old.random → IsHeld piece old.held new.held added → IsShort new.held
-    → Receives piece old new []
-receives_short old new piece added o1 o2 n1 n2 key random held short = record {
-  key = key;
-  random = random;
-  sends = sends_none old.tunnel new.tunnel o1 n1;
-  stands = λ came handed h.
-      let q = is_closed false old came handed o1 o2 h in
-      let all = all_held came piece old.held new.held added held q.1 short in
-      closed_is false new (came ++ piece) (handed ++ []) n1 n2
-      (subst (λ (s : List ℕ). IsShort s) all short, all, append-nil handed ∙ q.2);
-}
-
 -- the stream is not sealed
-pub receives_unsealed : (old mid new : CallingOf) (piece : List ℕ) (added : ℕ) → old.tunnel ≡ None
+pub receives_unsealed : (old mid new : ClientSealOf) (piece : List ℕ) (added : ℕ)
+    → old.tunnel ≡ None
     → old.unsealed ≡ false → new.tunnel ≡ None → new.unsealed ≡ true → new.key ≡ old.key
     → new.random ≡ old.random → IsHeld piece old.held mid.held added → IsUnsealed mid.held
     → Receives piece old new []
@@ -66,28 +52,15 @@ receives_unsealed old mid new piece added o1 o2 n1 n2 key random held unsealed =
       (subst (λ (s : List ℕ). IsUnsealed s) (sym whole) is, append-nil handed ∙ q.2);
 }
 
--- nothing is handed on of a stream that is not sealed
-pub receives_more_unsealed : (c : CallingOf) (piece : List ℕ) → c.tunnel ≡ None
-    → c.unsealed ≡ true → Receives piece c c []
-receives_more_unsealed c piece none is = record {
-  key = refl;
-  random = refl;
-  sends = sends_none c.tunnel c.tunnel none none;
-  stands = λ came handed h.
-      let q = is_closed true c came handed none is h in
-      closed_is true c (came ++ piece) (handed ++ []) none is
-      (unsealed_more came piece q.0, append-nil handed ∙ q.1);
-}
-
 -- the first piece of a sealed stream
-pub receives_first : (old mid new : CallingOf) (piece server more : List ℕ) (added : ℕ)
+pub receives_first : (old mid new : ClientSealOf) (piece server more : List ℕ) (added : ℕ)
     → old.tunnel ≡ None → old.unsealed ≡ false → mid.key ≡ old.key → mid.random ≡ old.random
     → IsHeld piece old.held mid.held added → length server ≡ 16 → mid.held ≡ preface_of server
     → OpensTo server (drop added piece) mid new more → Receives piece old new more
 receives_first old mid new piece server more added o1 o2 key random held sixteen is opens =
-    let new_key : new.key ≡ mid.key = ap (λ (c : CallingOf). c.key) opens.1 in
-    let new_random : new.random ≡ mid.random = ap (λ (c : CallingOf). c.random) opens.1 in
-    let tunnel : new.tunnel ≡ Some opens.0 = ap (λ (c : CallingOf). c.tunnel) opens.1 in
+    let new_key : new.key ≡ mid.key = ap (λ (c : ClientSealOf). c.key) opens.1 in
+    let new_random : new.random ≡ mid.random = ap (λ (c : ClientSealOf). c.random) opens.1 in
+    let tunnel : new.tunnel ≡ Some opens.0 = ap (λ (c : ClientSealOf). c.tunnel) opens.1 in
     let same : channel_of (key_of mid.key mid.random server) ToClient
     ≡ channel_of (key_of new.key new.random server) ToClient =
     ap (λ (k : List ℕ). channel_of (key_of k mid.random server) ToClient) (sym new_key)
@@ -114,7 +87,7 @@ receives_first old mid new piece server more added o1 o2 key random held sixteen
     }
 
 -- one more piece of it
-pub receives_more : (old new : CallingOf) (t u : TunnelOf) (piece more : List ℕ)
+pub receives_more : (old new : ClientSealOf) (t u : TunnelOf) (piece more : List ℕ)
     → old.tunnel ≡ Some t → new.tunnel ≡ Some u → new.key ≡ old.key → new.random ≡ old.random
     → Fed piece t.opener u.opener more → u.sealer ≡ t.sealer → Receives piece old new more
 receives_more old new t u piece more o1 n1 key random fed sealer = record {

@@ -6,18 +6,18 @@ use Rattle.seal.specs.declared.channel.Channel.{Channel}
 use Rattle.seal.specs.Records.{records}
 use Rattle.seal.specs.Sealing.{Sealing}
 use Rattle.sealed.specs.declared.callers.Caller.{Caller}
-use Rattle.sealed.specs.declared.callers.Caller.TheVariants.{Anyone, Passer}
+use Rattle.sealed.specs.declared.callers.Caller.TheVariants.{Anyone, Visitor}
 use Rattle.sealed.specs.declared.callers.Caller.TheVariants as caller
 use Rattle.sealed.specs.declared.callers.Holder.{Holder}
 use Rattle.sealed.specs.declared.callers.Holder.TheVariants.{Hall, Entry}
-use Rattle.sealed.specs.declared.callers.Locks.{Locks}
-use Rattle.sealed.specs.declared.callers.Refusal.{Refusal}
-use Rattle.sealed.specs.declared.callers.Refusal.TheVariants.{Unsealed, NoMemory}
+use Rattle.sealed.specs.declared.callers.DeskKeys.{DeskKeys}
+use Rattle.sealed.specs.declared.callers.StreamRefusal.{StreamRefusal}
+use Rattle.sealed.specs.declared.callers.StreamRefusal.TheVariants.{Unsealed, NoMemory}
 use Rattle.sealed.specs.Admitting.{goes_under}
 use Rattle.sealed.specs.Fronts.{IsPrefaced}
-use Rattle.sealed.specs.Calls.{CalledOf, SendsPlain, Stands, StandsAt, StandsPassing}
-use Rattle.sealed.specs.Calls.{StandsReading, StandsTrying, IsOfLocks, SendsBy, caller_by}
-use Rattle.sealed.specs.Calls.{KeepsCaller, caller_of, held_by}
+use Rattle.sealed.specs.ServerSeals.{ServerSealOf, SendsPlain, Stands, StandsAt, StandsPassing}
+use Rattle.sealed.specs.ServerSeals.{StandsReading, StandsTrying, IsOfLocks, SendsBy, caller_by}
+use Rattle.sealed.specs.ServerSeals.{KeepsCaller, caller_of, held_by}
 use Rattle.sealed.specs.Sent.{HasSent, IsNew, IsSent, IsSentSealed, KeepsSent, SealingGoesOn}
 use Rattle.sealed.specs.Sent.{SealingReads, SendsWhatIsGiven, SentAs, SentBy, SentEntry, SentOver}
 use Rattle.sealed.specs.Sent.{SentPlain, from_start, key_for}
@@ -89,7 +89,7 @@ tried_as (Some Entry) t u given sent is same h =
     (entry_same t.entry u.entry given sent same.entry_sends h)
 
 -- one more piece of a sealed stream
-pub keeps_tried : (old new : CalledOf) (t u : TrialOf) → old.trial ≡ Some t → new.trial ≡ Some u
+pub keeps_tried : (old new : ServerSealOf) (t u : TrialOf) → old.trial ≡ Some t → new.trial ≡ Some u
     → IsSameTrial t u → KeepsSent old new
 keeps_tried old new t u was is same given sent h =
     let q = subst (λ (o : Option TrialOf). SentBy o old given sent) was h in
@@ -104,7 +104,7 @@ held_still t u same (Some k) was h =
     (same.stays (subst (λ (p : Option Holder). IsSome p) (sym was) refl) ∙ was)
 
 -- whoever was known to call does so still
-pub keeps_caller : (old new : CalledOf) (t u : TrialOf) → old.trial ≡ Some t
+pub keeps_caller : (old new : ServerSealOf) (t u : TrialOf) → old.trial ≡ Some t
     → new.trial ≡ Some u → IsSameTrial t u → KeepsCaller old new
 keeps_caller old new t u was is same h =
     let some = subst (λ (o : Option TrialOf). IsSome (caller_by o old.passing)) was h in
@@ -113,7 +113,7 @@ keeps_caller old new t u was is same h =
     ∙ sym (ap (λ (o : Option TrialOf). caller_by o old.passing) was)
 
 -- the first piece of one
-pub keeps_opened : (old new : CalledOf) (t : TrialOf) → old.trial ≡ None → old.passing ≡ None
+pub keeps_opened : (old new : ServerSealOf) (t : TrialOf) → old.trial ≡ None → old.passing ≡ None
     → new.trial ≡ Some t → IsNew t → KeepsSent old new
 keeps_opened old new t untried nobody is fresh given sent h =
     let q = subst (λ (p : Option Caller). SentPlain p given sent) nobody
@@ -126,27 +126,27 @@ plain_shown : (p : Option Caller) (given sent : List ℕ) → SentPlain p given 
 plain_shown None given sent h = h.1 ∙ sym h.0
 plain_shown (Some who) given sent h = h
 
-shown_by : (o : Option TrialOf) (old new : CalledOf) (given sent : List ℕ)
-    → new.passing ≡ Some Passer → SentBy o old given sent → SentBy o new given sent
+shown_by : (o : Option TrialOf) (old new : ServerSealOf) (given sent : List ℕ)
+    → new.passing ≡ Some Visitor → SentBy o old given sent → SentBy o new given sent
 shown_by None old new given sent is h =
     subst (λ (p : Option Caller). SentPlain p given sent) (sym is)
     (plain_shown old.passing given sent h)
 shown_by (Some t) old new given sent is h = h
 
 -- a stream is let pass
-pub keeps_passed : (old new : CalledOf) → new.trial ≡ old.trial → new.passing ≡ Some Passer
+pub keeps_passed : (old new : ServerSealOf) → new.trial ≡ old.trial → new.passing ≡ Some Visitor
     → KeepsSent old new
 keeps_passed old new same is given sent h =
     subst (λ (o : Option TrialOf). SentBy o new given sent) (sym same)
     (shown_by old.trial old new given sent is h)
 
-same_by : (o : Option TrialOf) (old new : CalledOf) (given sent : List ℕ)
+same_by : (o : Option TrialOf) (old new : ServerSealOf) (given sent : List ℕ)
     → new.passing ≡ old.passing → SentBy o old given sent → SentBy o new given sent
 same_by None old new given sent is h =
     subst (λ (p : Option Caller). SentPlain p given sent) (sym is) h
 same_by (Some t) old new given sent is h = h
 
-pub keeps_same : (old new : CalledOf) → new.trial ≡ old.trial → new.passing ≡ old.passing
+pub keeps_same : (old new : ServerSealOf) → new.trial ≡ old.trial → new.passing ≡ old.passing
     → KeepsSent old new
 keeps_same old new same is given sent h =
     subst (λ (o : Option TrialOf). SentBy o new given sent) (sym same)
@@ -157,7 +157,7 @@ keeps_same old new same is given sent h =
 -- the trial is of the same keys, and has read the same
 record KeepsReads (t u : TrialOf) : Type 0 where
   holder : u.holder ≡ t.holder
-  keys : (locks : Locks) (client server : List ℕ) → IsOfLocks locks client server t
+  keys : (locks : DeskKeys) (client server : List ℕ) → IsOfLocks locks client server t
       → IsOfLocks locks client server u
   tries : (s x : List ℕ) → Tries s x t → Tries s x u
 
@@ -233,7 +233,7 @@ reads_by None t u bytes sent is h = reads_same t u h.1
 reads_by (Some Hall) t u bytes sent is h = hall_reads t u h.0 bytes sent is h.1 h.2
 reads_by (Some Entry) t u bytes sent is h = reads_entry t.entry t u bytes sent is refl h
 
-reads_at : (r : Option Refusal) (c : CalledOf) (t u : TrialOf) (came handed : List ℕ)
+reads_at : (r : Option StreamRefusal) (c : ServerSealOf) (t u : TrialOf) (came handed : List ℕ)
     → c.trial ≡ Some t → KeepsReads t u → StandsAt r c came handed
     → StandsAt r (record c { trial = Some u }) came handed
 reads_at None c t u came handed is keeps h =
@@ -259,18 +259,19 @@ reads_at (Some Unsealed) c t u came handed is keeps h = record {
 }
 reads_at (Some NoMemory) c t u came handed is keeps h = absurd h
 
-plain_new : (p : Option Caller) (bytes sent : List ℕ) (c new : CalledOf)
+plain_new : (p : Option Caller) (bytes sent : List ℕ) (c new : ServerSealOf)
     → SendsPlain p bytes c new sent → new ≡ c
 plain_new None bytes sent c new h = h.1
 plain_new (Some who) bytes sent c new h = h.1
 
-sealing_by : (o : Option TrialOf) (c new : CalledOf) (bytes sent came handed : List ℕ)
+sealing_by : (o : Option TrialOf) (c new : ServerSealOf) (bytes sent came handed : List ℕ)
     → c.trial ≡ o → SendsBy o bytes c new sent → Stands c came handed → Stands new came handed
 sealing_by None c new bytes sent came handed is h stands =
-    subst (λ (d : CalledOf). Stands d came handed) (sym (plain_new c.passing bytes sent c new h))
+    subst (λ (d : ServerSealOf). Stands d came handed)
+    (sym (plain_new c.passing bytes sent c new h))
     stands
 sealing_by (Some t) c new bytes sent came handed is h stands =
-    subst (λ (d : CalledOf). Stands d came handed) (sym h.2)
+    subst (λ (d : ServerSealOf). Stands d came handed) (sym h.2)
     (reads_at c.refusal c t h.0 came handed is (reads_by t.holder t h.0 bytes sent refl h.1)
     stands)
 
@@ -314,24 +315,24 @@ more_as (Some Hall) t u bytes more given sent is h some s =
 more_as (Some Entry) t u bytes more given sent is h some s =
     entry_more t.entry t u bytes more given sent is refl h s
 
-more_plain : (p : Option Caller) (c new : CalledOf) (bytes more given sent : List ℕ)
+more_plain : (p : Option Caller) (c new : ServerSealOf) (bytes more given sent : List ℕ)
     → c.passing ≡ p → c.trial ≡ None → SendsPlain p bytes c new more → IsSome p
     → SentPlain p given sent → HasSent new (given ++ bytes) (sent ++ more)
 more_plain None c new bytes more given sent is none h some s = absurd cc
 more_plain (Some who) c new bytes more given sent is none h some s =
     let both : sent ++ more ≡ given ++ bytes =
     ap (λ (x : List ℕ). x ++ more) s ∙ ap (λ (x : List ℕ). given ++ x) h.0 in
-    subst (λ (d : CalledOf). HasSent d (given ++ bytes) (sent ++ more)) (sym h.1)
+    subst (λ (d : ServerSealOf). HasSent d (given ++ bytes) (sent ++ more)) (sym h.1)
     (subst (λ (o : Option TrialOf). SentBy o c (given ++ bytes) (sent ++ more)) (sym none)
     (subst (λ (p : Option Caller). SentPlain p (given ++ bytes) (sent ++ more)) (sym is) both))
 
-more_by : (o : Option TrialOf) (c new : CalledOf) (bytes more given sent : List ℕ) → c.trial ≡ o
+more_by : (o : Option TrialOf) (c new : ServerSealOf) (bytes more given sent : List ℕ) → c.trial ≡ o
     → SendsBy o bytes c new more → IsSome (caller_by o c.passing) → SentBy o c given sent
     → HasSent new (given ++ bytes) (sent ++ more)
 more_by None c new bytes more given sent is h some s =
     more_plain c.passing c new bytes more given sent refl is h some s
 more_by (Some t) c new bytes more given sent is h some s =
-    subst (λ (d : CalledOf). HasSent d (given ++ bytes) (sent ++ more)) (sym h.2)
+    subst (λ (d : ServerSealOf). HasSent d (given ++ bytes) (sent ++ more)) (sym h.2)
     (more_as t.holder t h.0 bytes more given sent refl h.1 some s)
 
 pub sealing_goes_on : SealingGoesOn
@@ -340,7 +341,8 @@ sealing_goes_on c new bytes more given sent h some s =
 
 -- ---- what is sent is what was given
 
-sent_under : (locks : Locks) (server came given sent client stream secret : List ℕ) (key : Holder)
+sent_under : (locks : DeskKeys) (server came given sent client stream secret : List ℕ)
+    (key : Holder)
     (t : TunnelOf) → IsPrefaced came client stream → key_for locks key ≡ Some secret
     → goes_by t ≡ goes_under client server secret → SentOver t given sent
     → IsSentSealed locks server came given sent key
@@ -363,7 +365,7 @@ secret_of : (entry : Option (List ℕ)) (client server : List ℕ) (e : TunnelOf
 secret_of None client server e is = absurd cc
 secret_of (Some secret) client server e is = (secret, refl, cc)
 
-sent_holder : (o : Option Holder) (c : CalledOf) (t : TrialOf) (came handed given sent : List ℕ)
+sent_holder : (o : Option Holder) (c : ServerSealOf) (t : TrialOf) (came handed given sent : List ℕ)
     → t.holder ≡ o → StandsTrying c t came handed → SentAs o t given sent
     → IsSent c.doors c.random came (option_map held_by o) given sent
 sent_holder None c t came handed given sent is h s = (s.0, s.1)
@@ -384,15 +386,15 @@ sent_holder (Some Entry) c t came handed given sent is h s =
           found.1 found.2 over,
     )
 
-sent_passing : (p : Option Caller) (c : CalledOf) (came handed given sent : List ℕ)
+sent_passing : (p : Option Caller) (c : ServerSealOf) (came handed given sent : List ℕ)
     → StandsPassing c p came handed → SentPlain p given sent
     → IsSent c.doors c.random came p given sent
 sent_passing (Some Anyone) c came handed given sent h s = s
-sent_passing (Some Passer) c came handed given sent h s = s
+sent_passing (Some Visitor) c came handed given sent h s = s
 sent_passing (Some (caller.Holder key)) c came handed given sent h s = absurd h
 sent_passing None c came handed given sent h s = s
 
-sent_reading : (o : Option TrialOf) (c : CalledOf) (came handed given sent : List ℕ)
+sent_reading : (o : Option TrialOf) (c : ServerSealOf) (came handed given sent : List ℕ)
     → StandsReading c o came handed → SentBy o c given sent
     → IsSent c.doors c.random came (caller_by o c.passing) given sent
 sent_reading None c came handed given sent h s =
@@ -410,12 +412,12 @@ sent_nobody_plain : (p : Option Caller) (given sent : List ℕ) → p ≡ None �
 sent_nobody_plain None given sent is s = s
 sent_nobody_plain (Some who) given sent is s = absurd cc
 
-sent_nobody : (o : Option TrialOf) (c : CalledOf) (given sent : List ℕ)
+sent_nobody : (o : Option TrialOf) (c : ServerSealOf) (given sent : List ℕ)
     → caller_by o c.passing ≡ None → SentBy o c given sent → (given ≡ []) × (sent ≡ [])
 sent_nobody None c given sent is s = sent_nobody_plain c.passing given sent is s
 sent_nobody (Some t) c given sent is s = sent_nobody_as t.holder t given sent is s
 
-sent_at : (r : Option Refusal) (c : CalledOf) (came handed given sent : List ℕ)
+sent_at : (r : Option StreamRefusal) (c : ServerSealOf) (came handed given sent : List ℕ)
     → StandsAt r c came handed → HasSent c given sent
     → IsSent c.doors c.random came (caller_of c) given sent
 sent_at None c came handed given sent h s = sent_reading c.trial c came handed given sent h s

@@ -1,46 +1,46 @@
 -- A desk's side of a connection, as more of the stream comes.
 use Rattle.std.proofs.Common.{◌≡◌, ℕ, List, [], ◌++◌, length, drop, true, false}
 use Rattle.std.proofs.Common.{Bool, Option, Some, None, refl, sym, ap, subst, ◌∙◌}
-use Rattle.std.specs.Prelude.{IsSome, option_map}
-use Rattle.std.proofs.lemmas.List.{append-nil}
+use Rattle.std.specs.Prelude.{option_map}
 use Rattle.seal.specs.Records.{preface_of}
 use Rattle.seal.specs.Sealing.{Sealing}
 use Rattle.sealed.specs.declared.callers.Caller.{Caller}
-use Rattle.sealed.specs.declared.callers.Caller.TheVariants.{Anyone, Passer}
+use Rattle.sealed.specs.declared.callers.Caller.TheVariants.{Visitor}
 use Rattle.sealed.specs.declared.callers.Caller.TheVariants as caller
-use Rattle.sealed.specs.declared.callers.Doors.{Doors}
-use Rattle.sealed.specs.declared.callers.Doors.TheVariants.{Locked}
-use Rattle.sealed.specs.declared.callers.Locks.{Locks}
-use Rattle.sealed.specs.declared.callers.Refusal.{Refusal}
-use Rattle.sealed.specs.declared.callers.Refusal.TheVariants.{Unsealed}
-use Rattle.sealed.specs.Calls.{CalledOf, IsOfLocks, Stands, StandsAt, StandsPassing, StandsReading}
-use Rattle.sealed.specs.Calls.{caller_by}
-use Rattle.sealed.specs.Fronts.{IsShort, IsUnsealed}
+use Rattle.sealed.specs.declared.callers.Access.{Access}
+use Rattle.sealed.specs.declared.callers.Access.TheVariants.{Locked}
+use Rattle.sealed.specs.declared.callers.DeskKeys.{DeskKeys}
+use Rattle.sealed.specs.declared.callers.StreamRefusal.{StreamRefusal}
+use Rattle.sealed.specs.declared.callers.StreamRefusal.TheVariants.{Unsealed}
+use Rattle.sealed.specs.ServerSeals.{ServerSealOf, IsOfLocks, Stands, StandsAt, StandsPassing}
+use Rattle.sealed.specs.ServerSeals.{StandsReading}
+use Rattle.sealed.specs.ServerSeals.{caller_by}
+use Rattle.sealed.specs.Fronts.{IsUnsealed}
 use Rattle.sealed.specs.Trials.{IsSameTrial, TrialOf, Tries, goes_by, sends_by}
 use Rattle.sealed.specs.Tunnels.{TunnelOf}
 use Rattle.sealed.specs.model.Steps.{IsHeld, OpensAs, Passes, PassesAs, shows}
-use Rattle.sealed.proofs.Fronting.{all_held, held_and_rest, prefaced_first, prefaced_more}
+use Rattle.sealed.proofs.Fronting.{held_and_rest, prefaced_first, prefaced_more}
 use Rattle.sealed.proofs.Fronting.{unsealed_more}
 
 -- ---- what a side of this form stands for
 
-pub is_reading : (c : CalledOf) (came handed : List ℕ) → c.refusal ≡ None → Stands c came handed
+pub is_reading : (c : ServerSealOf) (came handed : List ℕ) → c.refusal ≡ None → Stands c came handed
     → StandsReading c c.trial came handed
 is_reading c came handed unbroken h =
-    subst (λ (r : Option Refusal). StandsAt r c came handed) unbroken h
+    subst (λ (r : Option StreamRefusal). StandsAt r c came handed) unbroken h
 
-pub reading_is : (c : CalledOf) (came handed : List ℕ) → c.refusal ≡ None
+pub reading_is : (c : ServerSealOf) (came handed : List ℕ) → c.refusal ≡ None
     → StandsReading c c.trial came handed → Stands c came handed
 reading_is c came handed unbroken h =
-    subst (λ (r : Option Refusal). StandsAt r c came handed) (sym unbroken) h
+    subst (λ (r : Option StreamRefusal). StandsAt r c came handed) (sym unbroken) h
 
-pub is_passing : (c : CalledOf) (came handed : List ℕ) → c.refusal ≡ None → c.trial ≡ None
+pub is_passing : (c : ServerSealOf) (came handed : List ℕ) → c.refusal ≡ None → c.trial ≡ None
     → Stands c came handed → StandsPassing c c.passing came handed
 is_passing c came handed unbroken none h =
     subst (λ (t : Option TrialOf). StandsReading c t came handed) none
     (is_reading c came handed unbroken h)
 
-pub passing_is : (c : CalledOf) (came handed : List ℕ) → c.refusal ≡ None → c.trial ≡ None
+pub passing_is : (c : ServerSealOf) (came handed : List ℕ) → c.refusal ≡ None → c.trial ≡ None
     → StandsPassing c c.passing came handed → Stands c came handed
 passing_is c came handed unbroken none h =
     reading_is c came handed unbroken
@@ -48,44 +48,26 @@ passing_is c came handed unbroken none h =
 
 -- ---- one more piece
 
--- it isn't known yet what the stream is
-pub stands_short : (old new : CalledOf) (came handed piece : List ℕ) (added : ℕ)
-    → old.refusal ≡ None → old.trial ≡ None → old.passing ≡ None
-    → new.refusal ≡ None → new.trial ≡ None → new.passing ≡ None → new.doors ≡ old.doors
-    → IsHeld piece old.held new.held added → IsShort new.held
-    → Stands old came handed → Stands new (came ++ piece) (handed ++ [])
-stands_short old new came handed piece added o1 o2 o3 n1 n2 n3 same held short h =
-    let q = subst (λ (p : Option Caller). StandsPassing old p came handed) o3
-    (is_passing old came handed o1 o2 h) in
-    let all = all_held came piece old.held new.held added held q.3 short in
-    passing_is new (came ++ piece) (handed ++ []) n1 n2
-    (subst (λ (p : Option Caller). StandsPassing new p (came ++ piece) (handed ++ [])) (sym n3) (
-      q.0,
-      same ∙ q.1,
-      subst (λ (s : List ℕ). IsShort s) all short,
-      all,
-      append-nil handed ∙ q.4,
-    ))
-
 -- a stream that is not sealed is let pass, or refused
-passed_as : (sheets : Bool) (locks : Locks) (mid new : CalledOf) (came handed rest more : List ℕ)
+passed_as : (sheets : Bool) (locks : DeskKeys) (mid new : ServerSealOf)
+    (came handed rest more : List ℕ)
     → locks.sheets ≡ sheets → PassesAs sheets rest mid new more → mid.doors ≡ Locked locks
     → mid.refusal ≡ None → mid.trial ≡ None → mid.passing ≡ None → IsUnsealed came
     → came ≡ mid.held ++ rest → handed ≡ [] → Stands new came (handed ++ more)
 passed_as true locks mid new came handed rest more is p doors unbroken none nobody unsealed whole
     empty =
-    let now : CalledOf = record mid { passing = Some Passer } in
+    let now : ServerSealOf = record mid { passing = Some Visitor } in
     let all : handed ++ more ≡ came =
     ap (λ (s : List ℕ). s ++ more) empty ∙ p.0 ∙ sym whole in
     let stands = passing_is now came (handed ++ more) unbroken none
     (locks, doors, is, unsealed, all) in
-    subst (λ (c : CalledOf). Stands c came (handed ++ more)) (sym p.1) stands
+    subst (λ (c : ServerSealOf). Stands c came (handed ++ more)) (sym p.1) stands
 passed_as false locks mid new came handed rest more is p doors unbroken none nobody unsealed whole
     empty =
     let all : handed ++ more ≡ [] = ap (λ (s : List ℕ). s ++ more) empty ∙ p.0 in
     let caller : caller_by mid.trial mid.passing ≡ None =
     ap (λ (t : Option TrialOf). caller_by t mid.passing) none ∙ nobody in
-    let now : CalledOf = record mid { refusal = Some Unsealed } in
+    let now : ServerSealOf = record mid { refusal = Some Unsealed } in
     let stands : Stands now came (handed ++ more) = record {
       locks = locks;
       doors = doors;
@@ -94,9 +76,9 @@ passed_as false locks mid new came handed rest more is p doors unbroken none nob
       nothing = all;
       nobody = caller;
     } in
-    subst (λ (c : CalledOf). Stands c came (handed ++ more)) (sym p.1) stands
+    subst (λ (c : ServerSealOf). Stands c came (handed ++ more)) (sym p.1) stands
 
-pub stands_passed : (old mid new : CalledOf) (came handed piece more : List ℕ) (added : ℕ)
+pub stands_passed : (old mid new : ServerSealOf) (came handed piece more : List ℕ) (added : ℕ)
     → old.refusal ≡ None → old.trial ≡ None → old.passing ≡ None
     → mid.refusal ≡ None → mid.trial ≡ None → mid.passing ≡ None → mid.doors ≡ old.doors
     → IsHeld piece old.held mid.held added → IsUnsealed mid.held
@@ -110,7 +92,8 @@ stands_passed old mid new came handed piece more added o1 o2 o3 m1 m2 m3 same he
     let is = unsealed_more mid.held (drop added piece) unsealed in
     let here = subst (λ (s : List ℕ). IsUnsealed s) (sym whole) is in
     let locked : mid.doors ≡ Locked q.0 = same ∙ q.1 in
-    let p = subst (λ (d : Doors). PassesAs (shows d) (drop added piece) mid new more) locked pass in
+    let p = subst (λ (d : Access). PassesAs (shows d) (drop added piece) mid new more) locked pass
+    in
     passed_as q.0.sheets q.0 mid new (came ++ piece) handed (drop added piece) more refl p locked m1
     m2 m3 here whole q.4
 
@@ -124,7 +107,7 @@ goes_same (Some f) None same = absurd cc
 goes_same (Some f) (Some e) same =
     let is : e.sealer ≡ f.sealer = cc in ap (λ (s : Sealing). Some s.channel) is
 
-pub of_locks : (locks : Locks) (client server : List ℕ) (old new : TrialOf)
+pub of_locks : (locks : DeskKeys) (client server : List ℕ) (old new : TrialOf)
     → IsOfLocks locks client server old → IsSameTrial old new → IsOfLocks locks client server new
 of_locks locks client server old new of same = record {
   hall = same.hall ∙ of.hall;
@@ -134,7 +117,7 @@ of_locks locks client server old new of same = record {
 }
 
 -- one more piece of a sealed stream
-pub stands_tried : (old new : CalledOf) (t u : TrialOf) (came handed piece more : List ℕ)
+pub stands_tried : (old new : ServerSealOf) (t u : TrialOf) (came handed piece more : List ℕ)
     → old.refusal ≡ None → new.refusal ≡ None → old.trial ≡ Some t → new.trial ≡ Some u
     → new.doors ≡ old.doors → new.random ≡ old.random → IsSameTrial t u
     → ((stream handed : List ℕ) → Tries stream handed t
@@ -157,7 +140,8 @@ stands_tried old new t u came handed piece more o1 n1 o2 n2 doors random same on
     }))
 
 -- the first piece of one
-pub stands_opened : (old mid new : CalledOf) (came handed piece client more : List ℕ) (added : ℕ)
+pub stands_opened : (old mid new : ServerSealOf) (came handed piece client more : List ℕ)
+    (added : ℕ)
     → old.refusal ≡ None → old.trial ≡ None → old.passing ≡ None
     → mid.refusal ≡ None → mid.doors ≡ old.doors
     → IsHeld piece old.held mid.held added → length client ≡ 16 → mid.held ≡ preface_of client
@@ -168,12 +152,12 @@ stands_opened old mid new came handed piece client more added o1 o2 o3 m1 same h
     let q = subst (λ (p : Option Caller). StandsPassing old p came handed) o3
     (is_passing old came handed o1 o2 h) in
     let locked : mid.doors ≡ Locked q.0 = same ∙ q.1 in
-    let o = subst (λ (d : Doors). OpensAs d client (drop added piece) mid new more) locked opens in
+    let o = subst (λ (d : Access). OpensAs d client (drop added piece) mid new more) locked opens in
     let prefaced = prefaced_first came piece old.held mid.held client added held q.3 sixteen is in
     let all : handed ++ more ≡ more = ap (λ (s : List ℕ). s ++ more) q.4 in
-    let refusal : new.refusal ≡ None = ap (λ (c : CalledOf). c.refusal) o.1 ∙ m1 in
-    let trial : new.trial ≡ Some o.0 = ap (λ (c : CalledOf). c.trial) o.1 in
-    let random : new.random ≡ mid.random = ap (λ (c : CalledOf). c.random) o.1 in
+    let refusal : new.refusal ≡ None = ap (λ (c : ServerSealOf). c.refusal) o.1 ∙ m1 in
+    let trial : new.trial ≡ Some o.0 = ap (λ (c : ServerSealOf). c.trial) o.1 in
+    let random : new.random ≡ mid.random = ap (λ (c : ServerSealOf). c.random) o.1 in
     reading_is new (came ++ piece) (handed ++ more) refusal
     (subst (λ (t : Option TrialOf). StandsReading new t (came ++ piece) (handed ++ more))
     (sym trial)
@@ -181,24 +165,10 @@ stands_opened old mid new came handed piece client more added o1 o2 o3 m1 same h
       locks = q.0;
       client = client;
       stream = drop added piece;
-      doors = ap (λ (c : CalledOf). c.doors) o.1 ∙ locked;
+      doors = ap (λ (c : ServerSealOf). c.doors) o.1 ∙ locked;
       prefaced = prefaced;
       keys = subst (λ (r : List ℕ). IsOfLocks q.0 client r o.0) (sym random) o.2;
       tries = subst (λ (s : List ℕ). Tries (drop added piece) s o.0) (sym all) o.3;
     }))
 
 -- ---- a stream that is let pass
-
-let_more : (p : Option Caller) (c : CalledOf) (came handed piece : List ℕ) → IsSome p
-    → StandsPassing c p came handed → StandsPassing c p (came ++ piece) (handed ++ piece)
-let_more None c came handed piece some h = absurd cc
-let_more (Some Anyone) c came handed piece some h = (h.0, ap (λ (s : List ℕ). s ++ piece) h.1)
-let_more (Some Passer) c came handed piece some h =
-    (h.0, h.1, h.2, unsealed_more came piece h.3, ap (λ (s : List ℕ). s ++ piece) h.4)
-let_more (Some (caller.Holder key)) c came handed piece some h = absurd h
-
-pub stands_let : (c : CalledOf) (came handed piece : List ℕ) → c.refusal ≡ None → c.trial ≡ None
-    → IsSome c.passing → Stands c came handed → Stands c (came ++ piece) (handed ++ piece)
-stands_let c came handed piece unbroken none some h =
-    passing_is c (came ++ piece) (handed ++ piece) unbroken none
-    (let_more c.passing c came handed piece some (is_passing c came handed unbroken none h))

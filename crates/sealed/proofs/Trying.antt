@@ -4,7 +4,7 @@ use Rattle.std.proofs.Common.{Option, Some, None, refl, sym, ap, subst, ◌∙�
 use Rattle.std.specs.Prelude.{IfSome, IsSome, option_map}
 use Rattle.std.proofs.lemmas.List.{length-append}
 use Rattle.seal.specs.declared.channel.Channel.{Channel}
-use Rattle.seal.specs.declared.fault.OpenFault.{OpenFault}
+use Rattle.seal.specs.declared.fault.StreamFault.{StreamFault}
 use Rattle.seal.specs.Records.{AreBodies, record_of, records}
 use Rattle.seal.specs.Streams.{BeginsRecord, Ends, Fed, FedAt, Opening, Reads, Waits, joined}
 use Rattle.seal.proofs.Ending.{not_begun}
@@ -12,13 +12,14 @@ use Rattle.seal.proofs.Feeding.{reads_fed}
 use Rattle.seal.proofs.Reading.{reads_after}
 use Rattle.sealed.specs.declared.callers.Holder.{Holder}
 use Rattle.sealed.specs.declared.callers.Holder.TheVariants.{Hall, Entry}
-use Rattle.sealed.specs.Trials.{IsSameTrial, ReadsAll, TrialOf, Tries, TriesAs, comes_by, entry_by}
+use Rattle.sealed.specs.Trials.{IsSameTrial, ReadsAll, TrialOf, Tries, TriesAs, comes_by}
 use Rattle.sealed.specs.Trials.{sends_by}
 use Rattle.sealed.specs.Tunnels.{TunnelOf}
 
 -- ---- one connection
 
-fed_same_at : (f : Option OpenFault) (piece more : List ℕ) (a b : Opening) → FedAt f piece a b more
+fed_same_at : (f : Option StreamFault) (piece more : List ℕ) (a b : Opening)
+    → FedAt f piece a b more
     → b.channel ≡ a.channel
 fed_same_at None piece more a b fed = fed.channel_kept
 fed_same_at (Some e) piece more a b fed = ap (λ (o : Opening). o.channel) fed.1
@@ -56,11 +57,11 @@ nothing c s rest (y ∷ ys) whole each is ends =
     let none = ap (λ (t : List ℕ). length t) is in
     absurd (omega (arith, none, length-append y (joined ys), each.0.0.0))
 
-decided_at : (f : Option OpenFault) (a b : TunnelOf) (s h : List ℕ) → a.opener.fault ≡ f
+decided_at : (f : Option StreamFault) (a b : TunnelOf) (s h : List ℕ) → a.opener.fault ≡ f
     → ReadsAll a s [] → ReadsAll b s h → h ≢ [] → f ≢ None
 decided_at None a b s h is none some there same =
     let c = a.opener.channel in
-    let ends = subst (λ (f : Option OpenFault). Ends c (0 + length none.bodies) f none.rest) is
+    let ends = subst (λ (f : Option StreamFault). Ends c (0 + length none.bodies) f none.rest) is
     none.ends in
     let waits = nothing c s none.rest none.bodies none.whole none.each none.gives ends in
     not_begun b.opener.channel 0 None s waits
@@ -187,10 +188,3 @@ same_hall old new piece more entry sealer stays fed = record {
   entry_sends = ap (λ (o : Option TunnelOf). option_map sends_by o) entry;
   stays = stays;
 }
-
-pub entry_kept : (old new : TrialOf) (e f : TunnelOf) (piece more : List ℕ) → old.entry ≡ Some e
-    → new.entry ≡ Some f → Fed piece e.opener f.opener more → entry_by new ≡ entry_by old
-entry_kept old new e f piece more there now fed =
-    ap (λ (o : Option TunnelOf). option_map comes_by o) now
-    ∙ ap (λ (c : Channel). Some c) (fed_same piece more e.opener f.opener fed)
-    ∙ sym (ap (λ (o : Option TunnelOf). option_map comes_by o) there)

@@ -4,12 +4,12 @@ use Rattle.seal.specs.declared.channel.Channel.{Channel}
 use Rattle.seal.specs.declared.channel.Direction.TheVariants.{ToServer, ToClient}
 use Rattle.seal.specs.Records.{key_of}
 use Rattle.sealed.specs.declared.callers.Caller.{Caller}
-use Rattle.sealed.specs.declared.callers.Caller.TheVariants.{Anyone, Passer}
+use Rattle.sealed.specs.declared.callers.Caller.TheVariants.{Anyone, Visitor}
 use Rattle.sealed.specs.declared.callers.Caller.TheVariants as caller
-use Rattle.sealed.specs.declared.callers.Doors.{Doors}
-use Rattle.sealed.specs.declared.callers.Doors.TheVariants.{Open, Locked}
+use Rattle.sealed.specs.declared.callers.Access.{Access}
+use Rattle.sealed.specs.declared.callers.Access.TheVariants.{Open, Locked}
 use Rattle.sealed.specs.declared.callers.Holder.{Holder}
-use Rattle.sealed.specs.declared.callers.Locks.{Locks}
+use Rattle.sealed.specs.declared.callers.DeskKeys.{DeskKeys}
 use Rattle.sealed.specs.Fronts.{IsPrefaced, IsShort, IsUnsealed}
 use Rattle.sealed.specs.Trials.{HandsBy}
 use Rattle.sealed.specs.Tunnels.{channel_of}
@@ -23,7 +23,7 @@ abbrev pub goes_under : List ℕ → List ℕ → List ℕ → Channel
 goes_under client server key = channel_of (key_of key client server) ToClient
 
 -- a sealed stream came, and these bytes are handed on of it, by this holder of a key
-pub record IsSealed (locks : Locks) (server came handed : List ℕ) (holder : Option Holder)
+pub record IsSealed (locks : DeskKeys) (server came handed : List ℕ) (holder : Option Holder)
     : Type 0 where
   pub client : List ℕ
   pub stream : List ℕ
@@ -34,7 +34,7 @@ pub record IsSealed (locks : Locks) (server came handed : List ℕ) (holder : Op
 
 -- nothing is handed on: it isn't known what the stream is, it is not sealed, and none such is let
 -- pass, or it is sealed, and no record fits
-abbrev pub IsNobody : Locks → List ℕ → List ℕ → Type 0
+abbrev pub IsNobody : DeskKeys → List ℕ → List ℕ → Type 0
 IsNobody locks server came =
     IsShort came
     ⊎ (((locks.sheets ≡ false) × IsUnsealed came) ⊎ IsSealed locks server came [] None)
@@ -42,12 +42,12 @@ IsNobody locks server came =
 -- What a desk with these keys hands on of what came, where its own random bytes are these, and who
 -- calls: without keys all of it, by anyone; of a stream that is not sealed all of it, by a passer,
 -- where such are let pass; and of a sealed one the bodies of the records that fit under a key.
-abbrev pub Admits : Doors → List ℕ → List ℕ → List ℕ → Option Caller → Type 0
+abbrev pub Admits : Access → List ℕ → List ℕ → List ℕ → Option Caller → Type 0
 Admits doors server came handed (Some Anyone) = (doors ≡ Open) × (handed ≡ came)
-Admits doors server came handed (Some Passer) =
-    (locks : Locks) × (doors ≡ Locked locks) × (locks.sheets ≡ true) × IsUnsealed came
+Admits doors server came handed (Some Visitor) =
+    (locks : DeskKeys) × (doors ≡ Locked locks) × (locks.sheets ≡ true) × IsUnsealed came
     × (handed ≡ came)
 Admits doors server came handed (Some (caller.Holder key)) =
-    (locks : Locks) × (doors ≡ Locked locks) × IsSealed locks server came handed (Some key)
+    (locks : DeskKeys) × (doors ≡ Locked locks) × IsSealed locks server came handed (Some key)
 Admits doors server came handed None =
-    (locks : Locks) × (doors ≡ Locked locks) × (handed ≡ []) × IsNobody locks server came
+    (locks : DeskKeys) × (doors ≡ Locked locks) × (handed ≡ []) × IsNobody locks server came

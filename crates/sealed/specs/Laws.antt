@@ -4,29 +4,29 @@ use Rattle.seal.specs.Records.{AreBodies, preface_of, records}
 use Rattle.seal.specs.Sealing.{Sealing}
 use Rattle.seal.specs.Streams.{joined}
 use Rattle.sealed.specs.declared.callers.Caller.TheVariants as caller
-use Rattle.sealed.specs.declared.callers.Doors.TheVariants.{Locked}
+use Rattle.sealed.specs.declared.callers.Access.TheVariants.{Locked}
 use Rattle.sealed.specs.declared.callers.Holder.TheVariants.{Hall}
-use Rattle.sealed.specs.declared.callers.Locks.{Locks}
+use Rattle.sealed.specs.declared.callers.DeskKeys.{DeskKeys}
 use Rattle.sealed.specs.Admitting.{Admits, comes_under}
-use Rattle.sealed.specs.Calls.{CalledOf, Stands, caller_of}
-use Rattle.sealed.specs.Callings.{CallingOf, IsOpened}
-use Rattle.sealed.specs.Callings as Callings
+use Rattle.sealed.specs.ServerSeals.{ServerSealOf, Stands, caller_of}
+use Rattle.sealed.specs.ClientSeals.{ClientSealOf, IsOpened}
+use Rattle.sealed.specs.ClientSeals as Callings
 use Rattle.sealed.specs.Tunnels.{SealsAll}
 
 -- a desk's side that has read these bytes, and handed on those, has admitted this caller
 abbrev pub StandsAdmits : Type 0
-StandsAdmits = (c : CalledOf) (came handed : List ℕ) → Stands c came handed
+StandsAdmits = (c : ServerSealOf) (came handed : List ℕ) → Stands c came handed
     → Admits c.doors c.random came handed (caller_of c)
 
 -- the side of the caller has handed on nothing, or what fits under its key
 abbrev pub StandsOpens : Type 0
-StandsOpens = (c : CallingOf) (came handed : List ℕ) → Callings.Stands c came handed
+StandsOpens = (c : ClientSealOf) (came handed : List ℕ) → Callings.Stands c came handed
     → (handed ≡ []) ⊎ IsOpened c.key c.random came handed
 
 -- a holder of the hall's key, who seals with it, is let in with all that was sealed
 abbrev pub HolderIsAdmitted : Type 0
 HolderIsAdmitted =
-    (locks : Locks) (client server : List ℕ) (bodies : List (List ℕ)) → length client ≡ 16
+    (locks : DeskKeys) (client server : List ℕ) (bodies : List (List ℕ)) → length client ≡ 16
     → AreBodies 0 bodies → joined bodies ≢ []
     → Admits (Locked locks) server
     (preface_of client ++ records (comes_under client server locks.hall) 0 bodies) (joined bodies)

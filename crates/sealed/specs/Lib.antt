@@ -2,9 +2,9 @@ pub mod Fronts
 pub mod Tunnels
 pub mod Trials
 pub mod Admitting
-pub mod Calls
+pub mod ServerSeals
 pub mod Sent
-pub mod Callings
+pub mod ClientSeals
 pub mod Laws
 pub mod model
 pub mod ends

@@ -4,15 +4,15 @@ use Rattle.seal.specs.Records.{AreBodies, records}
 use Rattle.seal.specs.Sealing.{Sealing}
 use Rattle.seal.specs.Streams.{joined}
 use Rattle.sealed.specs.declared.callers.Caller.{Caller}
-use Rattle.sealed.specs.declared.callers.Caller.TheVariants.{Anyone, Passer}
+use Rattle.sealed.specs.declared.callers.Caller.TheVariants.{Anyone, Visitor}
 use Rattle.sealed.specs.declared.callers.Caller.TheVariants as caller
-use Rattle.sealed.specs.declared.callers.Doors.{Doors}
-use Rattle.sealed.specs.declared.callers.Doors.TheVariants.{Locked}
+use Rattle.sealed.specs.declared.callers.Access.{Access}
+use Rattle.sealed.specs.declared.callers.Access.TheVariants.{Locked}
 use Rattle.sealed.specs.declared.callers.Holder.{Holder}
 use Rattle.sealed.specs.declared.callers.Holder.TheVariants.{Hall, Entry}
-use Rattle.sealed.specs.declared.callers.Locks.{Locks}
+use Rattle.sealed.specs.declared.callers.DeskKeys.{DeskKeys}
 use Rattle.sealed.specs.Admitting.{goes_under}
-use Rattle.sealed.specs.Calls.{CalledOf, Sends, Stands, caller_of}
+use Rattle.sealed.specs.ServerSeals.{ServerSealOf, Sends, Stands, caller_of}
 use Rattle.sealed.specs.Fronts.{IsPrefaced}
 use Rattle.sealed.specs.Trials.{TrialOf}
 use Rattle.sealed.specs.Tunnels.{SealsAll, TunnelOf}
@@ -20,13 +20,13 @@ use Rattle.sealed.specs.Tunnels.{SealsAll, TunnelOf}
 -- ---- what was sent, by its bytes alone
 
 -- the key that a holder has
-abbrev pub key_for : Locks → Holder → Option (List ℕ)
+abbrev pub key_for : DeskKeys → Holder → Option (List ℕ)
 key_for locks Hall = Some locks.hall
 key_for locks Entry = locks.entry
 
 -- a sealed stream came, and under the key of its holder these bytes were sent, as records that are
 -- numbered from 0
-pub record IsSentSealed (locks : Locks) (server came given sent : List ℕ) (key : Holder) : Type 0
+pub record IsSentSealed (locks : DeskKeys) (server came given sent : List ℕ) (key : Holder) : Type 0
   where
     pub client : List ℕ
     pub stream : List ℕ
@@ -40,11 +40,11 @@ pub record IsSentSealed (locks : Locks) (server came given sent : List ℕ) (key
 
 -- what is sent of bytes that are given: they themselves to a caller who is let in without a key,
 -- records of them to a holder of one, and nothing as long as nobody is let in
-abbrev pub IsSent : Doors → List ℕ → List ℕ → Option Caller → List ℕ → List ℕ → Type 0
+abbrev pub IsSent : Access → List ℕ → List ℕ → Option Caller → List ℕ → List ℕ → Type 0
 IsSent doors server came (Some Anyone) given sent = sent ≡ given
-IsSent doors server came (Some Passer) given sent = sent ≡ given
+IsSent doors server came (Some Visitor) given sent = sent ≡ given
 IsSent doors server came (Some (caller.Holder key)) given sent =
-    (locks : Locks) × (doors ≡ Locked locks) × IsSentSealed locks server came given sent key
+    (locks : DeskKeys) × (doors ≡ Locked locks) × IsSentSealed locks server came given sent key
 IsSent doors server came None given sent = (given ≡ []) × (sent ≡ [])
 
 -- ---- the side
@@ -76,31 +76,31 @@ abbrev pub SentPlain : Option Caller → List ℕ → List ℕ → Type 0
 SentPlain None given sent = (given ≡ []) × (sent ≡ [])
 SentPlain (Some who) given sent = sent ≡ given
 
-abbrev pub SentBy : Option TrialOf → CalledOf → List ℕ → List ℕ → Type 0
+abbrev pub SentBy : Option TrialOf → ServerSealOf → List ℕ → List ℕ → Type 0
 SentBy None c given sent = SentPlain c.passing given sent
 SentBy (Some t) c given sent = SentAs t.holder t given sent
 
 -- these bytes were given to be sent so far, and those were sent
-abbrev pub HasSent : CalledOf → List ℕ → List ℕ → Type 0
+abbrev pub HasSent : ServerSealOf → List ℕ → List ℕ → Type 0
 HasSent c given sent = SentBy c.trial c given sent
 
 -- whatever was given and sent before: what is sent later goes on with it
-abbrev pub KeepsSent : CalledOf → CalledOf → Type 0
+abbrev pub KeepsSent : ServerSealOf → ServerSealOf → Type 0
 KeepsSent old new = (given sent : List ℕ) → HasSent old given sent → HasSent new given sent
 
 -- ---- laws
 
 -- what a desk's side has read and handed on is not changed by what it sends
 abbrev pub SealingReads : Type 0
-SealingReads = (c new : CalledOf) (bytes sent came handed : List ℕ) → Sends bytes c new sent
+SealingReads = (c new : ServerSealOf) (bytes sent came handed : List ℕ) → Sends bytes c new sent
     → Stands c came handed → Stands new came handed
 
 -- what is sent goes on with what was sent before, where somebody is let in
 abbrev pub SealingGoesOn : Type 0
-SealingGoesOn = (c new : CalledOf) (bytes more given sent : List ℕ) → Sends bytes c new more
+SealingGoesOn = (c new : ServerSealOf) (bytes more given sent : List ℕ) → Sends bytes c new more
     → IsSome (caller_of c) → HasSent c given sent → HasSent new (given ++ bytes) (sent ++ more)
 
 -- a desk's side sends nothing but what it is given, sealed as what came to it
 abbrev pub SendsWhatIsGiven : Type 0
-SendsWhatIsGiven = (c : CalledOf) (came handed given sent : List ℕ) → Stands c came handed
+SendsWhatIsGiven = (c : ServerSealOf) (came handed given sent : List ℕ) → Stands c came handed
     → HasSent c given sent → IsSent c.doors c.random came (caller_of c) given sent

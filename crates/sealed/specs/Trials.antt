@@ -4,21 +4,21 @@ use Rattle.std.specs.Prelude.{Option, None, Some, IfSome, IsSome, option_map}
 use Rattle.std.specs.Option.{option_or}
 use Rattle.seal.specs.declared.channel.Channel.{Channel}
 use Rattle.seal.specs.declared.channel.Direction.TheVariants.{ToServer}
-use Rattle.seal.specs.declared.fault.OpenFault.{OpenFault}
+use Rattle.seal.specs.declared.fault.StreamFault.{StreamFault}
 use Rattle.seal.specs.declared.fault.SealFault.{SealFault}
 use Rattle.seal.specs.Records.{key_of}
 use Rattle.seal.specs.Sealing.{Sealing}
 use Rattle.seal.specs.Streams.{HandsOn, Reads, begun}
 use Rattle.sealed.specs.declared.callers.Holder.{Holder}
 use Rattle.sealed.specs.declared.callers.Holder.TheVariants.{Hall, Entry}
-use Rattle.sealed.specs.declared.callers.Locks.{Locks}
+use Rattle.sealed.specs.declared.callers.DeskKeys.{DeskKeys}
 use Rattle.sealed.specs.Tunnels.{FailsAll, SealsAll, TunnelOf, fresh_tunnel}
 
 -- ---- what is handed on of a stream, by its bytes alone
 
 -- these bytes are handed on under a key, as far as the records fit
 abbrev pub Hands : Channel → List ℕ → List ℕ → Type 0
-Hands c stream handed = (fault : Option OpenFault) × HandsOn c stream handed fault
+Hands c stream handed = (fault : Option StreamFault) × HandsOn c stream handed fault
 
 -- what is handed on of a stream, and whose key it is: the hall's, where its first record fits under
 -- it; else the entry key, where it fits under that; and nobody's until a record fits
@@ -44,7 +44,7 @@ under client server key = fresh_tunnel (key_of key client server) ToServer
 abbrev pub entry_of : Option (List ℕ) → List ℕ → List ℕ → Option TunnelOf
 entry_of entry client server = option_map (under client server) entry
 
-abbrev pub fresh_trial : Locks → List ℕ → List ℕ → TrialOf
+abbrev pub fresh_trial : DeskKeys → List ℕ → List ℕ → TrialOf
 fresh_trial locks client server = record {
   hall = under client server locks.hall;
   entry = entry_of locks.entry client server;
@@ -91,7 +91,7 @@ pub record IsSameTrial (old new : TrialOf) : Type 0 where
 
 -- ---- whether nothing more is handed on
 
-abbrev pub is_broken : Option OpenFault → Bool
+abbrev pub is_broken : Option StreamFault → Bool
 is_broken None = false
 is_broken (Some e) = true
 

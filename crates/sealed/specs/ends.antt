@@ -1,4 +1,4 @@
 pub mod Plain
-pub mod Calls
+pub mod ClientStreams
 pub mod Given
 pub mod Laws

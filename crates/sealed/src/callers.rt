@@ -15,14 +15,14 @@ pub enum Caller {
     /// Anybody who reached its port: the desk asks for no key.
     Anyone,
     /// Anybody who reached its port, without a key: the desk shows its sheets to all.
-    Passer,
+    Visitor,
     /// One that has a key of the desk.
     Holder { key: Holder },
 }
 
 /// The keys of a desk that asks for one.
 #[derive(Clone, Copy)]
-pub struct Locks {
+pub struct DeskKeys {
     /// The hall's key.
     pub hall: [u8; 32],
     /// A second key, where there is one: the entry key, or the one that was the hall's.
@@ -36,16 +36,16 @@ pub struct Locks {
 
 /// What a desk asks of a stream.
 #[derive(Clone, Copy)]
-pub enum Doors {
+pub enum Access {
     /// Nothing: it has no key.
     Open,
     /// A key.
-    Locked { locks: Locks },
+    Locked { locks: DeskKeys },
 }
 
 /// Why a desk reads no more of a stream.
 #[derive(Clone, Copy, Debug, PartialEq, Eq)]
-pub enum Refusal {
+pub enum StreamRefusal {
     /// It is not sealed, and the desk lets none such pass.
     Unsealed,
     /// Memory was refused.

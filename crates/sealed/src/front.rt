@@ -24,7 +24,7 @@ pub(crate) fn hold(held: &mut Vec<u8>, piece: &[u8]) -> usize
 
 /// What the first bytes of a stream tell of it.
 #[derive(Clone, Copy)]
-pub(crate) enum Front {
+pub(crate) enum StreamFront {
     /// Nothing yet.
     Short,
     /// It is not sealed.
@@ -34,24 +34,24 @@ pub(crate) enum Front {
 }
 
 /// What fewer bytes than those of a preface tell.
-fn front_of_few(bytes: &[u8]) -> Front
+fn front_of_few(bytes: &[u8]) -> StreamFront
     requires { length bytes.now ≤ 19 }
     ensures { IsFront result bytes.now }
 {
     if bytes.len() < MARK {
-        return Front::Short;
+        return StreamFront::Short;
     }
     let mut first = [0; MARK];
     first.copy_from_slice(&bytes[..MARK]);
     if is_sealed(&first) {
-        Front::Short
+        StreamFront::Short
     } else {
-        Front::Unsealed
+        StreamFront::Unsealed
     }
 }
 
 /// What the first bytes tell.
-pub(crate) fn front_of(bytes: &[u8]) -> Front
+pub(crate) fn front_of(bytes: &[u8]) -> StreamFront
     requires { length bytes.now ≤ 20 }
     ensures { IsFront result bytes.now }
 {
@@ -61,7 +61,7 @@ pub(crate) fn front_of(bytes: &[u8]) -> Front
     let mut preface = [0; PREFACE];
     preface.copy_from_slice(bytes);
     match random_of(&preface) {
-        Some(random) => Front::Sealed { random },
-        None => Front::Unsealed,
+        Some(random) => StreamFront::Sealed { random },
+        None => StreamFront::Unsealed,
     }
 }

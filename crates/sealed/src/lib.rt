@@ -2,20 +2,20 @@
 //!
 //! A desk that has keys tells by the first four bytes whether a stream is sealed, and by the first
 //! record under which key: what it hands on is for the code that serves the desk, which learns who
-//! calls (`Called`). A client, and a desk that calls another desk, has one key (`Calling`). Neither
-//! knows frames, and neither makes a system call.
+//! calls (`ServerSeal`). A client, and a desk that calls another desk, has one key (`ClientSeal`).
+//! Neither knows frames, and neither makes a system call.
 #![tactic(auto)]
 
-mod called;
 mod callers;
-mod calling;
+mod client_seal;
 pub mod ends;
 mod front;
 pub mod laws;
+mod server_seal;
 mod trial;
 mod tunnel;
 
-pub use called::Called;
-pub use callers::{Caller, Doors, Holder, Locks, Refusal};
-pub use calling::{Calling, Trouble};
+pub use callers::{Access, Caller, DeskKeys, Holder, StreamRefusal};
+pub use client_seal::{ClientSeal, SealTrouble};
 pub use seal::{NoMemory, SealFault};
+pub use server_seal::ServerSeal;

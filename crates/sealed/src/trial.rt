@@ -4,7 +4,7 @@ ghost use Rattle.std.specs.Prelude.{◌≡◌, ◌++◌, ℕ, List, IfErr, IfOk,
 ghost use Rattle.sealed.specs.Trials.{FailsFor, IsSameTrial, SealsFor, Tries, begun_in, entry_of};
 ghost use Rattle.sealed.specs.Trials.{fresh_trial, over};
 
-use crate::callers::{Holder, Locks};
+use crate::callers::{DeskKeys, Holder};
 use crate::tunnel::Tunnel;
 use seal::{Direction, NoMemory, SealFault, connection_key};
 use std::alloc::Global;
@@ -53,7 +53,7 @@ impl Trial {
     /// own are those of the server.
     pub fn new(
         alloc: Global,
-        locks: &Locks,
+        locks: &DeskKeys,
         client: &[u8; 16],
         server: &[u8; 16],
     ) -> Result<Trial, NoMemory>

@@ -4,7 +4,7 @@ ghost use Rattle.std.specs.Prelude.{◌≡◌, IfErr, IfOk, OnErr, OnOk, Option}
 ghost use Rattle.seal.specs.Streams.{Fed, begun};
 ghost use Rattle.sealed.specs.Tunnels.{AreFew, FailsAll, SealsAll, fresh_tunnel, opposite};
 
-use seal::{Channel, Direction, NoMemory, OpenFault, Opener, SealFault, Sealer};
+use seal::{Channel, Direction, NoMemory, Opener, SealFault, Sealer, StreamFault};
 use std::alloc::Global;
 use std::marker::Model;
 
@@ -60,7 +60,7 @@ impl Tunnel {
     }
 
     /// The fault that ended what comes, if one did.
-    pub fn fault(&self) -> Option<OpenFault>
+    pub fn fault(&self) -> Option<StreamFault>
         ensures { result ≡ self.now.opener.fault }
     {
         self.opener.fault()

@@ -1,12 +1,12 @@
 -- A desk that serves, from its first line to its last.
-use Rattle.std.proofs.Common.{◌≡◌, inl, inr, refl, sym, ap, ap₂, subst, ◌∙◌, ℕ, List, ◌++◌}
+use Rattle.std.proofs.Common.{◌≡◌, inl, inr, sym, ap, ap₂, subst, ◌∙◌, ℕ, List, ◌++◌}
 use Rattle.std.proofs.Common.{append_assoc, Bool, Option, Result, OnOk, IfErr}
 use Rattle.std.specs.Io.KnownBytes.{Appends}
 use Rattle.std.proofs.KnownBytes.{Appends-trans}
 use Rattle.lines.specs.Bytes.{AppendsPart}
-use Rattle.multiplex.specs.declared.ends.Over.{Over}
-use Rattle.multiplex.specs.declared.ends.Over.TheVariants as over
-use Rattle.multiplex.specs.declared.ends.ServedEach.{ServedEach}
+use Rattle.multiplex.specs.declared.ends.ServingEnd.{ServingEnd}
+use Rattle.multiplex.specs.declared.ends.ServingEnd.TheVariants as over
+use Rattle.multiplex.specs.declared.ends.ServingsOutcome.{ServingsOutcome}
 use Rattle.serving.specs.Making.{Way}
 use Rattle.connections.specs.Connections.{Point}
 use Rattle.store.specs.declared.home.Home.{Home}
@@ -30,18 +30,9 @@ pub told_first : (a b : Option (List ℕ)) (h home : Home) (n len : ℕ) → h �
 told_first a b h home n len here long =
     subst (λ (t : List ℕ). Appends a b t) (ap₂ first_line here long)
 
--- the first line was cut off
-pub first_cut : {V : Type 0} {way : Way V} (t : Turn) (a : Point way) (f : ServeFault)
-    → IsOfLine f → t.heard.old ≡ t.heard.new
-    → AppendsPart t.out.old t.out.new (first_line t.home t.len) → FailsServing f t a a
-first_cut t a f (inl is) same h =
-    subst (λ (f : ServeFault). FailsServing f t a a) (sym is) (inl (refl, same, h))
-first_cut t a f (inr is) same h =
-    subst (λ (f : ServeFault). FailsServing f t a a) (sym is) (inr (inl (refl, same, h)))
-
 -- the last line was
 pub last_cut : {V : Type 0} {way : Way V} (t : Turn) (a b : Point way) (f : ServeFault)
-    (served : ServedEach) (mid : Option (List ℕ))
+    (served : ServingsOutcome) (mid : Option (List ℕ))
     → IsOfLine f → HasServed served t a b → Appends t.out.old mid (first_line t.home t.len)
     → AppendsPart mid t.out.new (last_line served.connections) → FailsServing f t a b
 last_cut t a b f served mid (inl is) h first last =
@@ -52,7 +43,7 @@ last_cut t a b f served mid (inr is) h first last =
     (inr (inr (served, h, append_part _ mid _ _ _ first last)))
 
 -- both lines are there
-pub ends_well : {V : Type 0} {way : Way V} (t : Turn) (a b : Point way) (count : ℕ) (e : Over)
+pub ends_well : {V : Type 0} {way : Way V} (t : Turn) (a b : Point way) (count : ℕ) (e : ServingEnd)
     (starved : Bool) (r : Result (Unit {0}) ServeFault)
     → HasServed (served_to count e starved) t a b
     → Appends t.out.old t.out.new (both_lines t.home t.len count) → r ≡ ends_by e
@@ -60,7 +51,7 @@ pub ends_well : {V : Type 0} {way : Way V} (t : Turn) (a b : Point way) (count :
 ends_well t a b count e starved r h w is =
     subst (λ (r : Result (Unit {0}) ServeFault). OnOk r (Serves t a b)) (sym is) (by e h)
   where
-    by : (e : Over) → HasServed (served_to count e starved) t a b
+    by : (e : ServingEnd) → HasServed (served_to count e starved) t a b
         → OnOk (ends_by e) (Serves t a b)
     by over.All h = inl (count, starved, h, w)
     by over.Stopped h = inr (count, starved, h, w)
@@ -69,7 +60,7 @@ ends_well t a b count e starved r h w is =
     by over.Tired h = tt
     by over.NoMemory h = tt
 
-pub ends_ill : {V : Type 0} {way : Way V} (t : Turn) (a b : Point way) (count : ℕ) (e : Over)
+pub ends_ill : {V : Type 0} {way : Way V} (t : Turn) (a b : Point way) (count : ℕ) (e : ServingEnd)
     (starved : Bool) (r : Result (Unit {0}) ServeFault)
     → HasServed (served_to count e starved) t a b
     → Appends t.out.old t.out.new (both_lines t.home t.len count) → r ≡ ends_by e
@@ -78,7 +69,7 @@ ends_ill t a b count e starved r h w is =
     subst (λ (r : Result (Unit {0}) ServeFault). IfErr r (λ f. FailsServing f t a b)) (sym is)
     (by e h)
   where
-    by : (e : Over) → HasServed (served_to count e starved) t a b
+    by : (e : ServingEnd) → HasServed (served_to count e starved) t a b
         → IfErr (ends_by e) (λ f. FailsServing f t a b)
     by over.All h = tt
     by over.Stopped h = tt

@@ -4,11 +4,12 @@ use Rattle.std.proofs.lemmas.Result.{IfErr-weaker, on_ok_weaker}
 use Rattle.std.specs.Io.KnownBytes.{Keeps as KeepsBytes}
 use Rattle.sqlite.specs.Recovery.{Image}
 use Rattle.replica.specs.Handles.{Handles}
+use Rattle.replica.specs.Settles.{Settles}
 use Rattle.replica.specs.Nodes.{NodeValue}
 use Rattle.replica.specs.Opens.{Opens}
 use Rattle.serving.specs.Making.{speaking}
 use Rattle.connections.specs.Connections.{Point}
-use Rattle.sealed.specs.declared.callers.Doors.{Doors}
+use Rattle.sealed.specs.declared.callers.Access.{Access}
 use Rattle.store.specs.declared.home.Home.{Home}
 use Rattle.store.specs.declared.keeper.Keeper.{Ghosts as KeeperOf}
 use Rattle.serve.proofs.Over.{by_listener}
@@ -18,11 +19,11 @@ use Rattle.serve.specs.Printing.{IsAllowed, IsOfListener, Output, home_of}
 use Rattle.serve.specs.Serves.{FailsDesk, FailsKept, FailsServing, IsRun, RunsDesk}
 use Rattle.serve.specs.Serves.{RunsKept, Serves, Turn, resting, turn_of}
 use Rattle.serve.specs.declared.fault.ServeFault.{ServeFault}
-use Rattle.hall_file.specs.declared.service.Making.{Making}
+use Rattle.hall_file.specs.declared.service.StoreOrigin.{StoreOrigin}
 use Rattle.hall_file.specs.declared.service.Service.{Service}
 
 -- what the desk has that is opened over a keeper is what this one kept
-opened_on : {K : Type 0} (k : KeeperOf K) (how : Making) (files : Image) (home : Home)
+opened_on : {K : Type 0} (k : KeeperOf K) (how : StoreOrigin) (files : Image) (home : Home)
     (keeper : K) (node : NodeValue K)
     → KeepsFor k how files home keeper → Opens k keeper node
     → IsOpenedOn k how files home node
@@ -40,9 +41,10 @@ opened_on k how files home keeper node kept n = record {
 
 -- ---- and serves
 
-run_of : {K : Type 0} (k : KeeperOf K) (files : Image) (s : Service) (d : Doors) (o : Output)
+run_of : {K : Type 0} (k : KeeperOf K) (files : Image) (s : Service) (d : Access) (o : Output)
     (first last : NodeValue K)
-    (Does : Turn → Point (speaking (Handles k) s.wire) → Point (speaking (Handles k) s.wire)
+    (Does : Turn → Point (speaking (Handles k) (Settles k) s.wire)
+    → Point (speaking (Handles k) (Settles k) s.wire)
     → Type 0)
     → AreDoors s d → IsOpenedOn k s.making files (home_of s) first
     → Does (turn_of s d (k.home_of first.keeper) (length first.desk.log) o)
@@ -61,7 +63,7 @@ run_of k files s d o first last Does keyed opened does = record {
       opened.place does;
 }
 
-pub runs : {K : Type 0} (k : KeeperOf K) (s : Service) (d : Doors) (o : Output) (keeper : K)
+pub runs : {K : Type 0} (k : KeeperOf K) (s : Service) (d : Access) (o : Output) (keeper : K)
     (first last : NodeValue K) (r : Result (Unit {0}) ServeFault)
     → Opens k keeper first → AreDoors s d
     → OnOk r (Serves (turn_of s d (k.home_of first.keeper) (length first.desk.log) o)
@@ -73,7 +75,7 @@ runs k s d o keeper first last r opens keyed h =
     (opened_on k s.making files (home_of s) keeper first kept opens) does)
     h
 
-pub runs_ill : {K : Type 0} (k : KeeperOf K) (s : Service) (d : Doors) (o : Output) (keeper : K)
+pub runs_ill : {K : Type 0} (k : KeeperOf K) (s : Service) (d : Access) (o : Output) (keeper : K)
     (first last : NodeValue K) (r : Result (Unit {0}) ServeFault)
     → Opens k keeper first → AreDoors s d → IsAllowed s
     → IfErr r (λ f. (IsOfListener f × KeepsBytes o.old o.new)
@@ -98,7 +100,7 @@ runs_ill k s d o keeper first last r opens keyed allowed h =
 
 -- ---- the files that a keeper was opened on, for the desk that was asked for
 
-kept_as : {K : Type 0} (k : KeeperOf K) (how : Making) (files : Image) (home asked : Home)
+kept_as : {K : Type 0} (k : KeeperOf K) (how : StoreOrigin) (files : Image) (home asked : Home)
     (keeper : K) → home ≡ asked → KeepsFor k how files home keeper
     → KeepsFor k how files asked keeper
 kept_as k how files home asked keeper is kept =

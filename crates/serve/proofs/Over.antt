@@ -6,11 +6,11 @@ use Rattle.std.proofs.lemmas.Result.{IfErr-weaker, on_ok_weaker}
 use Rattle.std.specs.Io.KnownBytes.{Keeps}
 use Rattle.lines.specs.Bytes.{AppendsPart}
 use Rattle.multiplex.proofs.Coming.{few_come}
-use Rattle.multiplex.specs.declared.ends.Over.{Over}
-use Rattle.multiplex.specs.declared.ends.ServedEach.{ServedEach}
+use Rattle.multiplex.specs.declared.ends.ServingEnd.{ServingEnd}
+use Rattle.multiplex.specs.declared.ends.ServingsOutcome.{ServingsOutcome}
 use Rattle.serving.specs.Making.{Way}
 use Rattle.connections.specs.Connections.{Point}
-use Rattle.sealed.specs.declared.callers.Doors.{Doors}
+use Rattle.sealed.specs.declared.callers.Access.{Access}
 use Rattle.store.specs.declared.home.Home.{Home}
 use Rattle.serve.specs.Keys.{IsOfKeys}
 use Rattle.serve.specs.Printing.{Hinders, IsAllowed, IsFew, IsOfListener, IsOfOpening, IsOfStore}
@@ -31,9 +31,9 @@ few_of s count few = by s.connections few
     by None few = tt
     by (Some m) few = few
 
-few_served : {V : Type 0} {way : Way V} (s : Service) (d : Doors) (len : ℕ)
+few_served : {V : Type 0} {way : Way V} (s : Service) (d : Access) (len : ℕ)
     (o : Output) (a b : Point way)
-    (served : ServedEach)
+    (served : ServingsOutcome)
     → HasServed served (turn_of s d (home_of s) len o) a b
     → IsFew served.connections s
 few_served s d len o a b served h =
@@ -41,9 +41,9 @@ few_served s d len o a b served h =
     (few_come served (home_of s) (terms_of s d) (period_of s.tick) (with_clients h.0 a)
     (with_clients h.1 b) None None h.2 h.3)
 
-prints_to : {V : Type 0} {way : Way V} (s : Service) (d : Doors) (len : ℕ)
+prints_to : {V : Type 0} {way : Way V} (s : Service) (d : Access) (len : ℕ)
     (o : Output) (a b : Point way)
-    (e : Over)
+    (e : ServingEnd)
     → IsAllowed s → ServesTo e (turn_of s d (home_of s) len o) a b → Prints s o
 prints_to s d len o a b e allowed h = record {
   allowed = allowed;
@@ -53,7 +53,7 @@ prints_to s d len o a b e allowed h = record {
   written = h.3;
 }
 
-pub prints : {V : Type 0} {way : Way V} (s : Service) (d : Doors) (len : ℕ)
+pub prints : {V : Type 0} {way : Way V} (s : Service) (d : Access) (len : ℕ)
     (o : Output) (a b : Point way)
     → IsAllowed s → Serves (turn_of s d (home_of s) len o) a b → Prints s o
 prints s d len o a b allowed (inl h) = prints_to s d len o a b _ allowed h
@@ -69,7 +69,7 @@ more_of a c xs ys p = (
   },
 )
 
-prints_part : {V : Type 0} {way : Way V} (s : Service) (d : Doors) (len : ℕ)
+prints_part : {V : Type 0} {way : Way V} (s : Service) (d : Access) (len : ℕ)
     (o : Output) (a b : Point way)
     → IsAllowed s → IsCutOff (turn_of s d (home_of s) len o) a b → PrintsPart s o
 prints_part s d len o a b allowed (inl h) = record {
@@ -104,7 +104,7 @@ part_of s o h = record {
   );
 }
 
-pub prints_at : {V : Type 0} {way : Way V} (f : ServeFault) (s : Service) (d : Doors) (len : ℕ)
+pub prints_at : {V : Type 0} {way : Way V} (f : ServeFault) (s : Service) (d : Access) (len : ℕ)
     (o : Output)
     (a b : Point way)
     → IsAllowed s → FailsServing f (turn_of s d (home_of s) len o) a b
@@ -230,7 +230,7 @@ by_listener f s (inr is) allowed = subst (λ (f : ServeFault). Hinders f s) (sym
 
 -- ---- the desk that was opened is the one that was asked for
 
-pub printed : {V : Type 0} {way : Way V} (s : Service) (d : Doors) (home : Home)
+pub printed : {V : Type 0} {way : Way V} (s : Service) (d : Access) (home : Home)
     (len : ℕ) (o : Output)
     (a b : Point way) (r : Result (Unit {0}) ServeFault)
     → home ≡ home_of s → IsAllowed s
@@ -239,7 +239,7 @@ printed s d home len o a b r is allowed h =
     on_ok_weaker r (λ served. prints s d len o a b allowed
     (subst (λ (p : Home). Serves (turn_of s d p len o) a b) is served)) h
 
-ends_printed : {V : Type 0} {way : Way V} (s : Service) (d : Doors) (len : ℕ)
+ends_printed : {V : Type 0} {way : Way V} (s : Service) (d : Access) (len : ℕ)
     (o : Output) (a b : Point way)
     (f : ServeFault) → IsAllowed s
     → (IsOfListener f × Keeps o.old o.new)
@@ -248,7 +248,7 @@ ends_printed : {V : Type 0} {way : Way V} (s : Service) (d : Doors) (len : ℕ)
 ends_printed s d len o a b f allowed (inl e) = hindered f s o (by_listener f s e.0 allowed) e.1
 ends_printed s d len o a b f allowed (inr e) = prints_at f s d len o a b allowed e
 
-pub printed_fault : {V : Type 0} {way : Way V} (s : Service) (d : Doors) (home : Home)
+pub printed_fault : {V : Type 0} {way : Way V} (s : Service) (d : Access) (home : Home)
     (len : ℕ)
     (o : Output) (a b : Point way) (r : Result (Unit {0}) ServeFault)
     → home ≡ home_of s → IsAllowed s

@@ -2,9 +2,9 @@
 use Rattle.std.proofs.Common.{◌≡◌, ℕ, Option, inr, subst, length, Result, IfErr}
 use Rattle.std.proofs.lemmas.Result.{IfErr-weaker}
 use Rattle.std.specs.declared.io.Write.{Ghosts as WriteOf}
-use Rattle.multiplex.specs.declared.table.Terms.{Terms}
+use Rattle.multiplex.specs.declared.table.ServingOptions.{ServingOptions}
 use Rattle.replica.specs.Nodes.{NodeValue}
-use Rattle.sealed.specs.declared.callers.Doors.{Doors}
+use Rattle.sealed.specs.declared.callers.Access.{Access}
 use Rattle.store.specs.declared.keeper.Keeper.{Ghosts as KeeperOf}
 use Rattle.serve.specs.Printing.{output}
 use Rattle.serve.specs.Serves.{FailsServing, FailsThere, period_of, resting, terms_of, turn}
@@ -12,15 +12,15 @@ use Rattle.serve.specs.Serves.{unheard}
 use Rattle.serve.specs.declared.fault.ServeFault.{ServeFault}
 use Rattle.hall_file.specs.declared.service.Service.{Service}
 
-abbrev FailsOn : {K X : Type 0} → KeeperOf K → WriteOf X → Terms → Option ℕ → NodeValue K
+abbrev FailsOn : {K X : Type 0} → KeeperOf K → WriteOf X → ServingOptions → Option ℕ → NodeValue K
     → NodeValue K → (before after : X) → ServeFault → Type 0
 FailsOn k w t period first last before after f =
     FailsServing f (turn (k.home_of first.keeper) t period (length first.desk.log)
     (output (w.contents before) (w.contents after)) unheard)
     (resting k t.wire first) (resting k t.wire last)
 
-pub failed_there : {K X : Type 0} (k : KeeperOf K) (w : WriteOf X) (s : Service) (d : Doors)
-    (t : Terms) (p : Option ℕ) (first last : NodeValue K) (before after : X)
+pub failed_there : {K X : Type 0} (k : KeeperOf K) (w : WriteOf X) (s : Service) (d : Access)
+    (t : ServingOptions) (p : Option ℕ) (first last : NodeValue K) (before after : X)
     (r : Result (Unit {0}) ServeFault)
     → t ≡ terms_of s d → p ≡ period_of s.tick
     → IfErr r (λ f. FailsOn k w t p first last before after f)

@@ -4,8 +4,8 @@ use Rattle.std.specs.Prelude.{IsSome, if◌then◌else◌, is_some}
 use Rattle.std.specs.Borrow.{Bor}
 use Rattle.std.specs.Option.{option_or}
 use Rattle.keys.specs.key_file.KeyFiles.{HasKey}
-use Rattle.sealed.specs.declared.callers.Doors.{Doors}
-use Rattle.sealed.specs.declared.callers.Doors.TheVariants.{Open, Locked}
+use Rattle.sealed.specs.declared.callers.Access.{Access}
+use Rattle.sealed.specs.declared.callers.Access.TheVariants.{Open, Locked}
 use Rattle.serve.specs.declared.fault.ServeFault.{ServeFault}
 use Rattle.serve.specs.declared.fault.ServeFault.TheVariants as fault
 use Rattle.hall_file.specs.declared.service.Service.{Service}
@@ -33,18 +33,18 @@ IsSecond s hall (Some key) = IsSome (second_file s) × IsKey key × (key ≢ hal
 
 -- nothing is asked of the clients of a desk that has no key; and else one of its keys, but that
 -- callers without one may ask for sheets, where that is said
-abbrev pub AreDoors : Service → Doors → Type 0
+abbrev pub AreDoors : Service → Access → Type 0
 AreDoors s Open = IsNone s.key
 AreDoors s (Locked locks) =
     IsSome s.key × IsKey locks.hall × IsSecond s locks.hall locks.entry
     × (locks.old ≡ is_some s.old_key) × (locks.sheets ≡ s.open_sheets)
 
-abbrev pub hall_key : Doors → Option (List ℕ)
+abbrev pub hall_key : Access → Option (List ℕ)
 hall_key Open = None
 hall_key (Locked locks) = Some locks.hall
 
 -- the key that was the hall's, while it is changed
-abbrev pub old_key : Doors → Option (List ℕ)
+abbrev pub old_key : Access → Option (List ℕ)
 old_key Open = None
 old_key (Locked locks) = if locks.old then locks.entry else None
 

@@ -11,8 +11,8 @@ use Rattle.serve.specs.Addresses.{AreApart, HasTwins, IsNoAddress}
 use Rattle.serve.specs.Keys.{IsKeyed, IsOfKeys, LacksKey}
 use Rattle.serve.specs.declared.fault.ServeFault.{ServeFault}
 use Rattle.serve.specs.declared.fault.ServeFault.TheVariants as fault
-use Rattle.hall_file.specs.declared.service.Making.{Making}
-use Rattle.hall_file.specs.declared.service.Making.TheVariants as making
+use Rattle.hall_file.specs.declared.service.StoreOrigin.{StoreOrigin}
+use Rattle.hall_file.specs.declared.service.StoreOrigin.TheVariants as making
 use Rattle.hall_file.specs.declared.service.Service.{Service}
 
 -- which desk it is, of how many, and how long its log is
@@ -39,8 +39,8 @@ IsCount s = (length s.addresses.now ≡ 3) ⊎ (length s.addresses.now ≡ 5)
 abbrev pub IsPlaced : Service → Type 0
 IsPlaced s = IsHome (home_of s)
 
--- it is said whether the store is opened or made, as a hall's file does
-abbrev pub IsOfFile : Making → Type 0
+-- the arguments say whether the store is opened or made, as they do with a hall's file
+abbrev pub IsOfFile : StoreOrigin → Type 0
 IsOfFile making.AsNeeded = ⊥
 IsOfFile making.Open = Unit {0}
 IsOfFile making.New = Unit {0}
@@ -66,7 +66,7 @@ IsRefused _ s = ⊥
 
 -- Why a file is not opened in which a store is, or none: a store that has to be there is not, or
 -- one that has to be made is there already.
-abbrev pub refusal_of : Making → Bool → Option ServeFault
+abbrev pub refusal_of : StoreOrigin → Bool → Option ServeFault
 refusal_of making.AsNeeded there = None
 refusal_of making.Open true = None
 refusal_of making.Open false = Some fault.NoStore
@@ -112,7 +112,7 @@ pub record Output : Type 0 where
 abbrev pub output : Option (List ℕ) → Option (List ℕ) → Output
 output old new = record { old = old; new = new }
 
--- at most as many clients came as were asked for, where that was said
+-- at most as many clients came as the arguments say, if they say it
 abbrev pub IsFew : ℕ → Service → Type 0
 IsFew count s = IfSome s.connections (λ most. count ≤ most)
 

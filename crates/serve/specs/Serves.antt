@@ -8,11 +8,12 @@ use Rattle.sqlite.specs.Recovery.{Image}
 use Rattle.lines.specs.Bytes.{AppendsPart}
 use Rattle.multiplex.specs.Happenings.{Happened}
 use Rattle.multiplex.specs.Passing.{IsServedEach, Lobby, Room, Step}
-use Rattle.multiplex.specs.declared.ends.Over.{Over}
-use Rattle.multiplex.specs.declared.ends.Over.TheVariants as over
-use Rattle.multiplex.specs.declared.ends.ServedEach.{ServedEach}
-use Rattle.multiplex.specs.declared.table.Terms.{Terms}
+use Rattle.multiplex.specs.declared.ends.ServingEnd.{ServingEnd}
+use Rattle.multiplex.specs.declared.ends.ServingEnd.TheVariants as over
+use Rattle.multiplex.specs.declared.ends.ServingsOutcome.{ServingsOutcome}
+use Rattle.multiplex.specs.declared.table.ServingOptions.{ServingOptions}
 use Rattle.replica.specs.Handles.{Handles}
+use Rattle.replica.specs.Settles.{Settles}
 use Rattle.node.specs.Seeing.{seen_of}
 use Rattle.replica.specs.Nodes.{NodeValue}
 use Rattle.serving.specs.Making.{Way, outside_of, speaking}
@@ -21,7 +22,7 @@ use Rattle.connections.specs.Connections.{Point}
 use Rattle.store.specs.declared.home.Home.{Home}
 use Rattle.store.specs.declared.keeper.Keeper.{Ghosts as KeeperOf}
 use Rattle.wire.specs.declared.values.Version.{Version}
-use Rattle.sealed.specs.declared.callers.Doors.{Doors}
+use Rattle.sealed.specs.declared.callers.Access.{Access}
 use Rattle.serve.specs.Files.{IsOpenedOn, KeepsFor}
 use Rattle.serve.specs.Keys.{AreDoors}
 use Rattle.serve.specs.Printing.{Hinders, IsOfListener, Output, first_line, both_lines, home_of}
@@ -40,7 +41,7 @@ most_of None = 2 ^ 64 - 1
 -- silent for this many milliseconds, and for a second more, since the silence of a client counts
 -- from the end of the round before it was ready, which may be a second ago; and this is asked of
 -- each
-abbrev pub terms_of : Service → Doors → Terms
+abbrev pub terms_of : Service → Access → ServingOptions
 terms_of s doors = record {
   wire = s.wire;
   most = most_of s.connections;
@@ -66,13 +67,13 @@ heard old new = record { old = old; new = new }
 -- how long its log is, the writer, and what came of its clients
 pub record Turn : Type 0 where
   pub home : Home
-  pub terms : Terms
+  pub terms : ServingOptions
   pub period : Option ℕ
   pub len : ℕ
   pub out : Output
   pub heard : Heard
 
-abbrev pub turn : Home → Terms → Option ℕ → ℕ → Output → Heard → Turn
+abbrev pub turn : Home → ServingOptions → Option ℕ → ℕ → Output → Heard → Turn
 turn home terms period len o h =
     record { home = home; terms = terms; period = period; len = len; out = o; heard = h }
 
@@ -81,7 +82,7 @@ abbrev pub with_clients : {V : Type 0} → {way : Way V} → Lobby → Point way
 with_clients l a = record { lobby = l; seen = a.seen; outside = a.outside }
 
 -- clients were served side by side, to this end
-abbrev pub HasServed : {V : Type 0} → {way : Way V} → ServedEach → Turn → Point way → Point way
+abbrev pub HasServed : {V : Type 0} → {way : Way V} → ServingsOutcome → Turn → Point way → Point way
     → Type 0
 HasServed served t a b =
     (first : Lobby) × (last : Lobby) × (steps : List Step)
@@ -90,11 +91,12 @@ HasServed served t a b =
 
 -- this many clients were served to this end; for one of the desk's own Ticks memory was refused, or
 -- for none
-abbrev pub served_to : ℕ → Over → Bool → ServedEach
+abbrev pub served_to : ℕ → ServingEnd → Bool → ServingsOutcome
 served_to count over starved = record { connections = count; over = over; starved = starved }
 
 -- clients were served to this end, and both lines were written
-abbrev pub ServesTo : {V : Type 0} → {way : Way V} → Over → Turn → Point way → Point way → Type 0
+abbrev pub ServesTo : {V : Type 0} → {way : Way V} → ServingEnd → Turn → Point way → Point way
+    → Type 0
 ServesTo over t a b =
     (count : ℕ) × (starved : Bool) × HasServed (served_to count over starved) t a b
     × Appends t.out.old t.out.new (both_lines t.home t.len count)
@@ -104,7 +106,7 @@ abbrev pub IsCutOff : {V : Type 0} → {way : Way V} → Turn → Point way → 
 IsCutOff t a b =
     ((a ≡ b) × (t.heard.old ≡ t.heard.new)
     × AppendsPart t.out.old t.out.new (first_line t.home t.len))
-    ⊎ ((served : ServedEach) × HasServed served t a b
+    ⊎ ((served : ServingsOutcome) × HasServed served t a b
     × AppendsPart t.out.old t.out.new (both_lines t.home t.len served.connections))
 
 -- as many clients were served as were asked for, or one asked the desk to stop
@@ -112,7 +114,7 @@ abbrev pub Serves : {V : Type 0} → {way : Way V} → Turn → Point way → Po
 Serves t a b = ServesTo over.All t a b ⊎ ServesTo over.Stopped t a b
 
 -- what the end of serving says
-abbrev pub ends_by : Over → Result (Unit {0}) ServeFault
+abbrev pub ends_by : ServingEnd → Result (Unit {0}) ServeFault
 ends_by over.All = Ok tt
 ends_by over.Stopped = Ok tt
 ends_by over.Down = Err fault.Down
@@ -129,30 +131,32 @@ FailsServing fault.Write t a b = IsCutOff t a b
 FailsServing fault.NoMemory t a b = ServesTo over.NoMemory t a b ⊎ IsCutOff t a b
 FailsServing _ t a b = ⊥
 
--- of sockets nothing is told of what comes of clients
+-- of sockets nothing is said of what comes of clients
 abbrev pub unheard : Heard
 unheard = heard None None
 
--- what is told of a desk that serves as it is asked for, with a log of this length at first
-abbrev pub turn_of : Service → Doors → Home → ℕ → Output → Turn
+-- what is known of a desk that serves as it is asked for, with a log of this length at first
+abbrev pub turn_of : Service → Access → Home → ℕ → Output → Turn
 turn_of s doors home len o = turn home (terms_of s doors) (period_of s.tick) len o unheard
 
--- a node, where nothing is told of what the other desks were handed
+-- a node, where nothing is said of what the other desks were handed
 abbrev pub resting : {K : Type 0} → (k : KeeperOf K) → (wire : Version) → NodeValue K
-    → Point (speaking (Handles k) wire)
+    → Point (speaking (Handles k) (Settles k) wire)
 resting k wire node = record {
   seen = seen_of node;
-  outside = outside_of (speaking (Handles k) wire) node None;
+  outside = outside_of (speaking (Handles k) (Settles k) wire) node None;
 }
 
--- The desk that was opened on these files served so, and asked of its clients what its keys say:
--- from what it was then, with the length of its log in the first line, to what it was at the end.
+-- The desk that was opened on these files served in this way, and asked of its clients what its
+-- keys say: from its state at the opening, with the length of its log in the first line, to its
+-- state at the end.
 pub record IsRun {K : Type 0} (k : KeeperOf K) (files : Image) (s : Service) (o : Output)
-    (Does : Turn → Point (speaking (Handles k) s.wire) → Point (speaking (Handles k) s.wire)
+    (Does : Turn → Point (speaking (Handles k) (Settles k) s.wire)
+    → Point (speaking (Handles k) (Settles k) s.wire)
     → Type 0) : Type 0 where
   pub first : NodeValue K
   pub last : NodeValue K
-  pub doors : Doors
+  pub doors : Access
   pub keyed : AreDoors s doors
   pub opened : IsOpenedOn k s.making files (home_of s) first
   pub served : Does (turn_of s doors (home_of s) (length first.desk.log) o)
@@ -176,9 +180,9 @@ abbrev pub stage : {K U C X : Type 0} → NodeValue K → U → C → X → Stag
 stage node links clients writer =
     record { node = node; links = links; clients = clients; writer = writer }
 
--- what is told of a node that served between these two
+-- what is known of a node that served between these two
 abbrev pub TellsOf : {K U C X : Type 0} → KeeperOf K → (C → Option (List Happened)) → WriteOf X
-    → Terms → Option ℕ → Stage K U C X → Stage K U C X → Turn
+    → ServingOptions → Option ℕ → Stage K U C X → Stage K U C X → Turn
 TellsOf k happened w terms period a b =
     turn (k.home_of a.node.keeper) terms period (length a.node.desk.log)
     (output (w.contents a.writer) (w.contents b.writer))
@@ -186,15 +190,16 @@ TellsOf k happened w terms period a b =
 
 -- the node, where frames are pushed in this version
 abbrev pub resting_on : {K U C X : Type 0} → (k : KeeperOf K) → PeersOf U → (wire : Version)
-    → Stage K U C X → Point (speaking (Handles k) wire)
+    → Stage K U C X → Point (speaking (Handles k) (Settles k) wire)
 resting_on k p wire x = record {
   seen = seen_of x.node;
-  outside = outside_of (speaking (Handles k) wire) x.node (p.handed x.links);
+  outside = outside_of (speaking (Handles k) (Settles k) wire) x.node (p.handed x.links);
 }
 
 -- the node served its clients, and printed both lines
 abbrev pub ServesNode : {K U C X : Type 0} → KeeperOf K → PeersOf U
-    → (C → Option (List Happened)) → WriteOf X → Terms → Option ℕ → Stage K U C X → Stage K U C X
+    → (C → Option (List Happened)) → WriteOf X → ServingOptions → Option ℕ → Stage K U C X
+    → Stage K U C X
     → Type 0
 ServesNode k p happened w terms period a b =
     Serves (TellsOf k happened w terms period a b) (resting_on k p terms.wire a)
@@ -202,28 +207,29 @@ ServesNode k p happened w terms period a b =
 
 -- it ended by this fault
 abbrev pub FailsNode : {K U C X : Type 0} → KeeperOf K → PeersOf U
-    → (C → Option (List Happened)) → WriteOf X → Terms → Option ℕ → Stage K U C X → Stage K U C X
+    → (C → Option (List Happened)) → WriteOf X → ServingOptions → Option ℕ → Stage K U C X
+    → Stage K U C X
     → ServeFault → Type 0
 FailsNode k p happened w terms period a b f =
     FailsServing f (TellsOf k happened w terms period a b) (resting_on k p terms.wire a)
     (resting_on k p terms.wire b)
 
--- what is told of a node that serves at its address
-abbrev pub told_there : {K X : Type 0} → KeeperOf K → WriteOf X → Service → Doors → NodeValue K
+-- what is known of a node that serves at its address
+abbrev pub told_there : {K X : Type 0} → KeeperOf K → WriteOf X → Service → Access → NodeValue K
     → (before after : X) → Turn
 told_there k w s doors node before after =
     turn_of s doors (k.home_of node.keeper) (length node.desk.log)
     (output (w.contents before) (w.contents after))
 
 -- the node served at its address, and printed both lines
-abbrev pub ServesThere : {K X : Type 0} → KeeperOf K → WriteOf X → Service → Doors → NodeValue K
+abbrev pub ServesThere : {K X : Type 0} → KeeperOf K → WriteOf X → Service → Access → NodeValue K
     → NodeValue K → (before after : X) → Type 0
 ServesThere k w s doors first last before after =
     Serves (told_there k w s doors first before after) (resting k s.wire first)
     (resting k s.wire last)
 
 -- it could not listen there, and nothing was printed; or it served, and ended by this fault
-abbrev pub FailsThere : {K X : Type 0} → KeeperOf K → WriteOf X → Service → Doors → NodeValue K
+abbrev pub FailsThere : {K X : Type 0} → KeeperOf K → WriteOf X → Service → Access → NodeValue K
     → NodeValue K → (before after : X) → ServeFault → Type 0
 FailsThere k w s doors first last before after f =
     (IsOfListener f × Keeps (w.contents before) (w.contents after))

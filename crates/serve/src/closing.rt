@@ -13,9 +13,9 @@ pub trait Close {
 }
 
 impl<S: Start> Close for SqlKeeper<FileStore<FileFrom<S>>> {
-    /// Copies what is in the file's log into the file itself, so that who copies the file alone has
-    /// everything, and says in the file that it is in use no more. Where the device refuses that,
-    /// the log beside the file still has it.
+    /// Copies what is in the file's log into the file itself, so that a copy of the file alone has
+    /// everything, and notes in the file that it is no longer in use. Where the device refuses
+    /// that, the log beside the file still has it.
     fn close(self) {
         let _ = put_away(self);
     }

@@ -7,7 +7,7 @@ ghost use Rattle.serve.specs.Keys.{IsSecond, hall_key, old_key, second_file};
 use crate::fault::ServeFault;
 use hall_file::service::Service;
 use keys::key_file::read_key_at;
-use sealed::{Doors, Locks};
+use sealed::{Access, DeskKeys};
 
 /// The key that the file at this path has.
 fn key_at(rt: &HostRuntime, path: &str) -> Result<[u8; 32], ServeFault>
@@ -54,15 +54,15 @@ fn second_of(
 ///
 /// # Errors
 ///
-/// - `KeyFile` where the file of the hall's key gives none, and then where that of the second key
+/// - `KeyFile` where the file of the hall's key gives no key, and then where that of the second key
 ///   gives none.
 /// - `SameKeys` where the two keys are one.
-pub fn doors_of(rt: &HostRuntime, service: Service<'_>) -> Result<Doors, ServeFault>
+pub fn doors_of(rt: &HostRuntime, service: Service<'_>) -> Result<Access, ServeFault>
     ensures ok { IfOk result (AreDoors service.entry) }
     ensures err { IfErr result (λ f. IsOfKeys f service.entry) }
 {
     let Some(path) = service.key else {
-        return Ok(Doors::Open);
+        return Ok(Access::Open);
     };
     let hall = match key_at(rt, path) {
         Ok(hall) => hall,
@@ -72,8 +72,8 @@ pub fn doors_of(rt: &HostRuntime, service: Service<'_>) -> Result<Doors, ServeFa
         Ok(entry) => entry,
         Err(fault) => return Err(fault),
     };
-    Ok(Doors::Locked {
-        locks: Locks {
+    Ok(Access::Locked {
+        locks: DeskKeys {
             hall,
             entry,
             old: service.old_key.is_some(),
@@ -83,21 +83,21 @@ pub fn doors_of(rt: &HostRuntime, service: Service<'_>) -> Result<Doors, ServeFa
 }
 
 /// The hall's key, where the desk has one.
-pub fn hall_key(doors: Doors) -> Option<[u8; 32]>
+pub fn hall_key(doors: Access) -> Option<[u8; 32]>
     ensures { result ≡ hall_key doors }
 {
     match doors {
-        Doors::Open => None,
-        Doors::Locked { locks } => Some(locks.hall),
+        Access::Open => None,
+        Access::Locked { locks } => Some(locks.hall),
     }
 }
 
 /// The key that was the hall's, while it is changed.
-pub fn old_key(doors: Doors) -> Option<[u8; 32]>
+pub fn old_key(doors: Access) -> Option<[u8; 32]>
     ensures { result ≡ old_key doors }
 {
     match doors {
-        Doors::Open => None,
-        Doors::Locked { locks } => { if locks.old { locks.entry } else { None } }
+        Access::Open => None,
+        Access::Locked { locks } => { if locks.old { locks.entry } else { None } }
     }
 }

@@ -17,7 +17,7 @@ pub enum ServeFault {
     SameAddresses,
     /// A second key, or open sheets, are asked for without a hall's key.
     NoHallKey,
-    /// The file of the hall's key gives none, or that of the second key.
+    /// The file of the hall's key, or that of the second key, gives no key.
     KeyFile(KeyFileFault),
     /// The hall's key and the second key are one.
     SameKeys,

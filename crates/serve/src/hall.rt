@@ -10,10 +10,10 @@ use crate::doors::{hall_key, old_key};
 use crate::fault::ServeFault;
 use crate::twins::twins_in;
 use hall_file::service::Service;
-use mio_sockets::{DeskLinks, SocketClients, SocketLinks, SocketWires};
-use multiplex::Links;
+use mio_sockets::{DeskLinks, SocketClients, SocketConnections, SocketLinks};
+use multiplex::PeerLinks;
 use prompt_lines::PromptLines;
-use sealed::Doors;
+use sealed::Access;
 use std::alloc::{AllocError, Global};
 use std::io::{ErrorKind, Write};
 use std::net::{Net, SocketAddr, ToSocketAddrs};
@@ -127,8 +127,16 @@ const LAST_LOOKS: u32 = 100;
 /// How many milliseconds lie between two of these looks.
 const BETWEEN_LOOKS: u64 = 10;
 
-/// Sends what waits for the other desks, once a desk has served, for a second at most.
-pub fn send_rest(rt: &HostRuntime, links: &mut SocketLinks<'_, HostRuntime, PromptLines>) {
+/// Sends what waits for the other desks, once a desk has served, for a second at most. Of a desk
+/// that is down nothing is sent: what it pushed last may not be settled.
+pub fn send_rest(
+    rt: &HostRuntime,
+    links: &mut SocketLinks<'_, HostRuntime, PromptLines>,
+    is_down: bool,
+) {
+    if is_down {
+        return;
+    }
     let mut now = links.time();
     for _look in 0..LAST_LOOKS {
         now = now.saturating_add(BETWEEN_LOOKS);
@@ -141,13 +149,13 @@ pub fn send_rest(rt: &HostRuntime, links: &mut SocketLinks<'_, HostRuntime, Prom
 }
 
 /// The links to the other desks, at the desk's start of this number, whose sockets the poll of the
-/// clients tells of. Where the desk has keys, they speak under the hall's, or the one that was its
+/// clients watches. Where the desk has keys, they speak under the hall's, or the one that was its
 /// own. Where lines about other desks are wanted, it says which two have one address, and of which
 /// no address was found.
 pub fn links_to<'r>(
     rt: &'r HostRuntime,
     service: Service<'_>,
-    doors: Doors,
+    doors: Access,
     clients: &SocketClients<'r, HostRuntime>,
     start: u64,
 ) -> Result<SocketLinks<'r, HostRuntime, PromptLines>, ServeFault>
@@ -172,7 +180,7 @@ pub fn links_to<'r>(
     match DeskLinks::new(
         rt.alloc(),
         &addresses,
-        SocketWires::new(
+        SocketConnections::new(
             rt,
             rt.alloc(),
             registry,

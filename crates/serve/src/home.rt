@@ -9,16 +9,16 @@ ghost use Rattle.serve.specs.Printing.{IsAllowed, IsOfFile, IsRefused, home_of, 
 use crate::doors::second_file;
 use crate::fault::ServeFault;
 use crate::twins::twins_in;
-use hall_file::service::{Making, Service};
+use hall_file::service::{Service, StoreOrigin};
 use store::home::Home;
 
 /// Whether it is said that the store is opened or made, as a hall's file does.
-pub fn is_of_file(making: Making) -> bool
+pub fn is_of_file(making: StoreOrigin) -> bool
     ensures { IsTrue result ↔ IsOfFile making }
 {
     match making {
-        Making::AsNeeded => false,
-        Making::Open | Making::New => true,
+        StoreOrigin::AsNeeded => false,
+        StoreOrigin::Open | StoreOrigin::New => true,
     }
 }
 

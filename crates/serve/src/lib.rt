@@ -13,6 +13,6 @@ mod telling;
 mod twins;
 
 pub use fault::ServeFault;
-pub use hall_file::service::{Making, Service};
+pub use hall_file::service::{Service, StoreOrigin};
 pub use opening::has_bytes;
 pub use running::{serve, serve_node};

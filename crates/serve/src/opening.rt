@@ -13,7 +13,7 @@ use crate::fault::{ServeFault, fault_of_open};
 use crate::hall::{listen, unknown_in};
 use acceptor::stored::Stored;
 use desk_file::{check_use, fault_of_load, make_file, open_keeper, open_keeper_there, put_in_use};
-use hall_file::service::{Making, Service};
+use hall_file::service::{Service, StoreOrigin};
 use learner::log::Log;
 use sqlite::{FileFrom, FileStore, Start, Unknown};
 use sqlite_disk::Disk;
@@ -27,7 +27,7 @@ use store::sql::SqlKeeper;
 
 /// The store of a desk that was opened.
 #[derive(Drop)]
-pub struct Opened<K> {
+pub struct OpenedStore<K> {
     /// What keeps the desk's state and its log.
     pub keeper: K,
     /// A number that grows each time that the file is opened to serve.
@@ -35,13 +35,13 @@ pub struct Opened<K> {
 }
 
 /// Why a file is not opened in which a store is, or none.
-fn refusal_of(making: Making, there: bool) -> Option<ServeFault>
+fn refusal_of(making: StoreOrigin, there: bool) -> Option<ServeFault>
     ensures { result ≡ refusal_of making there }
 {
     match making {
-        Making::AsNeeded => None,
-        Making::Open => (!there).then_some(ServeFault::NoStore),
-        Making::New => there.then_some(ServeFault::StoreThere),
+        StoreOrigin::AsNeeded => None,
+        StoreOrigin::Open => (!there).then_some(ServeFault::NoStore),
+        StoreOrigin::New => there.then_some(ServeFault::StoreThere),
     }
 }
 
@@ -59,13 +59,14 @@ pub fn has_bytes<R: Files>(rt: &R, path: &str) -> Result<bool, ServeFault>
     }
 }
 
-/// Looks whether the store is there that is to be opened, or none where one is to be made, and then
-/// whether each desk's address can be found, and whether the desk's own can be had before a store
-/// is made. Where a store is made as it is needed, nothing is looked at.
+/// Looks whether the store that is to be opened is there, or that no store is there where one is to
+/// be made. Then it looks whether each desk's address can be found, and, before a store is made,
+/// whether the desk's own address can be had. Where a store is made as it is needed, nothing is
+/// looked at.
 fn may_open(rt: &HostRuntime, service: Service<'_>) -> Result<(), ServeFault>
     ensures { IfErr result (λ f. IsOfOpening f service.entry) }
 {
-    if service.making == Making::AsNeeded {
+    if service.making == StoreOrigin::AsNeeded {
         return Ok(());
     }
     let there = match has_bytes(rt, service.store) {
@@ -79,8 +80,8 @@ fn may_open(rt: &HostRuntime, service: Service<'_>) -> Result<(), ServeFault>
         return Err(ServeFault::UnknownHost { desk });
     }
     match service.making {
-        Making::AsNeeded | Making::Open => Ok(()),
-        Making::New => match listen(rt, service, 0) {
+        StoreOrigin::AsNeeded | StoreOrigin::Open => Ok(()),
+        StoreOrigin::New => match listen(rt, service, 0) {
             Ok(_) => Ok(()),
             Err(fault) => Err(fault),
         },
@@ -93,8 +94,8 @@ fn make_as_asked(rt: &HostRuntime, service: Service<'_>, home: Home) -> Result<(
     ensures { IfErr result (λ f. IsOfOpening f service.entry) }
 {
     match service.making {
-        Making::AsNeeded | Making::Open => Ok(()),
-        Making::New => match make_file(rt, home, service.store, Unknown) {
+        StoreOrigin::AsNeeded | StoreOrigin::Open => Ok(()),
+        StoreOrigin::New => match make_file(rt, home, service.store, Unknown) {
             Ok(()) => Ok(()),
             Err(fault) => Err(fault_of_open(fault)),
         },
@@ -116,15 +117,15 @@ fn open_as_asked<S: Start>(
 {
     let path = service.store;
     match service.making {
-        Making::AsNeeded => match open_keeper(rt, home, path, start) {
+        StoreOrigin::AsNeeded => match open_keeper(rt, home, path, start) {
             Ok(keeper) => Ok(keeper),
             Err(fault) => Err(fault_of_open(fault)),
         },
-        Making::Open => match open_keeper_there(rt, home, path, start) {
+        StoreOrigin::Open => match open_keeper_there(rt, home, path, start) {
             Ok(keeper) => Ok(keeper),
             Err(fault) => Err(fault_of_open(fault)),
         },
-        Making::New => match open_keeper_there(rt, home, path, start) {
+        StoreOrigin::New => match open_keeper_there(rt, home, path, start) {
             Ok(keeper) => Ok(keeper),
             Err(fault) => Err(fault_of_open(fault)),
         },
@@ -171,10 +172,11 @@ fn first_of<K: Keeper + Drop>(
     service: Service<'_>,
     mut keeper: K,
 ) -> Result<K, ServeFault>
-    requires { service.making ≡ Making.New }
+    requires new { service.making ≡ StoreOrigin.New }
+    requires settled { K.is_settled keeper }
     ensures first { IfOk result (λ it. (files : Image) (home : Place)
-        → KeepsFor K.Keeper Making.Open files home keeper
-        → KeepsFor K.Keeper Making.New files home it) }
+        → KeepsFor K.Keeper StoreOrigin.Open files home keeper
+        → KeepsFor K.Keeper StoreOrigin.New files home it) }
     ensures err { IfErr result (λ f. IsOfOpening f service.entry) }
 {
     match keeper.load(alloc) {
@@ -194,15 +196,16 @@ fn as_asked<K: Keeper + Drop>(
     service: Service<'_>,
     keeper: K,
 ) -> Result<K, ServeFault>
+    requires settled { K.is_settled keeper }
     ensures kept { IfOk result (λ it. (files : Image) (home : Place)
         → KeepsFor K.Keeper (opening_of service.entry.making) files home keeper
         → KeepsFor K.Keeper service.entry.making files home it) }
     ensures err { IfErr result (λ f. IsOfOpening f service.entry) }
 {
     match service.making {
-        Making::AsNeeded => Ok(keeper),
-        Making::Open => Ok(keeper),
-        Making::New => first_of(alloc, service, keeper),
+        StoreOrigin::AsNeeded => Ok(keeper),
+        StoreOrigin::Open => Ok(keeper),
+        StoreOrigin::New => first_of(alloc, service, keeper),
     }
 }
 
@@ -229,7 +232,7 @@ pub fn open_store<S: Start>(
     service: Service<'_>,
     home: Home,
     start: S,
-) -> Result<Opened<SqlKeeper<FileStore<FileFrom<S>>>>, ServeFault>
+) -> Result<OpenedStore<SqlKeeper<FileStore<FileFrom<S>>>>, ServeFault>
     requires { IsHome home }
     ensures opened { IfOk result (λ it. KeepsFor ⟦<SqlKeeper<FileStore<FileFrom<S>>> as Keeper>⟧
         service.entry.making (image_at S.Start) home it.keeper) }
@@ -253,7 +256,7 @@ pub fn open_store<S: Start>(
         Err(fault) => return Err(fault),
     };
     match as_asked(rt.alloc(), service, opened) {
-        Ok(keeper) => Ok(Opened {
+        Ok(keeper) => Ok(OpenedStore {
             keeper,
             start: number,
         }),

@@ -17,9 +17,9 @@ use crate::opening::open_store;
 use crate::telling::{tell_first, tell_last};
 use desk_file::fault_of_load;
 use hall_file::service::Service;
-use multiplex::{Clients, Links, Over, Terms, serve_each};
+use multiplex::{Clients, PeerLinks, ServingEnd, ServingOptions, serve_each};
 use node::Node;
-use sealed::Doors;
+use sealed::Access;
 use sqlite::{FileFrom, FileStore, Start};
 use std::alloc::Global;
 use std::io::Write;
@@ -31,28 +31,28 @@ use ticking::Period;
 /// counts from the end of the round before it was ready.
 const ROUND: u64 = 1000;
 
-/// What the end of serving says: a fault where the system tells nothing of the clients any more,
+/// What the end of serving says: a fault where the system says nothing of the clients any more,
 /// where the desk is down, and where memory runs out.
-fn told_end(over: Over) -> Result<(), ServeFault>
+fn told_end(over: ServingEnd) -> Result<(), ServeFault>
     ensures { result ≡ ends_by over }
 {
     match over {
-        Over::All | Over::Stopped => Ok(()),
-        Over::Down => Err(ServeFault::Down),
-        Over::Failed | Over::Tired => Err(ServeFault::CannotListen),
-        Over::NoMemory => Err(ServeFault::NoMemory),
+        ServingEnd::All | ServingEnd::Stopped => Ok(()),
+        ServingEnd::Down => Err(ServeFault::Down),
+        ServingEnd::Failed | ServingEnd::Tired => Err(ServeFault::CannotListen),
+        ServingEnd::NoMemory => Err(ServeFault::NoMemory),
     }
 }
 
 /// How the clients of a desk are served.
-fn terms_of(service: Service<'_>, doors: Doors) -> Terms
+fn terms_of(service: Service<'_>, doors: Access) -> ServingOptions
     ensures { result ≡ terms_of service.entry doors }
 {
     let most = match service.connections {
         Some(connections) => u64::from(connections),
         None => u64::MAX,
     };
-    Terms {
+    ServingOptions {
         wire: service.wire,
         most,
         patience: u64::from(service.patience) * 1000 + ROUND,
@@ -60,8 +60,9 @@ fn terms_of(service: Service<'_>, doors: Doors) -> Terms
     }
 }
 
-/// The period of the desk's own Ticks: the one that is asked for. None where none is, and where a
-/// number is asked for that is no period; the program's arguments refuse such a number.
+/// The period of the desk's own Ticks: the one that is asked for. None where no period is asked
+/// for, and where the number that is asked for is invalid; the program's arguments refuse such a
+/// number.
 fn period_of(service: Service<'_>) -> Option<Period>
     ensures { result ≡ period_of service.entry.tick }
 {
@@ -77,16 +78,16 @@ fn period_of(service: Service<'_>) -> Option<Period>
 ///
 /// # Errors
 ///
-/// - `Down` where the desk is down, and `CannotListen` where the system tells nothing of the
+/// - `Down` where the desk is down, and `CannotListen` where the system says nothing of the
 ///   clients any more: both lines are written.
 /// - `Write` where a line can't be written.
 /// - `NoMemory` where there is no memory for a line, or for the clients; then both lines are
 ///   written.
 ///
 /// Where the first line can't be written, nobody is served.
-pub fn serve_node<K: Keeper + Drop, C: Clients, L: Links, W: Write>(
+pub fn serve_node<K: Keeper + Drop, C: Clients, L: PeerLinks, W: Write>(
     alloc: Global,
-    terms: Terms,
+    terms: ServingOptions,
     period: Option<Period>,
     clients: &mut C,
     node: &mut Node<K>,
@@ -114,7 +115,7 @@ pub fn serve_node<K: Keeper + Drop, C: Clients, L: Links, W: Write>(
 fn serve_there<K: Keeper + Drop, W: Write>(
     rt: &HostRuntime,
     service: Service<'_>,
-    doors: Doors,
+    doors: Access,
     start: u64,
     node: &mut Node<K>,
     writer: &mut W,
@@ -141,7 +142,7 @@ fn serve_there<K: Keeper + Drop, W: Write>(
         &mut links,
         writer,
     );
-    send_rest(rt, &mut links);
+    send_rest(rt, &mut links, node.is_down());
     ended
 }
 
@@ -150,7 +151,7 @@ fn serve_there<K: Keeper + Drop, W: Write>(
 fn serve_kept<K: Keeper + Close + Drop, W: Write>(
     rt: &HostRuntime,
     service: Service<'_>,
-    doors: Doors,
+    doors: Access,
     start: u64,
     keeper: K,
     writer: &mut W,
@@ -158,6 +159,7 @@ fn serve_kept<K: Keeper + Close + Drop, W: Write>(
     requires allowed { IsAllowed service }
     requires doors { AreDoors service doors }
     requires place { K.home_of keeper ≡ home_of service }
+    requires settled { K.is_settled keeper }
     ensures ok { OnOk result
         (Prints service.entry (output (W.contents writer.old) (W.contents writer.new))) }
     ensures err { IfErr result
@@ -204,9 +206,9 @@ fn serve_kept<K: Keeper + Close + Drop, W: Write>(
 /// - `WrongDesk`, `Damaged` and `Device` where the file can't be opened as this desk's store. A
 ///   file that another program has open is `Device`. Where the store has to be there, a database
 ///   without a table is `Damaged`; where it has to be made, one with a table is `StoreThere`.
-/// - `CannotListen` where the desk's address can't be had, and where the system tells nothing of
-///   the clients any more; then both lines are printed.
-/// - `Down` where a save failed; both lines are printed.
+/// - `CannotListen` where the desk's address can't be had, and where the system says nothing of the
+///   clients any more; then both lines are printed.
+/// - `Down` where what was changed could not be settled; both lines are printed.
 /// - `Write` where a line can't be written.
 /// - `NoMemory` where memory runs out.
 pub fn serve<S: Start, W: Write>(

@@ -4,8 +4,8 @@ use Rattle.std.proofs.Common.{Some}
 use Rattle.std.proofs.lemmas.List.{append-nil}
 use Rattle.acceptor.specs.declared.message.Message.{Message}
 use Rattle.learner.specs.declared.event.DeskEvent.TheVariants.{Deliver, Tick}
-use Rattle.wire.specs.declared.frame.What.{What}
-use Rattle.wire.specs.declared.frame.What.TheVariants as what
+use Rattle.wire.specs.declared.frame.FrameBody.{FrameBody}
+use Rattle.wire.specs.declared.frame.FrameBody.TheVariants as what
 use Rattle.store.specs.declared.home.Home.{Home}
 use Rattle.serving.specs.Making.{Way, Outside, Makes}
 use Rattle.serving.specs.Answering.{answer_of, answer_first, state, told_what, printed, standing}
@@ -16,7 +16,7 @@ use Rattle.serving.specs.Nodes.{Fate, reply}
 use Rattle.serving.specs.model.Reaching.{at, service, Reaches, DoesPart, DoesTake}
 use Rattle.serving.specs.Serving.{Act, Service, first_fate, take, begun, served, answer}
 use Rattle.serving.specs.Serving.{seen_after}
-use Rattle.serving.specs.declared.calls.Answer.{Answer}
+use Rattle.serving.specs.declared.calls.NodeAnswer.{NodeAnswer}
 use Rattle.serving.specs.declared.request.Request.{Request}
 use Rattle.serving.specs.declared.request.Request.TheVariants.{Heard, Ticked, Asked, Printed}
 use Rattle.serving.specs.declared.request.Request.TheVariants.{Inspected, Copied, Stopped, Strange}
@@ -45,7 +45,7 @@ took_calls home f x y left acts past r =
 -- the calls and pushes of a request, and the node behind it; the answer is another matter
 pub answers_by : {V : Type 0} {way : Way V} (home : Home) (r : Request) (x y : Seen) (left : ℕ)
     (acts : List Act)
-    (past : List Fate) (w : Option What) (a b : Outside way)
+    (past : List Fate) (w : Option FrameBody) (a b : Outside way)
     → (served home x past r ≡ service (at y [] left) acts []) → (y ≡ seen_after home x acts past)
     → Makes home.hall a b acts
     → w ≡ answer home x past r
@@ -60,7 +60,7 @@ answers_by home r x y left acts past w a b all calls made is = record {
 
 -- a message of a desk
 pub hears : {V : Type 0} {way : Way V} (home : Home) (m : Message) (x y : Seen) (left : ℕ)
-    (answer : Answer) (acts : List Act)
+    (answer : NodeAnswer) (acts : List Act)
     (past : List Fate) (a b : Outside way)
     → DoesTake home left (Deliver m) answer x y acts past a b
     → AnswersSome home x y (Heard m) None a b
@@ -72,9 +72,9 @@ hears home m x y left answer acts past a b h = (
 )
 
 -- a Tick
-pub ticks : {V : Type 0} {way : Way V} (home : Home) (x y : Seen) (left : ℕ) (answer : Answer)
+pub ticks : {V : Type 0} {way : Way V} (home : Home) (x y : Seen) (left : ℕ) (answer : NodeAnswer)
     (acts : List Act)
-    (past : List Fate) (w : What) (a b : Outside way)
+    (past : List Fate) (w : FrameBody) (a b : Outside way)
     → DoesTake home left Tick answer x y acts past a b → w ≡ answer_first what.Fine answer y
     → AnswersSome home x y Ticked (Some w) a b
 ticks home x y left answer acts past w a b h is =
@@ -136,7 +136,8 @@ fails home f r x shown a b is d =
     )
 
 -- what became of a command, and a sheet: the node is asked, and is as it was
-pub asks : {V : Type 0} {way : Way V} (home : Home) (r : Request) (id : ℕ) (x : Seen) (w : What)
+pub asks : {V : Type 0} {way : Way V} (home : Home) (r : Request) (id : ℕ) (x : Seen)
+    (w : FrameBody)
     (a : Outside way)
     → r ≡ Asked id
     → (fate : Fate) × (w ≡ told_what id fate (state x id)) → AnswersSome home x x r (Some w) a a
@@ -154,7 +155,7 @@ asks home r id x w a is h =
 
 pub prints : {V : Type 0} {way : Way V} (home : Home) (r : Request) (event : EventOf)
     (round position : ℕ) (style : Style)
-    (x : Seen) (w : What) (a : Outside way)
+    (x : Seen) (w : FrameBody) (a : Outside way)
     → r ≡ Printed event round position style
     → (fate : Fate) × (w ≡ printed x fate event round position style)
     → AnswersSome home x x r (Some w) a a
@@ -172,7 +173,7 @@ prints home r event round position style x w a is h =
 
 -- how the desk is, and entries of its log: so it is too
 pub inspects : {V : Type 0} {way : Way V} (home : Home) (r : Request)
-    (differs : Option Difference) (x : Seen) (w : What) (a : Outside way)
+    (differs : Option Difference) (x : Seen) (w : FrameBody) (a : Outside way)
     → r ≡ Inspected differs → w ≡ what.Standing (standing home x differs)
     → AnswersSome home x x r (Some w) a a
 inspects home r differs x w a is h =
@@ -187,7 +188,7 @@ inspects home r differs x w a is h =
     )
 
 pub copies : {V : Type 0} {way : Way V} (home : Home) (r : Request) (position : ℕ) (x : Seen)
-    (w : What) (a : Outside way)
+    (w : FrameBody) (a : Outside way)
     → r ≡ Copied position → (fate : Fate) × (w ≡ copied x fate position)
     → AnswersSome home x x r (Some w) a a
 copies home r position x w a is h =

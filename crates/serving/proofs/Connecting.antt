@@ -9,10 +9,10 @@ use Rattle.wire.specs.declared.standing.Difference.{Difference}
 use Rattle.wire.specs.Spelling.{spelling}
 use Rattle.serving.specs.Making.{Way, Makes}
 use Rattle.store.specs.declared.home.Home.{Home}
-use Rattle.serving.specs.declared.ends.Close.{Close}
-use Rattle.serving.specs.declared.ends.Close.TheVariants as close
-use Rattle.serving.specs.declared.ends.End.{End}
-use Rattle.serving.specs.declared.ends.End.TheVariants as end
+use Rattle.serving.specs.declared.ends.FrameEnd.{FrameEnd}
+use Rattle.serving.specs.declared.ends.FrameEnd.TheVariants as close
+use Rattle.serving.specs.declared.ends.ConnectionEnd.{ConnectionEnd}
+use Rattle.serving.specs.declared.ends.ConnectionEnd.TheVariants as end
 use Rattle.serving.specs.declared.ends.FrameFault.{FrameFault}
 use Rattle.serving.specs.declared.ends.FrameFault.TheVariants as fault
 use Rattle.answers.specs.Seen.{Seen}
@@ -78,7 +78,7 @@ serves_none home a =
 
 -- one frame after those served so far
 pub serves_one : {V : Type 0} {way : Way V} (home : Home) (a m b : Sides way) (bs : List Begun)
-    (one : Begun) (ends : Option Close)
+    (one : Begun) (ends : Option FrameEnd)
     → Serves home a m bs → ServesOne home m b one ends → IsServed home a b (bs ++ one ∷ [])
 serves_one home a m b bs one ends h k =
     let x = (serve_frames home a.seen bs).seen in
@@ -109,7 +109,7 @@ serves_one home a m b bs one ends h k =
 
 pub serves_more : {V : Type 0} {way : Way V} (home : Home) (a m b : Sides way) (bs : List Begun)
     (one : Begun)
-    (ends : Option Close)
+    (ends : Option FrameEnd)
     → Serves home a m bs → ServesOne home m b one ends → ends ≡ None
     → Serves home a b (bs ++ one ∷ [])
 serves_more home a m b bs one ends h k none = record {
@@ -121,7 +121,7 @@ serves_more home a m b bs one ends h k none = record {
 
 pub serves_last : {V : Type 0} {way : Way V} (home : Home) (a m b : Sides way) (bs : List Begun)
     (one : Begun)
-    (ends : Option Close) (last : Close)
+    (ends : Option FrameEnd) (last : FrameEnd)
     → Serves home a m bs → ServesOne home m b one ends → ends ≡ Some last
     → Closes last home a b (bs ++ one ∷ [])
 serves_last home a m b bs one ends last h k some = (
@@ -181,7 +181,7 @@ last_of : (bs cs front : List Begun) (last : Begun) → cs ≡ front ++ last ∷
     → bs ++ cs ≡ (bs ++ front) ++ last ∷ []
 last_of bs cs front last e = ap (λ z. bs ++ z) e ∙ sym (append_assoc bs front (last ∷ []))
 
-closes_then : {V : Type 0} {way : Way V} (ends : Close) (home : Home) (a m b : Sides way)
+closes_then : {V : Type 0} {way : Way V} (ends : FrameEnd) (home : Home) (a m b : Sides way)
     (bs cs : List Begun) → Serves home a m bs
     → Closes ends home m b cs → Closes ends home a b (bs ++ cs)
 closes_then ends home a m b bs cs h k =
@@ -217,7 +217,7 @@ fails_then why home a m b bs cs h k = (
 )
 
 -- frames, and then others, of which one ends the connection
-pub ends_then : {V : Type 0} {way : Way V} (e : End) (home : Home) (a m b : Sides way)
+pub ends_then : {V : Type 0} {way : Way V} (e : ConnectionEnd) (home : Home) (a m b : Sides way)
     (bs cs : List Begun) (count : ℕ)
     → Serves home a m bs → EndsInFrames e home m b cs count
     → EndsInFrames e home a b (bs ++ cs) count

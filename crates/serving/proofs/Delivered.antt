@@ -9,8 +9,8 @@ use Rattle.serving.specs.Adding.{Push}
 use Rattle.serving.specs.Making.{Way, Outside, outside_of, Makes}
 use Rattle.answers.specs.Seen.{Seen}
 use Rattle.serving.specs.Nodes.{Fate}
-use Rattle.serving.specs.declared.calls.Answer.{Answer}
-use Rattle.serving.specs.declared.request.Run.{Run}
+use Rattle.serving.specs.declared.calls.NodeAnswer.{NodeAnswer}
+use Rattle.serving.specs.declared.request.DecidedRun.{DecidedRun}
 use Rattle.serving.specs.declared.request.Request.TheVariants.{Learned}
 use Rattle.serving.specs.model.Calling.{Calls, IsCall, LosesMessages}
 use Rattle.serving.specs.model.Reaching.{Place, at, service, Reaches, did_call, OnlyAdds, Does}
@@ -143,7 +143,7 @@ begins home from to pos es queue p a is = (
 -- one more entry was delivered
 pub delivered : {V : Type 0} (way : Way V) (home h : Home) (all : Service → Service)
     (first : Place) (from to pos : ℕ) (e : Entry) (queue es : List Entry) (x y : Seen)
-    (ms cleared more : List Message) (answer : Answer) (a : Outside way) (u v : V)
+    (ms cleared more : List Message) (answer : NodeAnswer) (a : Outside way) (u v : V)
     (p : Option (List Push))
     → h ≡ home → queue ≡ e ∷ es → cleared ≡ []
     → ComesSo home all first (learn home from to pos queue) (at x ms 16) a (outside_of way u p)
@@ -292,10 +292,10 @@ delivers_part home f x shown empty a b none d =
     (subst (λ u. DoesPart home f (at x u 16) shown a b) none d)
 
 -- what was learned is said so
-abbrev pub settled : Home → Run → Service → Service
+abbrev pub settled : Home → DecidedRun → Service → Service
 settled home run s = settle_by home 16 (learn home run.from run.to run.pos run.entries s)
 
-pub learned_so : (home : Home) (run : Run) (x : Seen) → IsSaid home (settled home run)
+pub learned_so : (home : Home) (run : DecidedRun) (x : Seen) → IsSaid home (settled home run)
     (Learned run) x
 unfolding learn_all
 learned_so home run x = record { served_so = λ fates. refl; silent = λ fates. refl }

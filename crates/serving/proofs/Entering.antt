@@ -9,8 +9,8 @@ use Rattle.learner.specs.declared.event.DeskEvent.TheVariants.{Submit, Start}
 use Rattle.replica.specs.declared.roles.fault.NodeFault.{NodeFault}
 use Rattle.replica.specs.declared.roles.fault.NodeFault.TheVariants as fault
 use Rattle.store.specs.declared.home.Home.{Home}
-use Rattle.wire.specs.declared.frame.What.{What}
-use Rattle.wire.specs.declared.frame.What.TheVariants as what
+use Rattle.wire.specs.declared.frame.FrameBody.{FrameBody}
+use Rattle.wire.specs.declared.frame.FrameBody.TheVariants as what
 use Rattle.serving.specs.Adding.{Push}
 use Rattle.serving.specs.Making.{Way, Outside, outside_of}
 use Rattle.serving.specs.Answering.{answer_of, answer_first}
@@ -22,8 +22,8 @@ use Rattle.serving.specs.model.Reaching.{at, service, Reaches, did_call, OnlyAdd
 use Rattle.serving.specs.model.Reaching.{DoesPart}
 use Rattle.serving.specs.Serving.{Service, call, settle_by, settle}
 use Rattle.serving.specs.Serving.{entered_by, enter, waiting_after}
-use Rattle.serving.specs.declared.calls.Answer.{Answer}
-use Rattle.serving.specs.declared.calls.Answer.TheVariants.{Taken, Refused}
+use Rattle.serving.specs.declared.calls.NodeAnswer.{NodeAnswer}
+use Rattle.serving.specs.declared.calls.NodeAnswer.TheVariants.{Taken, Refused}
 use Rattle.serving.specs.declared.request.Request.TheVariants.{Entered}
 use Rattle.serving.proofs.Additions.{adds_both, adds_call, adds_settle}
 use Rattle.serving.proofs.Makings.{Makes-nil, Makes-trans, Makes-call}
@@ -37,7 +37,7 @@ starts home s = settle_by home 16 (call home Start s)
 
 -- a call behind messages that wait, and then all that comes of them
 pub does_behind : {V : Type 0} (way : Way V) (home h : Home) (x y z : Seen) (event : DeskEvent)
-    (ms more rest : List Message) (left last : ℕ) (answer : Answer) (u v : V)
+    (ms more rest : List Message) (left last : ℕ) (answer : NodeAnswer) (u v : V)
     (p : Option (List Push)) (b : Outside way)
     → h ≡ home
     → (fate : Fate) → Calls h event fate x y ms more answer → IsCall way.handles h event fate x u v
@@ -74,7 +74,7 @@ part_at_behind way home h x y event ms left u v p same l =
     (Makes-nil home.hall (outside_of way u p)) l
 
 pub part_after_behind : {V : Type 0} (way : Way V) (home h : Home) (x y shown : Seen)
-    (event : DeskEvent) (ms more : List Message) (left : ℕ) (answer : Answer) (u v : V)
+    (event : DeskEvent) (ms more : List Message) (left : ℕ) (answer : NodeAnswer) (u v : V)
     (p : Option (List Push)) (b : Outside way)
     → h ≡ home
     → (fate : Fate) → Calls h event fate x y ms more answer → IsCall way.handles h event fate x u v
@@ -105,7 +105,7 @@ refused_of (Err why) e = (why, refl)
 
 -- the entry was taken, and Start is to follow
 enters : (home : Home) (e : Entry) (fate : Fate) (x y : Seen) (more ms : List Message)
-    (answer : Answer)
+    (answer : NodeAnswer)
     → Calls home (Submit e) fate x y [] more answer → (reply home x (Submit e) fate).result ≡ Ok ms
     → Reaches home (enter home e) (at x [] 16) (starts home) (at y more 16)
     (did_call home (Submit e) fate x ∷ [])
@@ -126,7 +126,7 @@ enters home e fate x y more ms answer c is =
 
 -- the entry was refused
 stays_out : (home : Home) (e : Entry) (fate : Fate) (x y : Seen) (more : List Message)
-    (why : NodeFault) (answer : Answer)
+    (why : NodeFault) (answer : NodeAnswer)
     → Calls home (Submit e) fate x y [] more answer
     → (reply home x (Submit e) fate).result ≡ Err why
     → Reaches home (enter home e) (at x [] 16) (λ s. s) (at y more 16)
@@ -143,10 +143,6 @@ stays_out home e fate x y more why answer c is =
           ∙ once.steps done later;
       calls = once.calls;
     }
-
-adds_starts : (home : Home) → OnlyAdds (starts home)
-adds_starts home =
-    adds_both (call home Start) (settle_by home 16) (adds_call home Start) (adds_settle home 16)
 
 adds_entered : (home : Home) (r : Result (List Message) NodeFault) → OnlyAdds (entered_by home r)
 adds_entered home (Ok ms) s =
@@ -190,7 +186,8 @@ entered_lost way home h e x y u v p same l =
 
 -- memory was refused behind it
 pub entered_part : {V : Type 0} (way : Way V) (home h : Home) (e : Entry) (x y shown : Seen)
-    (ms more : List Message) (answer : Answer) (u v : V) (p : Option (List Push)) (b : Outside way)
+    (ms more : List Message) (answer : NodeAnswer) (u v : V) (p : Option (List Push))
+    (b : Outside way)
     → h ≡ home → ms ≡ [] → answer ≡ Taken
     → (fate : Fate) × Calls h (Submit e) fate x y ms more answer
     × IsCall way.handles h (Submit e) fate x u v
@@ -210,7 +207,7 @@ entered_part way home h e x y shown ms more answer u v p b same none taken calle
 
 -- the entry was taken, and all that comes of it done
 pub entered_all : {V : Type 0} (way : Way V) (home h : Home) (e : Entry) (x y z : Seen)
-    (ms more rest : List Message) (last : ℕ) (answer : Answer) (w : What) (u v : V)
+    (ms more rest : List Message) (last : ℕ) (answer : NodeAnswer) (w : FrameBody) (u v : V)
     (p : Option (List Push)) (b : Outside way)
     → h ≡ home → ms ≡ [] → rest ≡ [] → answer ≡ Taken
     → (fate : Fate) × Calls h (Submit e) fate x y ms more answer
@@ -262,7 +259,8 @@ none_wait fault.Down = refl
 
 -- the entry was refused
 pub entered_not : {V : Type 0} (way : Way V) (home h : Home) (e : Entry) (x y : Seen)
-    (ms more : List Message) (answer : Answer) (w : What) (u v : V) (p : Option (List Push))
+    (ms more : List Message) (answer : NodeAnswer) (w : FrameBody) (u v : V)
+    (p : Option (List Push))
     → h ≡ home → ms ≡ [] → (answer ≡ Taken → ⊥)
     → (fate : Fate) × Calls h (Submit e) fate x y ms more answer
     × IsCall way.handles h (Submit e) fate x u v

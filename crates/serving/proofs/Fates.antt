@@ -10,7 +10,7 @@ use Rattle.learner.specs.Ranges.{AreInRange}
 use Rattle.learner.specs.Steps.{Done, step}
 use Rattle.serving.specs.Making.{Handling}
 use Rattle.serving.specs.model.Calling.{Calls, IsCall, LosesMessages}
-use Rattle.serving.specs.declared.calls.Answer.{Answer}
+use Rattle.serving.specs.declared.calls.NodeAnswer.{NodeAnswer}
 use Rattle.serving.specs.Answering.{answer_of}
 use Rattle.serving.specs.Serving.{waiting_after}
 use Rattle.store.specs.declared.home.Home.{Home}
@@ -177,7 +177,7 @@ comes home x y event r t e told d =
 
 -- the call, with the messages that wait
 pub calls_so : {V : Type 0} (way : Handling V) (home : Home) (x y : Seen) (event : DeskEvent)
-    (r : Result (List Message) NodeFault) (ms more : List Message) (answer : Answer) (u v : V)
+    (r : Result (List Message) NodeFault) (ms more : List Message) (answer : NodeAnswer) (u v : V)
     → (x.is_down ≡ false
     → Takes (step home.desks home.desk x.desk event) home.desks home.desk x.desk y.desk r)
     → (x.is_down ≡ true → (r ≡ failed Down) × (y ≡ x))

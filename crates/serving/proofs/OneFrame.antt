@@ -9,7 +9,7 @@ use Rattle.wire.specs.Ranges.{IsFrame, Goes, Way as Direction}
 use Rattle.wire.specs.declared.standing.Difference.{Difference}
 use Rattle.wire.specs.declared.values.Version.{Version}
 use Rattle.wire.specs.declared.frame.Frame.{Frame}
-use Rattle.wire.specs.declared.frame.What.{What}
+use Rattle.wire.specs.declared.frame.FrameBody.{FrameBody}
 use Rattle.serving.specs.Making.{Way, Outside}
 use Rattle.serving.specs.Answering.{said_in, IsAnswer, IsAnswerIn}
 use Rattle.serving.specs.Asking.{request, ending, close_by}
@@ -24,22 +24,22 @@ use Rattle.serving.specs.model.Requests.{Answers, AnswersSome, AnswersPart, Fail
 use Rattle.answers.specs.Seen.{Seen}
 use Rattle.serving.specs.Nodes.{Fate}
 use Rattle.serving.specs.Serving.{served, answer}
-use Rattle.serving.specs.declared.ends.Close.{Close}
+use Rattle.serving.specs.declared.ends.FrameEnd.{FrameEnd}
 use Rattle.serving.specs.declared.ends.FrameFault.{FrameFault}
 use Rattle.serving.specs.declared.ends.FrameFault.TheVariants as fault
 use Rattle.serving.specs.declared.request.Request.{Request}
 
 -- what is said of an answer, where there is one
-pub some_is : (v : Version) {o : Option What} {w : What} → o ≡ Some w
+pub some_is : (v : Version) {o : Option FrameBody} {w : FrameBody} → o ≡ Some w
     → IfSome o (IsAnswerIn v) → IsAnswerIn v w
 some_is v is h = subst (λ z. IfSome z (IsAnswerIn v)) is h
 
 -- an answer in each version is one in this version
-pub in_version : (v : Version) {w : What} → IsAnswer w → IsAnswerIn v w
+pub in_version : (v : Version) {w : FrameBody} → IsAnswer w → IsAnswerIn v w
 in_version v h = record { body = h.body v; way = h.way v }
 
 -- an answer of a desk in a version is a frame of it
-pub answer_is_frame : (v : Version) (home : Home) (w : What) → home.hall < 2 ^ 32
+pub answer_is_frame : (v : Version) (home : Home) (w : FrameBody) → home.hall < 2 ^ 32
     → IsDesk home.desks home.desk → home.desks ≤ 5 → IsAnswerIn v w
     → IsFrame (answer_frame v home (said_in v w))
 answer_is_frame v home w small ours few h = record {
@@ -52,8 +52,8 @@ answer_is_frame v home w small ours few h = record {
 -- the frame was served whole
 pub serves : {V : Type 0} {way : Way V} (home : Home) (f : Frame) (may : Permission)
     (differs : Option Difference) (r : Request) (x y : Seen)
-    (w : Option What)
-    (close : Option Close) (o n : Option (List ℕ)) (a b : Outside way)
+    (w : Option FrameBody)
+    (close : Option FrameEnd) (o n : Option (List ℕ)) (a b : Outside way)
     → r ≡ withheld differs (permitted may (request home f)) → AnswersSome home x y r w a b
     → Appends o n (answer_bytes (framed_answer f.version home w)) → close ≡ close_by
     (ending r) y.is_down
@@ -78,7 +78,7 @@ serves home f may differs r x y w close o n a b is h written c =
       },
     )
 
-answer_is_due : (v : Version) (home : Home) (w : Option What) → w ≢ None
+answer_is_due : (v : Version) (home : Home) (w : Option FrameBody) → w ≢ None
     → framed_answer v home w ≢ []
 answer_is_due v home None some none = some refl
 answer_is_due v home (Some w) some none = absurd cc
@@ -86,7 +86,7 @@ answer_is_due v home (Some w) some none = absurd cc
 -- the answer could not be written whole
 pub answer_fails : {V : Type 0} {way : Way V} (home : Home) (f : Frame) (may : Permission)
     (differs : Option Difference) (r : Request) (x y : Seen)
-    (w : Option What)
+    (w : Option FrameBody)
     (why : FrameFault) (o n : Option (List ℕ)) (a b : Outside way)
     → r ≡ withheld differs (permitted may (request home f)) → AnswersSome home x y r w a b
     → w ≢ None

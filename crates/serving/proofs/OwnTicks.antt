@@ -3,7 +3,7 @@ use Rattle.std.proofs.Common.{◌≡◌, refl, sym, ap, ◌∙◌, true, eqb, co
 use Rattle.std.proofs.lemmas.Bool.{eq-eqb}
 use Rattle.answers.specs.Seen.{Seen}
 use Rattle.store.specs.declared.home.Home.{Home}
-use Rattle.wire.specs.declared.frame.What.{What}
+use Rattle.wire.specs.declared.frame.FrameBody.{FrameBody}
 use Rattle.wire.specs.declared.values.Version.{Version}
 use Rattle.serving.specs.Asking.{close_by, ending, is_ours, request}
 use Rattle.serving.specs.Making.{Outside, Way}
@@ -22,7 +22,7 @@ is_for_us version home =
 asks : (version : Version) (home : Home) → Ticked ≡ request home (tick_frame version home)
 asks version home = sym (ap (λ z. cond z Ticked Strange) (is_for_us version home))
 
-pub ticks : {V : Type 0} {way : Way V} (home : Home) (x y : Seen) (w : Option What)
+pub ticks : {V : Type 0} {way : Way V} (home : Home) (x y : Seen) (w : Option FrameBody)
     (a b : Outside way)
     → AnswersSome home x y Ticked w a b → Ticks home (unanswered x a) (unanswered y b)
 ticks {V} {way} home x y w a b h =

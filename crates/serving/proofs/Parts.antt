@@ -8,7 +8,7 @@ use Rattle.serving.specs.Adding.{Push}
 use Rattle.serving.specs.Making.{Way, Outside, outside_of, Makes}
 use Rattle.serving.specs.model.Calling.{Calls, IsCall, LosesMessages}
 use Rattle.serving.specs.Answering.{answer_of}
-use Rattle.serving.specs.declared.calls.Answer.{Answer}
+use Rattle.serving.specs.declared.calls.NodeAnswer.{NodeAnswer}
 use Rattle.store.specs.declared.home.Home.{Home}
 use Rattle.answers.specs.Seen.{Seen}
 use Rattle.serving.specs.Nodes.{Fate, reply}
@@ -202,7 +202,7 @@ part_call way home h all first k left event x y ms xs past a u v p same r made l
 -- a call, and then a front part of what comes of it
 pub part_after_call : {V : Type 0} (way : Way V) (home h : Home) (x y shown : Seen)
     (event : DeskEvent)
-    (ms more : List Message) (left : ℕ) (answer : Answer) (u v : V) (p : Option (List Push))
+    (ms more : List Message) (left : ℕ) (answer : NodeAnswer) (u v : V) (p : Option (List Push))
     (b : Outside way)
     → h ≡ home → ms ≡ []
     → (fate : Fate) → Calls h event fate x y ms more answer → IsCall way.handles h event fate x u v

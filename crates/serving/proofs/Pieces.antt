@@ -1,9 +1,9 @@
 -- Pieces of the stream, one after the other.
 use Rattle.std.proofs.Common.{◌≡◌, inl, inr, refl, sym, ap, subst, ◌∙◌, ℕ, ◌+◌, ◌<◌, ◌≤◌, List, []}
 use Rattle.std.proofs.Common.{◌∷◌, ◌++◌, length, length-append, Option, None, Some, arith}
-use Rattle.std.proofs.lemmas.List.{append-nil, append_assoc}
-use Rattle.std.specs.Io.KnownBytes.{Consumes, Keeps}
-use Rattle.std.proofs.KnownBytes.{Consumes-nil, Consumes-trans, Consumes-kept}
+use Rattle.std.proofs.lemmas.List.{append_assoc}
+use Rattle.std.specs.Io.KnownBytes.{Consumes}
+use Rattle.std.proofs.KnownBytes.{Consumes-nil, Consumes-trans}
 use Rattle.std.specs.List.{flat_map, AllByRecursion}
 use Rattle.wire.specs.declared.fault.WireFault.{WireFault}
 use Rattle.wire.specs.declared.frame.Frame.{Frame}
@@ -14,8 +14,8 @@ use Rattle.wire.specs.Stream.{Feeds, IsKept}
 use Rattle.store.specs.declared.home.Home.{Home}
 use Rattle.serving.specs.Making.{Way}
 use Rattle.serving.specs.declared.permission.Permission.{Permission}
-use Rattle.serving.specs.declared.ends.End.{End}
-use Rattle.serving.specs.declared.ends.End.TheVariants as end
+use Rattle.serving.specs.declared.ends.ConnectionEnd.{ConnectionEnd}
+use Rattle.serving.specs.declared.ends.ConnectionEnd.TheVariants as end
 use Rattle.serving.specs.Connection.{Begun, frames_of, AreBegun, AreUnder, Sides, Serves}
 use Rattle.serving.specs.Connection.{IsOpen, EndsAt}
 use Rattle.serving.specs.Connection.{IsConnection, Reads, failed_at}
@@ -59,7 +59,7 @@ begins_batch stream given left begun reader r parts = record {
   each = all_front (frames_of begun) left (subst (λ z. AllByRecursion IsFrame z) parts r.each);
 }
 
-ends_piece : {V : Type 0} {way : Way V} (e : End) (home : Home) (a b : Sides way)
+ends_piece : {V : Type 0} {way : Way V} (e : ConnectionEnd) (home : Home) (a b : Sides way)
     (begun : List Begun) (rest : List ℕ) (count : ℕ)
     (new : Reader)
     → EndsInFrames e home a b begun count → EndsPiece (Some e) home a b begun rest count new
@@ -74,7 +74,8 @@ ends_piece (end.Fault e) home a b begun rest count new h = absurd h
 ends_piece end.Read home a b begun rest count new h = absurd h
 
 -- a frame of the piece ended the connection
-pub piece_ends : {V : Type 0} {way : Way V} {may : Permission} (how : Option End) (e : End)
+pub piece_ends : {V : Type 0} {way : Way V} {may : Permission} (how : Option ConnectionEnd)
+    (e : ConnectionEnd)
     (home : Home)
     (a b : Sides way) (stream : List ℕ)
     (given left : List Frame) (begun : List Begun) (before count : ℕ) (reader : Reader)
@@ -97,7 +98,8 @@ piece_ends how e home a b stream given left begun before count reader is r h = (
 )
 
 -- all frames of the piece were served, and a fault is behind them
-pub piece_breaks : {V : Type 0} {way : Way V} {may : Permission} (how : Option End) (e : WireFault)
+pub piece_breaks : {V : Type 0} {way : Way V} {may : Permission} (how : Option ConnectionEnd)
+    (e : WireFault)
     (fault : Option WireFault) (home : Home)
     (a b : Sides way) (stream : List ℕ) (given left : List Frame) (begun : List Begun)
     (before count : ℕ) (reader : Reader)
@@ -128,7 +130,7 @@ piece_breaks how e fault home a b stream given left begun before count reader is
     )
 
 -- all frames of the piece were served, and what is left waits for more
-pub piece_waits : {V : Type 0} {way : Way V} {may : Permission} (how : Option End)
+pub piece_waits : {V : Type 0} {way : Way V} {may : Permission} (how : Option ConnectionEnd)
     (fault : Option WireFault)
     (home : Home) (a b : Sides way)
     (stream : List ℕ) (given left : List Frame) (begun : List Begun) (before count : ℕ)
@@ -244,44 +246,6 @@ so_far_more home a m b bytes piece rest last bs cs read left later before count 
       waits = k.ends.3;
     }
 
--- a read that failed changes nothing
-pub so_far_kept : {V : Type 0} {way : Way V} {may : Permission} (home : Home) (a b : Sides way)
-    (bytes rest : List ℕ)
-    (bs : List Begun)
-    (read left later : Option (List ℕ)) (count : ℕ) (reader : Reader)
-    → SoFar may home a b bytes bs rest read left count reader → Keeps left later
-    → SoFar may home a b bytes bs rest read later count reader
-so_far_kept home a b bytes rest bs read left later count reader h k = record {
-  consumed = Consumes-kept read left later bytes h.consumed k;
-  begins = h.begins;
-  allowed = h.allowed;
-  counted = h.counted;
-  serves = h.serves;
-  few = h.few;
-  holds = h.holds;
-  waits = h.waits;
-}
-
--- so does one of no bytes
-pub so_far_still : {V : Type 0} {way : Way V} {may : Permission} (home : Home) (a b : Sides way)
-    (bytes rest none : List ℕ) (bs : List Begun)
-    (read left later : Option (List ℕ)) (count : ℕ) (reader : Reader)
-    → none ≡ []
-    → SoFar may home a b bytes bs rest read left count reader → Consumes left later none
-    → SoFar may home a b bytes bs rest read later count reader
-so_far_still home a b bytes rest none bs read left later count reader is h k = record {
-  consumed =
-      subst (Consumes read later) (ap (λ z. bytes ++ z) is ∙ append-nil bytes)
-      (Consumes-trans read left later bytes none h.consumed k);
-  begins = h.begins;
-  allowed = h.allowed;
-  counted = h.counted;
-  serves = h.serves;
-  few = h.few;
-  holds = h.holds;
-  waits = h.waits;
-}
-
 few_of : (begun : List Begun) (count : ℕ) → count ≡ length begun → count < 64 → length begun < 64
 few_of begun count h few = omega (arith, h, few)
 
@@ -295,7 +259,7 @@ is_open home a b bytes rest bs read left count reader h =
     record { serves = h.serves; few = few_of bs count h.counted h.few }
 
 -- a connection that ends where all frames read are served
-pub stops_so_far : {V : Type 0} {way : Way V} {may : Permission} (e : End) (home : Home)
+pub stops_so_far : {V : Type 0} {way : Way V} {may : Permission} (e : ConnectionEnd) (home : Home)
     (a b : Sides way)
     (bytes rest : List ℕ) (bs : List Begun)
     (read left : Option (List ℕ)) (count : ℕ) (reads : Reads) (reader : Reader)
@@ -321,7 +285,7 @@ stops_so_far e home a b bytes rest bs read left count reads reader h bounded fai
 )
 
 -- the end of a piece is one of the connection
-ends_at : {V : Type 0} {way : Way V} (e : End) (home : Home) (a m b : Sides way)
+ends_at : {V : Type 0} {way : Way V} (e : ConnectionEnd) (home : Home) (a m b : Sides way)
     (bs cs : List Begun) (rest : List ℕ)
     (left : Option (List ℕ)) (count reads : ℕ) (new : Reader)
     → Serves home a m bs → count ≡ length (bs ++ cs) → EndsPiece (Some e) home m b cs rest count new
@@ -355,7 +319,7 @@ ends_at end.Reads home a m b bs cs rest left count reads new h counted k = absur
 ends_at end.Read home a m b bs cs rest left count reads new h counted k = absurd k
 
 -- no piece ends in a failed read
-none_failed : {V : Type 0} {way : Way V} (e : End) (home : Home) (m b : Sides way)
+none_failed : {V : Type 0} {way : Way V} (e : ConnectionEnd) (home : Home) (m b : Sides way)
     (cs : List Begun) (rest : List ℕ) (count : ℕ) (new : Reader)
     → EndsPiece (Some e) home m b cs rest count new → failed_at e ≡ 0
 none_failed end.Stopped home m b cs rest count new k = refl
@@ -373,7 +337,8 @@ few_then : (bs cs : List Begun) (before count : ℕ) → before ≡ length bs �
 few_then bs cs before count h k few = omega (arith, h, k, few, length-append bs cs)
 
 -- a connection that a piece ends
-pub stops_at_piece : {V : Type 0} {way : Way V} {may : Permission} (e : End) (how : Option End)
+pub stops_at_piece : {V : Type 0} {way : Way V} {may : Permission} (e : ConnectionEnd)
+    (how : Option ConnectionEnd)
     (home : Home)
     (a m b : Sides way)
     (bytes piece rest last : List ℕ) (bs cs : List Begun) (read left later : Option (List ℕ))

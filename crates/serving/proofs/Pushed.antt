@@ -88,11 +88,3 @@ one_own v hall d all rest front m a b e h = record {
   parts = h.parts ∙ ap (λ z. front ++ z) (others_skip d m rest e);
   handed = h.handed;
 }
-
-pub others_same : (v : Version) (hall d : ℕ) (all left rest front : List Message) (m : Message)
-    (a b : Option (List Push))
-    → left ≡ m ∷ rest → (m.to == d) ≡ true
-    → PushesOthers v hall d all left front a b → PushesOthers v hall d all rest front a b
-others_same v hall d all left rest front m a b is e h =
-    one_own v hall d all rest front m a b e
-    (subst (λ z. PushesOthers v hall d all z front a b) is h)

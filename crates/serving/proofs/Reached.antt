@@ -8,7 +8,7 @@ use Rattle.learner.specs.declared.event.DeskEvent.TheVariants.{Deliver}
 use Rattle.serving.specs.Adding.{Push}
 use Rattle.serving.specs.Making.{Way, Outside, outside_of, Makes}
 use Rattle.serving.specs.model.Calling.{Calls, IsCall}
-use Rattle.serving.specs.declared.calls.Answer.{Answer}
+use Rattle.serving.specs.declared.calls.NodeAnswer.{NodeAnswer}
 use Rattle.store.specs.declared.home.Home.{Home}
 use Rattle.answers.specs.Seen.{Seen}
 use Rattle.serving.specs.Nodes.{Fate}
@@ -68,7 +68,7 @@ does_both home f g first second third a b c d e = (
 -- a call
 pub calls_once : (home : Home) (g : Service → Service) (event : DeskEvent) (fate : Fate)
     (x y : Seen)
-    (ms more : List Message) (left : ℕ) (answer : Answer)
+    (ms more : List Message) (left : ℕ) (answer : NodeAnswer)
     → Calls home event fate x y ms more answer
     → Reaches home (λ s. g (call home event s)) (at x ms left) g (at y more left)
     (did_call home event fate x ∷ []) (fate ∷ [])
@@ -190,7 +190,7 @@ on_ok (Ok x) f a b = f a b
 on_ok (Err e) f a b = tt
 
 does_call_at : {V : Type 0} {way : Way V} (home : Home) (x y z : Seen) (event : DeskEvent)
-    (more : List Message) (left last : ℕ) (answer : Answer) (a m b : Outside way) (fate : Fate)
+    (more : List Message) (left last : ℕ) (answer : NodeAnswer) (a m b : Outside way) (fate : Fate)
     (acts : List Act) (past : List Fate)
     → Calls home event fate x y [] more answer
     → Makes home.hall a m (did_call home event fate x ∷ [])
@@ -206,7 +206,7 @@ does_call_at home x y z event more left last answer a m b fate acts past c made 
 
 -- a call, and then all that comes of it
 pub does_call : {V : Type 0} (way : Way V) (home h : Home) (x y z : Seen) (event : DeskEvent)
-    (ms more rest : List Message) (left last : ℕ) (answer : Answer) (u v : V)
+    (ms more rest : List Message) (left last : ℕ) (answer : NodeAnswer) (u v : V)
     (p : Option (List Push)) (b : Outside way)
     → h ≡ home → ms ≡ [] → rest ≡ []
     → (fate : Fate) → Calls h event fate x y ms more answer → IsCall way.handles h event fate x u v

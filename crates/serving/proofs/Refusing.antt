@@ -1,6 +1,6 @@
 -- Each refusal is an answer in each version.
 use Rattle.std.proofs.Common.{refl}
-use Rattle.wire.specs.declared.frame.What.TheVariants as what
+use Rattle.wire.specs.declared.frame.FrameBody.TheVariants as what
 use Rattle.wire.specs.declared.values.ClientRefusal.{ClientRefusal}
 use Rattle.wire.specs.declared.values.Version.{Version}
 use Rattle.wire.proofs.Told.{refusal_told}

@@ -5,7 +5,7 @@ use Rattle.std.proofs.lemmas.List.{append-nil}
 use Rattle.learner.specs.declared.event.DeskEvent.{DeskEvent}
 use Rattle.learner.specs.declared.event.DeskEvent.TheVariants.{Start}
 use Rattle.serving.specs.Making.{Way, Outside}
-use Rattle.serving.specs.declared.calls.Answer.{Answer}
+use Rattle.serving.specs.declared.calls.NodeAnswer.{NodeAnswer}
 use Rattle.store.specs.declared.home.Home.{Home}
 use Rattle.answers.specs.Seen.{Seen}
 use Rattle.serving.specs.Nodes.{Fate}
@@ -65,7 +65,8 @@ not_due home before y left h = record {
 }
 
 -- it was given, with all that comes of it
-pub starts : {V : Type 0} {way : Way V} (home : Home) (before : ℕ) (answer : Answer) (y z : Seen)
+pub starts : {V : Type 0} {way : Way V} (home : Home) (before : ℕ) (answer : NodeAnswer)
+    (y z : Seen)
     (left last : ℕ) (acts : List Act) (past : List Fate) (a b : Outside way)
     → grew before y ≡ true → DoesCall home left last Start answer y z acts past a b
     → Does home (start_if_grown home before) (at y [] left) (at z [] last) a b
@@ -227,7 +228,7 @@ take_not home event x shown a b d =
     take_part_so home event x shown a b (then_not home (settled_call home event) x shown a b d)
 
 -- memory was refused in Start
-pub take_part : {V : Type 0} {way : Way V} (home : Home) (event : DeskEvent) (answer : Answer)
+pub take_part : {V : Type 0} {way : Way V} (home : Home) (event : DeskEvent) (answer : NodeAnswer)
     (before : ℕ) (x y shown : Seen) (left : ℕ) (xs : List Act) (past : List Fate)
     (a b c : Outside way)
     → before ≡ length x.desk.log → DoesCall home 16 left event answer x y xs past a b
@@ -239,7 +240,7 @@ take_part home event answer before x y shown left xs past a b c is h d =
     d)
 
 -- both were done
-pub takes : {V : Type 0} {way : Way V} (home : Home) (event : DeskEvent) (answer : Answer)
+pub takes : {V : Type 0} {way : Way V} (home : Home) (event : DeskEvent) (answer : NodeAnswer)
     (before : ℕ) (x y z : Seen) (left last : ℕ) (xs : List Act) (past : List Fate)
     (a b c : Outside way)
     → before ≡ length x.desk.log → DoesCall home 16 left event answer x y xs past a b

@@ -1,8 +1,7 @@
 -- A run of entries: what is gathered, the frame that it is, and what comes of it.
-use Rattle.std.proofs.Common.{◌≡◌, refl, sym, ap, subst, ◌∙◌, ℕ, suc, ◌+◌, ◌≤◌, ◌<◌, ◌^◌}
+use Rattle.std.proofs.Common.{◌≡◌, refl, sym, ap, subst, ◌∙◌, ℕ, suc, ◌+◌, ◌≤◌, ◌<◌}
 use Rattle.std.proofs.Common.{Bool, true, false, cond, eqb, List, [], ◌∷◌, ◌++◌, length}
 use Rattle.std.proofs.Common.{Option, None, Some, append_assoc, arith}
-use Rattle.std.specs.List.{AllByRecursion}
 use Rattle.std.proofs.lemmas.Bool.{eqb-true, ltb-true}
 use Rattle.std.proofs.lemmas.List.{append-nil}
 use Rattle.acceptor.specs.declared.entry.Entry.{Entry}
@@ -13,21 +12,16 @@ use Rattle.learner.specs.Ranges.{AreInRange, IsInRange}
 use Rattle.learner.specs.Steps.{is_in_range}
 use Rattle.learner.specs.declared.event.DeskEvent.TheVariants.{Deliver}
 use Rattle.store.specs.declared.home.Home.{Home}
-use Rattle.wire.specs.declared.frame.Frame.{Frame}
-use Rattle.wire.specs.declared.values.Version.{Version}
-use Rattle.wire.specs.declared.values.Version.TheVariants.{One, Two, Three, Four, Five}
-use Rattle.wire.specs.Ranges.{IsCount, IsEntry, IsFrame}
-use Rattle.wire.specs.Spelling.{spelling}
 use Rattle.serving.specs.Adding.{Push, Hands}
 use Rattle.serving.specs.Making.{Way, Outside, outside_of, Makes}
 use Rattle.answers.specs.Seen.{Seen}
 use Rattle.serving.specs.Nodes.{Fate}
 use Rattle.serving.specs.Serving.{Act, Answered, Service, call, settle_by, hand_out}
 use Rattle.serving.specs.Serving.{answer_out, tell}
-use Rattle.serving.specs.Telling.{with_entry, decided_at, entry_told, entries_told, entries_said}
-use Rattle.serving.specs.Telling.{run_of, run_frame, run_pushed}
-use Rattle.serving.specs.declared.calls.Answer.{Answer}
-use Rattle.serving.specs.declared.request.Run.{Run}
+use Rattle.serving.specs.Telling.{with_entry, decided_at, entry_told, entries_told}
+use Rattle.serving.specs.Telling.{run_of, run_pushed}
+use Rattle.serving.specs.declared.calls.NodeAnswer.{NodeAnswer}
+use Rattle.serving.specs.declared.request.DecidedRun.{DecidedRun}
 use Rattle.serving.specs.declared.request.Request.TheVariants.{Lagging}
 use Rattle.serving.specs.model.Calling.{Calls, IsCall, LosesMessages}
 use Rattle.serving.specs.model.Gathering.{Gathers, IsRun}
@@ -155,44 +149,6 @@ run_in_range n d pos m rest all es is range few told =
 
 -- ---- the frame of a run
 
-said_counts : (v : Version) (es : List Entry) → 1 ≤ length es → length es ≤ 16
-    → IsCount v (length (entries_said v es))
-said_counts One [] some few = absurd (omega (arith, some))
-said_counts One (e ∷ es) some few = refl
-said_counts Two es some few = (some, few)
-said_counts Three es some few = (some, few)
-said_counts Four es some few = (some, few)
-said_counts Five es some few = (some, few)
-
-said_fits : (v : Version) (es : List Entry) → length (entries_said v es) ≤ length es
-said_fits One [] = omega arith
-said_fits One (e ∷ es) = omega arith
-said_fits Two es = omega arith
-said_fits Three es = omega arith
-said_fits Four es = omega arith
-said_fits Five es = omega arith
-
-pub run_is_frame : (v : Version) (hall n : ℕ) (run : Run) → hall < 2 ^ 32 → n ≤ 5 → IsRun n run
-    → AllByRecursion IsEntry (entries_said v run.entries) → IsFrame (run_frame v hall run)
-run_is_frame v hall n run small few h each = record {
-  hall = small;
-  goes = ((h.from.0, omega (arith, h.from.1, few)), (h.to.0, omega (arith, h.to.1, few)));
-  body = (
-    said_counts v run.entries h.some h.few,
-    omega (arith, h.places, said_fits v run.entries),
-    each,
-  );
-}
-
-pub run_so : (v : Version) (hall : ℕ) (run : Run) (f : Frame) (bytes slice : List ℕ)
-    (a b : Option (List Push))
-    → f ≡ run_frame v hall run → bytes ≡ spelling f → slice ≡ bytes
-    → Hands a b (record { to = run.to; bytes = slice } ∷ []) → Hands a b
-    (run_pushed v hall run ∷ [])
-run_so v hall run f bytes slice a b is spelled same h =
-    subst (λ (z : List ℕ). Hands a b (record { to = run.to; bytes = z } ∷ []))
-    (same ∙ spelled ∙ ap (λ (z : Frame). spelling z) is) h
-
 -- ---- what comes of it
 
 abbrev pub told_first : Home → Message → Service → Service
@@ -203,7 +159,7 @@ pub told_so : (home : Home) (m : Message) (x : Seen)
 unfolding tell
 told_so home m x = record { served_so = λ fates. refl; silent = λ fates. refl }
 
-adds_out : (home : Home) (r : Option Run) (s : Service)
+adds_out : (home : Home) (r : Option DecidedRun) (s : Service)
     → (more : List Act) × ((hand_out home r s).done ≡ s.done ++ more)
 adds_out home None s = adds_settle home s.left s
 adds_out home (Some run) s = (Answered run ∷ [], refl)
@@ -213,7 +169,7 @@ unfolding answer_out
 adds_answer home s = adds_out home (run_of home.desk s.waiting) s
 
 -- a run goes out
-runs_out : (home : Home) (y : Seen) (ms rest : List Message) (run : Run)
+runs_out : (home : Home) (y : Seen) (ms rest : List Message) (run : DecidedRun)
     → run_of home.desk ms ≡ Some run → rest ≡ []
     → Reaches home (answer_out home) (at y ms 16) (λ s. s) (at y [] 16) (Answered run ∷ []) []
 unfolding answer_out
@@ -235,7 +191,7 @@ no_run home y ms is = record {
 
 -- the call, behind an empty list
 told_call : (home h : Home) (m : Message) (fate : Fate) (x y : Seen) (empty more : List Message)
-    (answer : Answer)
+    (answer : NodeAnswer)
     → h ≡ home → empty ≡ [] → Calls h (Deliver m) fate x y empty more answer
     → Reaches home (told_first home m) (at x [] 16) (answer_out home) (at y more 16)
     (did_call home (Deliver m) fate x ∷ []) (fate ∷ [])
@@ -245,13 +201,14 @@ told_call home h m fate x y empty more answer same none c =
     (subst (λ z. Calls z (Deliver m) fate x y empty more answer) same c))
 
 -- pushing a run
-makes_run : {V : Type 0} {way : Way V} (hall : ℕ) (u : V) (b c : Option (List Push)) (run : Run)
+makes_run : {V : Type 0} {way : Way V} (hall : ℕ) (u : V) (b c : Option (List Push))
+    (run : DecidedRun)
     → Hands b c (run_pushed way.wire hall run ∷ [])
     → Makes hall (outside_of way u b) (outside_of way u c) (Answered run ∷ [])
 makes_run hall u b c run h = record { calls = refl; pushes = h }
 
 pub tells_run : {V : Type 0} (way : Way V) (home h : Home) (m : Message) (x y : Seen)
-    (empty more messages : List Message) (answer : Answer) (run : Run) (u v : V)
+    (empty more messages : List Message) (answer : NodeAnswer) (run : DecidedRun) (u v : V)
     (p q : Option (List Push))
     → h ≡ home → empty ≡ [] → messages ≡ more → Some run ≡ run_of home.desk messages
     → (fate : Fate) → Calls h (Deliver m) fate x y empty more answer
@@ -279,7 +236,7 @@ tells_run way home h m x y empty more messages answer run u v p q same none is f
     )
 
 pub tells_others : {V : Type 0} (way : Way V) (home h : Home) (m : Message) (x y z : Seen)
-    (empty more messages queue rest : List Message) (left last : ℕ) (answer : Answer) (u v : V)
+    (empty more messages queue rest : List Message) (left last : ℕ) (answer : NodeAnswer) (u v : V)
     (p : Option (List Push)) (b : Outside way)
     → h ≡ home → left ≡ 16 → empty ≡ [] → messages ≡ more → queue ≡ messages → rest ≡ []
     → None ≡ run_of home.desk messages
@@ -332,7 +289,7 @@ tells_lost way home h m x y u v p same l =
 
 -- memory was refused for the run
 pub tells_no_run : {V : Type 0} (way : Way V) (home h : Home) (m : Message) (x y : Seen)
-    (empty more : List Message) (answer : Answer) (u v : V) (p : Option (List Push))
+    (empty more : List Message) (answer : NodeAnswer) (u v : V) (p : Option (List Push))
     → h ≡ home → empty ≡ []
     → (fate : Fate) → Calls h (Deliver m) fate x y empty more answer
     → IsCall way.handles h (Deliver m) fate x u v
@@ -346,7 +303,7 @@ tells_no_run way home h m x y empty more answer u v p same none fate c made =
 
 -- memory was refused in what comes of it
 pub tells_part : {V : Type 0} (way : Way V) (home h : Home) (m : Message) (x y shown : Seen)
-    (empty more messages queue : List Message) (left : ℕ) (answer : Answer) (u v : V)
+    (empty more messages queue : List Message) (left : ℕ) (answer : NodeAnswer) (u v : V)
     (p : Option (List Push)) (b : Outside way)
     → h ≡ home → left ≡ 16 → empty ≡ [] → messages ≡ more → queue ≡ messages
     → None ≡ run_of home.desk messages

@@ -11,8 +11,8 @@ use Rattle.wire.specs.Ranges.{IsFrame}
 use Rattle.wire.specs.Spelling.{spelling}
 use Rattle.wire.specs.Stream.{IsBegun, IsKept, Reader, front}
 use Rattle.wire.specs.Stream.{holding, keeps}
-use Rattle.serving.specs.declared.ends.End.{End}
-use Rattle.serving.specs.declared.ends.End.TheVariants as end
+use Rattle.serving.specs.declared.ends.ConnectionEnd.{ConnectionEnd}
+use Rattle.serving.specs.declared.ends.ConnectionEnd.TheVariants as end
 use Rattle.serving.specs.Connection.{Begun, AreBegun, Sides, sides, Serves, frames_of}
 use Rattle.serving.specs.Making.{Way, Outside}
 use Rattle.serving.specs.Turns.{Talk, BeginsNext, LeavesAt, OnlyReads, ReadsTo}
@@ -40,7 +40,7 @@ abbrev HoldsSome : {V : Type 0} → {way : Way V} → Home → Place way → Pla
 HoldsSome home a b bytes taken begun =
     (rest : List ℕ) × Holds home a b bytes taken begun rest
 
-pub some_end : {e : End} → Some e ≡ None → ⊥
+pub some_end : {e : ConnectionEnd} → Some e ≡ None → ⊥
 some_end h = cc
 
 pub keeps_nothing : keeps (front []) [] ≡ holding []
@@ -70,7 +70,7 @@ at_first {V} {way} home a is = record {
 
 -- ---- node and other desks are as before
 
-quiet_as : {V : Type 0} {way : Way V} (e : Option End) (home : Home) (s : Sides way)
+quiet_as : {V : Type 0} {way : Way V} (e : Option ConnectionEnd) (home : Home) (s : Sides way)
     (a b : Place way) (p q : List ℕ) (begun : List Begun) (rest : List ℕ) (count n : ℕ)
     → IsQuiet a b → q ≡ p → n ≡ count → Stands e home s (sides_in a p) begun rest count
     → Stands e home s (sides_in b q) begun rest n
@@ -83,7 +83,7 @@ quiet_as {V} {way} e home s a b p q begun rest count n quiet same counted h =
 
 -- ---- a piece came
 
-serves_of : {V : Type 0} {way : Way V} (e : Option End) (home : Home) (s t : Sides way)
+serves_of : {V : Type 0} {way : Way V} (e : Option ConnectionEnd) (home : Home) (s t : Sides way)
     (begun : List Begun) (rest : List ℕ) (count : ℕ) → e ≡ None
     → Stands e home s t begun rest count → Serves home s t begun × (count < 64)
 serves_of None home s t begun rest count is h = h
@@ -102,7 +102,7 @@ more_came bytes piece rest begun waiting none h =
     }
 
 -- the end came, and no frame is whole
-broke_off : {V : Type 0} {way : Way V} (e : End) (home : Home) (start a b : Place way)
+broke_off : {V : Type 0} {way : Way V} (e : ConnectionEnd) (home : Home) (start a b : Place way)
     (bytes taken piece rest : List ℕ) (begun : List Begun)
     → Holds home start a bytes taken begun rest → WantsRead a.talk → OnlyReads a.talk b.talk
     → IsQuiet a b → b.talk.end ≡ Some e → b.talk.waiting ≡ []
@@ -133,7 +133,8 @@ broke_off e home start a b bytes taken piece rest begun h wants only quiet is no
     )
 
 -- the new frames wait, or the end came
-came_to : {V : Type 0} {way : Way V} (e : Option End) (home : Home) (start a b : Place way)
+came_to : {V : Type 0} {way : Way V} (e : Option ConnectionEnd) (home : Home)
+    (start a b : Place way)
     (bytes taken piece rest : List ℕ) (begun : List Begun)
     → Holds home start a bytes taken begun rest → WantsRead a.talk → OnlyReads a.talk b.talk
     → IsQuiet a b → a.talk.stream ≡ holding rest → b.talk.end ≡ e → ReadsTo e piece a.talk b.talk
@@ -189,7 +190,7 @@ came_to (Some end.Down) home start a b bytes taken piece rest begun h wants only
 
 -- ---- a frame was begun
 
-stands_of : {V : Type 0} {way : Way V} (e : Option End) (home : Home) (s t : Sides way)
+stands_of : {V : Type 0} {way : Way V} (e : Option ConnectionEnd) (home : Home) (s t : Sides way)
     (begun : List Begun) (rest : List ℕ) (count : ℕ)
     (a b : Sides way) (one : Begun) → LeavesAt e home a b one count
     → Leaves e home s t begun count → Stands e home s t begun rest count

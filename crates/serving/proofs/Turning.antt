@@ -12,10 +12,10 @@ use Rattle.wire.specs.declared.fault.WireFault.{WireFault}
 use Rattle.wire.specs.declared.frame.Frame.{Frame}
 use Rattle.wire.specs.declared.standing.Difference.{Difference}
 use Rattle.wire.specs.Stream.{Feeds, IsKept, Reader}
-use Rattle.serving.specs.declared.ends.Close.{Close}
-use Rattle.serving.specs.declared.ends.Close.TheVariants as close
-use Rattle.serving.specs.declared.ends.End.{End}
-use Rattle.serving.specs.declared.ends.End.TheVariants as end
+use Rattle.serving.specs.declared.ends.FrameEnd.{FrameEnd}
+use Rattle.serving.specs.declared.ends.FrameEnd.TheVariants as close
+use Rattle.serving.specs.declared.ends.ConnectionEnd.{ConnectionEnd}
+use Rattle.serving.specs.declared.ends.ConnectionEnd.TheVariants as end
 use Rattle.serving.specs.declared.ends.FrameFault.TheVariants as fault
 use Rattle.serving.specs.Connection.{Begun, Sides, sides, ServesOne, Serves, BreaksOff}
 use Rattle.serving.specs.Connection.{FailsIn, Fails, serve_frame, answer_bytes}
@@ -31,7 +31,7 @@ use Rattle.serving.proofs.Pieces.{piece_ends, piece_breaks, piece_waits, nothing
 -- ---- one frame
 
 -- the 64th frame ends the connection, unless it does so of itself
-pub leaves_at : {V : Type 0} {way : Way V} (c : Option Close) (home : Home) (a b : Sides way)
+pub leaves_at : {V : Type 0} {way : Way V} (c : Option FrameEnd) (home : Home) (a b : Sides way)
     (one : Begun) (count : ℕ)
     → count ≤ 64 → ServesOne home a b one c → LeavesAt (end_after c count) home a b one count
 leaves_at (Some close.Stopped) home a b one count few h = h
@@ -45,7 +45,7 @@ leaves_at {V} {way} None home a b one count few h = go (eqb count 64) refl
 
 -- the frame was begun with nothing pending, so what is pending after it is its answer
 pub left_at : {V : Type 0} {way : Way V} (home : Home) (x y : Seen) (p q : List ℕ)
-    (o n : Outside way) (one : Begun) (c : Option Close) (e : Option End) (count : ℕ)
+    (o n : Outside way) (one : Begun) (c : Option FrameEnd) (e : Option ConnectionEnd) (count : ℕ)
     → p ≡ [] → e ≡ end_after c count → count ≤ 64
     → ServesOne home (sides x (Some []) o) (sides y (Some q) n) one c
     → LeavesAt e home (sides x (Some p) o) (sides y (Some q) n) one count
@@ -67,7 +67,7 @@ advances_as d p node next peers later may differs view old new is h =
 
 -- what a connection has of an answer is what the writer is given
 handed_on : {V : Type 0} {way : Way V} (home : Home) (x y : Seen) (p q : List ℕ)
-    (w v : Option (List ℕ)) (o n : Outside way) (one : Begun) (c : Option Close)
+    (w v : Option (List ℕ)) (o n : Outside way) (one : Begun) (c : Option FrameEnd)
     → p ≡ [] → ServesOne home (sides x (Some p) o) (sides y (Some q) n) one c → Appends w v q
     → ServesOne home (sides x w o) (sides y v n) one c
 handed_on home x y p q w v o n one c none h k = record {
@@ -95,7 +95,7 @@ failed_on home x y p q w v o n one none h k = (
 )
 
 broken_off : {V : Type 0} {way : Way V} (home : Home) (x y : Seen) (p q : List ℕ)
-    (w v : Option (List ℕ)) (o n : Outside way) (one : Begun) (c : Option Close)
+    (w v : Option (List ℕ)) (o n : Outside way) (one : Begun) (c : Option FrameEnd)
     → p ≡ [] → ServesOne home (sides x (Some p) o) (sides y (Some q) n) one c → q ≢ []
     → AppendsPart w v q → BreaksOff home (sides x w o) (sides y v n) one
 broken_off home x y p q w v o n one c none h due k =
@@ -110,7 +110,8 @@ broken_off home x y p q w v o n one c none h due k =
 
 -- ---- one frame after those before it
 
-pub leaves_more : {V : Type 0} {way : Way V} (e : Option End) (home : Home) (a : Sides way)
+pub leaves_more : {V : Type 0} {way : Way V} (e : Option ConnectionEnd) (home : Home)
+    (a : Sides way)
     (x y : Seen) (p q : List ℕ) (w v : Option (List ℕ)) (o n : Outside way) (begun : List Begun)
     (one : Begun) (count : ℕ)
     → p ≡ [] → Serves home a (sides x w o) begun
@@ -142,7 +143,8 @@ leaves_more (Some end.Read) home a x y p q w v o n begun one count none h k more
 leaves_more (Some end.Write) home a x y p q w v o n begun one count none h k more = absurd k
 
 -- an answer that was not written whole is one of a frame that was served
-breaks_at : {V : Type 0} {way : Way V} (e : Option End) (home : Home) (x y : Seen) (p q : List ℕ)
+breaks_at : {V : Type 0} {way : Way V} (e : Option ConnectionEnd) (home : Home) (x y : Seen)
+    (p q : List ℕ)
     (w v : Option (List ℕ)) (o n : Outside way) (one : Begun) (count : ℕ)
     → p ≡ [] → LeavesAt e home (sides x (Some p) o) (sides y (Some q) n) one count → q ≢ []
     → AppendsPart w v q → BreaksOff home (sides x w o) (sides y v n) one
@@ -162,7 +164,7 @@ breaks_at (Some (end.Fault e)) home x y p q w v o n one count none k due part = 
 breaks_at (Some end.Read) home x y p q w v o n one count none k due part = absurd k
 breaks_at (Some end.Write) home x y p q w v o n one count none k due part = absurd k
 
-pub leaves_cut : {V : Type 0} {way : Way V} (e : Option End) (home : Home) (a : Sides way)
+pub leaves_cut : {V : Type 0} {way : Way V} (e : Option ConnectionEnd) (home : Home) (a : Sides way)
     (x y : Seen) (p q : List ℕ) (w v : Option (List ℕ)) (o n : Outside way) (begun : List Begun)
     (one : Begun) (count : ℕ)
     → p ≡ [] → Serves home a (sides x w o) begun
@@ -173,7 +175,8 @@ leaves_cut e home a x y p q w v o n begun one count none h k due part =
     (breaks_at e home x y p q w v o n one count none k due part)
 
 -- with the connection open, all frames so far are served
-pub open_serves : {V : Type 0} {way : Way V} (e : Option End) (home : Home) (a b : Sides way)
+pub open_serves : {V : Type 0} {way : Way V} (e : Option ConnectionEnd) (home : Home)
+    (a b : Sides way)
     (begun : List Begun) (count : ℕ) → e ≡ None → Leaves e home a b begun count
     → Serves home a b begun × (count < 64)
 open_serves None home a b begun count none h = h
@@ -182,7 +185,7 @@ open_serves (Some e) home a b begun count none h = absurd cc
 -- ---- a piece
 
 -- the frames of the piece came to an end, or a fault is after them, or more is waited for
-pub piece_of : {V : Type 0} {way : Way V} {may : Permission} (how result : Option End)
+pub piece_of : {V : Type 0} {way : Way V} {may : Permission} (how result : Option ConnectionEnd)
     (fault : Option WireFault)
     (home : Home) (a b : Sides way) (stream : List ℕ) (given left : List Frame)
     (begun : List Begun) (before count : ℕ) (reader : Reader)
@@ -210,7 +213,7 @@ piece_of {V} {way} {may} None result None home a b stream given left begun befor
     (piece_waits None None home a b stream given left begun before count reader refl refl found r h)
 
 -- the piece itself ended the connection
-pub piece_stops : {V : Type 0} {way : Way V} {may : Permission} (e : End) (home : Home)
+pub piece_stops : {V : Type 0} {way : Way V} {may : Permission} (e : ConnectionEnd) (home : Home)
     (a : Sides way)
     (piece : List ℕ) (old new : Talk) (before : ℕ)
     → ReadsTo (Some e) piece old new → before < 64

@@ -11,11 +11,11 @@ use Rattle.wire.specs.declared.fault.WireFault.{WireFault}
 use Rattle.wire.specs.declared.frame.Frame.{Frame}
 use Rattle.wire.specs.declared.values.Version.{Version}
 use Rattle.wire.specs.Stream.{Feeds, IsKept, Reader, holding}
-use Rattle.serving.specs.declared.ends.End.{End}
-use Rattle.serving.specs.declared.ends.End.TheVariants as end
+use Rattle.serving.specs.declared.ends.ConnectionEnd.{ConnectionEnd}
+use Rattle.serving.specs.declared.ends.ConnectionEnd.TheVariants as end
 use Rattle.serving.specs.declared.permission.Permission.{Permission}
 use Rattle.serving.specs.declared.peers.Peers.{Ghosts as PeersOf}
-use Rattle.serving.specs.declared.ends.Served.{Served}
+use Rattle.serving.specs.declared.ends.ServingOutcome.{ServingOutcome}
 use Rattle.serving.specs.declared.source.Source.{Ghosts as SourceOf}
 use Rattle.serving.specs.Connection.{Begun, frames_of, AreUnder, IsConnection, Sides}
 use Rattle.serving.specs.Making.{Way}
@@ -63,7 +63,7 @@ served_none home a first free few = record {
 
 -- a turn, seen as one of the connection that it was first
 turn_as : {V U : Type 0} (d : DeskOf V) (p : PeersOf U) (first c later : Talk)
-    (x y : V) (o n : U) (one : Begun) (e : Option End) (count : ℕ)
+    (x y : V) (o n : U) (one : Begun) (e : Option ConnectionEnd) (count : ℕ)
     → c.home ≡ first.home → c.wire ≡ first.wire
     → LeavesAt e c.home (sides_at d p c.wire (moment x o c))
     (sides_at d p c.wire (moment y n later))
@@ -115,7 +115,7 @@ waiting_more {V} {U} {X} {may} d p w first c later written start m b begun one h
           h.wire turn) more;
     })
 
-some_end : {e : End} → Some e ≡ None → ⊥
+some_end : {e : ConnectionEnd} → Some e ≡ None → ⊥
 some_end h = cc
 
 -- an answer was not written whole
@@ -171,7 +171,7 @@ no_fault (Some e) h = absurd (some_end h)
 -- the connection ended before
 rests_ended : {V U X : Type 0} {may : Permission} (d : DeskOf V) (p : PeersOf U) (w : WriteOf X)
     (first c : Talk)
-    (start m : Line V U X) (begun : List Begun) (e : Option End)
+    (start m : Line V U X) (begun : List Begun) (e : Option ConnectionEnd)
     → HasServed may first.home (sides_of d p w first.wire start) (sides_of d p w first.wire m) first
     c
     begun
@@ -266,7 +266,8 @@ waiting_done {V} {U} {X} {may} d p w first c later start m node peers begun h sa
         subst (λ (z : Talk). ServesWaiting d p w may z.end first z start m) (sym r.ends)
         (rests_served d p w first c start m begun h r.free r.served r.kept)
 
-read_on : (e : Option End) (piece : List ℕ) (old new : Talk) → e ≡ None → ReadsTo e piece old new
+read_on : (e : Option ConnectionEnd) (piece : List ℕ) (old new : Talk) → e ≡ None
+    → ReadsTo e piece old new
     → Feeds (old.stream.held ++ piece) new.waiting new.stream
 read_on None piece old new none h = h
 read_on (Some e) piece old new none h = absurd (some_end none)
@@ -274,7 +275,7 @@ read_on (Some e) piece old new none h = absurd (some_end none)
 -- the frames that a piece made whole were served
 pub piece_waited : {V U X : Type 0} {may : Permission} (d : DeskOf V) (p : PeersOf U)
     (w : WriteOf X)
-    (result : Option End) (piece : List ℕ) (old mid new : Talk) (a b : Line V U X)
+    (result : Option ConnectionEnd) (piece : List ℕ) (old mid new : Talk) (a b : Line V U X)
     → OnlyReads old mid → mid.end ≡ None → ReadsTo mid.end piece old mid
     → ServesWaiting d p w may result mid new a b → ServesPiece d p w may result piece old new a b
 piece_waited {V} {U} {X} {may} d p w result piece old mid new a b only none reads h =
@@ -296,7 +297,7 @@ piece_waited {V} {U} {X} {may} d p w result piece old mid new a b only none read
 
 -- the piece itself ended the connection
 pub piece_stopped : {V U X : Type 0} {may : Permission} (d : DeskOf V) (p : PeersOf U)
-    (w : WriteOf X) (e : End)
+    (w : WriteOf X) (e : ConnectionEnd)
     (piece : List ℕ) (old new : Talk) (a : Line V U X)
     → OnlyReads old new → new.end ≡ Some e → ReadsTo new.end piece old new → old.frames < 64
     → ServesPiece d p w may (Some e) piece old new a a
@@ -337,7 +338,8 @@ new_so_far {V} {way} {may} home wire a read c is =
 
 -- a piece was served, seen from the beginning of the connection
 from_first : {V U X : Type 0} {may : Permission} (d : DeskOf V) (p : PeersOf U) (w : WriteOf X)
-    (result : Option End) (piece : List ℕ) (old new : Talk) (a b : Line V U X) (home : Home)
+    (result : Option ConnectionEnd) (piece : List ℕ) (old new : Talk) (a b : Line V U X)
+    (home : Home)
     (wire : Version)
     → old.home ≡ home → old.wire ≡ wire → ServesPiece d p w may result piece old new a b
     → (begun : List Begun) × (rest : List ℕ)
@@ -356,7 +358,7 @@ from_first {V} {U} {X} {may} d p w result piece old new a b home wire is spoken 
 pub source_more : {V U X : Type 0} {may : Permission} (d : DeskOf V) (p : PeersOf U) (w : WriteOf X)
     (home : Home)
     (wire : Version) (start a b : Line V U X) (old new : Talk) (bytes rest piece : List ℕ)
-    (begun : List Begun) (read left later : Option (List ℕ)) (result : Option End)
+    (begun : List Begun) (read left later : Option (List ℕ)) (result : Option ConnectionEnd)
     → SoFar may home (sides_of d p w wire start) (sides_of d p w wire a) bytes begun rest read left
     old.frames old.stream
     → Consumes left later piece → old.home ≡ home → old.wire ≡ wire
@@ -381,9 +383,10 @@ source_more {V} {U} {X} {may} d p w home wire start a b old new bytes rest piece
 -- a piece ends the connection
 pub source_stops : {V U X S : Type 0} {may : Permission} (d : DeskOf V) (p : PeersOf U)
     (w : WriteOf X)
-    (s : SourceOf S) (e : End) (home : Home) (wire : Version) (start a b : Line V U X)
+    (s : SourceOf S) (e : ConnectionEnd) (home : Home) (wire : Version) (start a b : Line V U X)
     (old new : Talk) (bytes rest piece : List ℕ) (begun : List Begun)
-    (read left : Option (List ℕ)) (source : S) (result : Option End) (served : Served)
+    (read left : Option (List ℕ)) (source : S) (result : Option ConnectionEnd)
+    (served : ServingOutcome)
     → SoFar may home (sides_of d p w wire start) (sides_of d p w wire a) bytes begun rest read left
     old.frames old.stream
     → Consumes left (s.remaining source) piece → old.home ≡ home → old.wire ≡ wire

@@ -10,8 +10,8 @@ use Rattle.proposer.specs.declared.role.Role.TheVariants as doing
 use Rattle.store.specs.declared.home.Home.{Home}
 use Rattle.formats.specs.declared.events.Event.{Event}
 use Rattle.answers.specs.Answers.{told, sheet_at}
-use Rattle.answers.specs.declared.answers.Told.{Told}
-use Rattle.answers.specs.declared.answers.Told.TheVariants as tells
+use Rattle.answers.specs.declared.answers.IdState.{IdState}
+use Rattle.answers.specs.declared.answers.IdState.TheVariants as tells
 use Rattle.replica.specs.declared.roles.fault.NodeFault.{NodeFault}
 use Rattle.replica.specs.declared.roles.fault.NodeFault.TheVariants as fault
 use Rattle.sheets.specs.declared.Style.{Style as SheetStyle}
@@ -28,18 +28,18 @@ use Rattle.wire.specs.declared.values.SheetStyle.TheVariants as asked
 use Rattle.wire.specs.declared.values.DeskRole.{DeskRole}
 use Rattle.wire.specs.declared.values.DeskRole.TheVariants as role
 use Rattle.wire.specs.declared.standing.Difference.{Difference}
-use Rattle.wire.specs.declared.standing.Standing.{Standing}
+use Rattle.wire.specs.declared.standing.DeskStatus.{DeskStatus}
 use Rattle.wire.specs.declared.standing.Lengths.{Lengths}
 use Rattle.wire.specs.declared.standing.Lengths.TheVariants.{OfThree, OfFive}
-use Rattle.wire.specs.declared.frame.What.{What}
-use Rattle.wire.specs.declared.frame.What.TheVariants as what
+use Rattle.wire.specs.declared.frame.FrameBody.{FrameBody}
+use Rattle.wire.specs.declared.frame.FrameBody.TheVariants as what
 use Rattle.answers.specs.Seen.{Seen}
 use Rattle.serving.specs.Nodes.{Fate, Goes, Starves, Breaks}
-use Rattle.serving.specs.declared.calls.Answer.{Answer}
-use Rattle.serving.specs.declared.calls.Answer.TheVariants.{Taken, Refused}
+use Rattle.serving.specs.declared.calls.NodeAnswer.{NodeAnswer}
+use Rattle.serving.specs.declared.calls.NodeAnswer.TheVariants.{Taken, Refused}
 
 -- how the node answered
-abbrev pub answer_of : Result (List Message) NodeFault → Answer
+abbrev pub answer_of : Result (List Message) NodeFault → NodeAnswer
 answer_of (Ok ms) = Taken
 answer_of (Err why) = Refused why
 
@@ -51,11 +51,11 @@ refusal_of fault.NoMemory = refusal.NoMemory
 refusal_of fault.Down = refusal.Down
 
 -- the answer to what the node said of the first call; at Down, in whichever call, it is Refused
-abbrev pub answer_first : What → Answer → Seen → What
+abbrev pub answer_first : FrameBody → NodeAnswer → Seen → FrameBody
 answer_first good Taken x = if x.is_down then what.Refused refusal.Down else good
 answer_first good (Refused why) x = what.Refused (refusal_of why)
 
-abbrev pub state_of : Told → CommandState
+abbrev pub state_of : IdState → CommandState
 state_of (tells.Done pos answer) = Done pos answer
 state_of tells.Pending = Pending
 state_of tells.Unknown = Unknown
@@ -64,7 +64,7 @@ state_of tells.Unknown = Unknown
 abbrev pub state : Seen → ℕ → CommandState
 state x id = state_of (told x.desk.log x.desk.queue id)
 
-abbrev pub told_what : ℕ → Fate → CommandState → What
+abbrev pub told_what : ℕ → Fate → CommandState → FrameBody
 told_what id Goes s = what.Told id s
 told_what id Starves s = what.Refused refusal.NoMemory
 told_what id Breaks s = what.Refused refusal.NoMemory
@@ -77,13 +77,13 @@ style_of asked.Table = layout.Table
 abbrev pub sheet : Seen → Event → ℕ → ℕ → Style → Option (List ℕ)
 sheet x event round position style = sheet_at (style_of style) x.desk.log position event round
 
-abbrev pub printed_as : Fate → Option (List ℕ) → What
+abbrev pub printed_as : Fate → Option (List ℕ) → FrameBody
 printed_as Goes None = what.Refused refusal.NoSuchRound
 printed_as Goes (Some text) = what.SheetText text
 printed_as Starves text = what.Refused refusal.NoMemory
 printed_as Breaks text = what.Refused refusal.NoMemory
 
-abbrev pub printed : Seen → Fate → Event → ℕ → ℕ → Style → What
+abbrev pub printed : Seen → Fate → Event → ℕ → ℕ → Style → FrameBody
 printed x fate event round position style =
     if nat_lt (length x.desk.log) position then what.Refused refusal.NotThere
     else printed_as fate (sheet x event round position style)
@@ -104,7 +104,7 @@ promised_of b = if b.number == 0 then None else Some b
 abbrev pub lengths_of_hall : ℕ → List ℕ → Lengths
 lengths_of_hall desks told = if desks == 3 then OfThree (take 3 told) else OfFive told
 
-abbrev pub standing : Home → Seen → Option Difference → Standing
+abbrev pub standing : Home → Seen → Option Difference → DeskStatus
 standing home x differs =
     record {
       length = length x.desk.log;
@@ -119,7 +119,7 @@ standing home x differs =
 abbrev pub entries_from : ℕ → List Entry → List Entry
 entries_from position log = take 400 (drop position log)
 
-abbrev pub copied : Seen → Fate → ℕ → What
+abbrev pub copied : Seen → Fate → ℕ → FrameBody
 copied x Goes position =
     what.Entries position (length x.desk.log) (entries_from position x.desk.log)
 copied x Starves position = what.Refused refusal.NoMemory
@@ -129,7 +129,7 @@ copied x Breaks position = what.Refused refusal.NoMemory
 
 -- what a version tells of an answer: of a command's code that it does not have, that it is Unread;
 -- of a refusal that it does not have, that the desk is down; before version 5 of no difference
-abbrev pub said_in : Version → What → What
+abbrev pub said_in : Version → FrameBody → FrameBody
 said_in version (what.Told id s) = what.Told id (state_in version s)
 said_in version (what.Refused r) = what.Refused (refusal_in version r)
 said_in version (what.Standing s) = what.Standing (standing_in version s)
@@ -138,11 +138,11 @@ said_in version w = w
 -- ---- ranges
 
 -- what is said of it in each version is a frame for a client
-pub record IsAnswer (w : What) : Type 0 where
+pub record IsAnswer (w : FrameBody) : Type 0 where
   pub body : (version : Version) → IsBody version (said_in version w)
   pub way : (version : Version) → way_of (said_in version w) ≡ ToClient
 
 -- and in this version
-pub record IsAnswerIn (version : Version) (w : What) : Type 0 where
+pub record IsAnswerIn (version : Version) (w : FrameBody) : Type 0 where
   pub body : IsBody version (said_in version w)
   pub way : way_of (said_in version w) ≡ ToClient

@@ -7,12 +7,12 @@ use Rattle.wire.specs.Numbers.{IsFromThree}
 use Rattle.wire.specs.Ranges.{IsDifference, IsEntry, IsId, IsLogLength}
 use Rattle.wire.specs.declared.frame.Frame.{Frame}
 use Rattle.wire.specs.declared.values.Version.{Version}
-use Rattle.wire.specs.declared.frame.What.{What}
-use Rattle.wire.specs.declared.frame.What.TheVariants as what
-use Rattle.serving.specs.declared.ends.Close.{Close}
-use Rattle.serving.specs.declared.ends.Close.TheVariants as close
-use Rattle.serving.specs.declared.request.Ending.{Ending}
-use Rattle.serving.specs.declared.request.Ending.TheVariants as ends
+use Rattle.wire.specs.declared.frame.FrameBody.{FrameBody}
+use Rattle.wire.specs.declared.frame.FrameBody.TheVariants as what
+use Rattle.serving.specs.declared.ends.FrameEnd.{FrameEnd}
+use Rattle.serving.specs.declared.ends.FrameEnd.TheVariants as close
+use Rattle.serving.specs.declared.request.FrameEndRule.{FrameEndRule}
+use Rattle.serving.specs.declared.request.FrameEndRule.TheVariants as ends
 use Rattle.serving.specs.declared.request.Request.{Request}
 use Rattle.serving.specs.declared.request.Request.TheVariants.{Heard, Lagging, Learned, Entered}
 use Rattle.serving.specs.declared.request.Request.TheVariants.{Asked, Printed, Ticked, Stopped}
@@ -22,7 +22,7 @@ use Rattle.answers.specs.Seen.{Seen}
 use Rattle.store.specs.declared.home.Home.{Home}
 
 -- the frame as one message, where it is one from a desk to a desk
-abbrev pub body_of : What → Option Body
+abbrev pub body_of : FrameBody → Option Body
 body_of (what.Prepare b pos) = Some (body.Prepare b pos)
 body_of (what.Promise b pos vote) = Some (body.Promise b pos vote)
 body_of (what.Accept b pos e) = Some (body.Accept b pos e)
@@ -51,7 +51,7 @@ heard from to None = Ignored
 heard from to (Some b) = Heard (record { from = from; to = to; body = b })
 
 -- a frame that is for this desk
-abbrev pub ours : ℕ → ℕ → What → Request
+abbrev pub ours : ℕ → ℕ → FrameBody → Request
 ours from to (what.Submit e) = Entered e
 ours from to (what.Ask id) = Asked id
 ours from to (what.Await id seconds) = Asked id
@@ -78,7 +78,7 @@ ours from to (what.Standing standing) = Ignored
 ours from to (what.Entries position length entries) = Ignored
 
 -- a frame for another desk or another hall: a client is told so
-abbrev pub strange : What → Request
+abbrev pub strange : FrameBody → Request
 strange (what.Submit e) = Strange
 strange (what.Ask id) = Strange
 strange (what.Sheet event round position style) = Strange
@@ -143,7 +143,7 @@ IsAskedIn version Denied = Unit {0}
 IsAskedIn version Withheld = Unit {0}
 
 -- how a request ends the connection of itself: where the desk is down after it, or at a Stop
-abbrev pub ending : Request → Ending
+abbrev pub ending : Request → FrameEndRule
 ending (Heard m) = ends.IfDown
 ending (Lagging m) = ends.IfDown
 ending (Learned run) = ends.IfDown
@@ -159,10 +159,10 @@ ending Ignored = ends.Never
 ending Denied = ends.Never
 ending Withheld = ends.Never
 
-abbrev pub close_by : Ending → Bool → Option Close
+abbrev pub close_by : FrameEndRule → Bool → Option FrameEnd
 close_by ends.Never is_down = None
 close_by ends.AtStop is_down = Some close.Stopped
 close_by ends.IfDown is_down = if is_down then Some close.Down else None
 
-abbrev pub closes : Seen → Request → Option Close
+abbrev pub closes : Seen → Request → Option FrameEnd
 closes x r = close_by (ending r) x.is_down

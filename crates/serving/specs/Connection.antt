@@ -5,18 +5,18 @@ use Rattle.std.specs.List.{flat_map, AllByRecursion}
 use Rattle.std.specs.Io.KnownBytes.{Appends, Consumes, IsAtEnd}
 use Rattle.wire.specs.declared.values.Version.{Version}
 use Rattle.wire.specs.declared.frame.Frame.{Frame}
-use Rattle.wire.specs.declared.frame.What.{What}
+use Rattle.wire.specs.declared.frame.FrameBody.{FrameBody}
 use Rattle.wire.specs.declared.standing.Difference.{Difference}
 use Rattle.wire.specs.Ranges.{IsFrame}
 use Rattle.wire.specs.Spelling.{spelling}
 use Rattle.wire.specs.Stream.{Waits, Breaks, front, IsOfStream}
 use Rattle.store.specs.declared.home.Home.{Home}
-use Rattle.serving.specs.declared.ends.Close.{Close}
-use Rattle.serving.specs.declared.ends.Close.TheVariants as close
-use Rattle.serving.specs.declared.ends.End.{End}
-use Rattle.serving.specs.declared.ends.End.TheVariants as end
+use Rattle.serving.specs.declared.ends.FrameEnd.{FrameEnd}
+use Rattle.serving.specs.declared.ends.FrameEnd.TheVariants as close
+use Rattle.serving.specs.declared.ends.ConnectionEnd.{ConnectionEnd}
+use Rattle.serving.specs.declared.ends.ConnectionEnd.TheVariants as end
 use Rattle.serving.specs.declared.ends.FrameFault.{FrameFault}
-use Rattle.serving.specs.declared.ends.Served.{Served}
+use Rattle.serving.specs.declared.ends.ServingOutcome.{ServingOutcome}
 use Rattle.serving.specs.declared.ends.FrameFault.TheVariants as fault
 use Rattle.lines.specs.Bytes.{AppendsPart}
 use Rattle.serving.specs.Making.{Way, Outside, Makes}
@@ -53,11 +53,11 @@ pub record Outcome : Type 0 where
   pub seen : Seen
 
 -- an answer is this desk's, for the client, in the version of what it answers
-abbrev pub answer_frame : Version → Home → What → Frame
+abbrev pub answer_frame : Version → Home → FrameBody → Frame
 answer_frame version home w =
     record { version = version; hall = home.hall; from = home.desk; to = 0; what = w }
 
-abbrev pub framed_answer : Version → Home → Option What → List Frame
+abbrev pub framed_answer : Version → Home → Option FrameBody → List Frame
 framed_answer version home None = []
 framed_answer version home (Some w) = answer_frame version home (said_in version w) ∷ []
 
@@ -77,7 +77,7 @@ unfoldable pub serve_frame : Home → Seen → Begun → Outcome
 serve_frame home x b = serve_request b.frame.version home x b.fates (asked home b)
 
 -- how the frame ends the connection of itself, if it does
-unfoldable pub close_of : Home → Seen → Begun → Option Close
+unfoldable pub close_of : Home → Seen → Begun → Option FrameEnd
 close_of home x b = closes (serve_frame home x b).seen (asked home b)
 
 -- the first frame, and then the others
@@ -123,7 +123,7 @@ sides x written outside = record { seen = x; written = written; outside = outsid
 
 -- the frame was served whole
 pub record ServesOne {V : Type 0} {way : Way V} (home : Home) (a b : Sides way) (one : Begun)
-    (ends : Option Close) : Type 0 where
+    (ends : Option FrameEnd) : Type 0 where
   pub close : ends ≡ close_of home a.seen one
   pub answered : Appends a.written b.written (answer_bytes (serve_frame home a.seen one).answers)
   pub made : Makes home.hall a.outside b.outside (serve_frame home a.seen one).acts
@@ -169,7 +169,7 @@ pub record Serves {V : Type 0} {way : Way V} (home : Home) (a b : Sides way)
   pub served : IsServed home a b begun
 
 -- the frames were served, and the last one ended the connection
-pub record ServesUntil {V : Type 0} {way : Way V} (ends : Close) (home : Home) (a b : Sides way)
+pub record ServesUntil {V : Type 0} {way : Way V} (ends : FrameEnd) (home : Home) (a b : Sides way)
     (begun front : List Begun)
     (last : Begun) : Type 0 where
   pub parts : begun ≡ front ++ last ∷ []
@@ -177,7 +177,8 @@ pub record ServesUntil {V : Type 0} {way : Way V} (ends : Close) (home : Home) (
   pub close : close_of home (serve_frames home a.seen front).seen last ≡ Some ends
   pub served : IsServed home a b begun
 
-abbrev pub Closes : {V : Type 0} → {way : Way V} → Close → Home → Sides way → Sides way → List Begun
+abbrev pub Closes : {V : Type 0} → {way : Way V} → FrameEnd → Home → Sides way → Sides way
+    → List Begun
     → Type 0
 Closes ends home a b begun =
     (front : List Begun) × (last : Begun) × ServesUntil ends home a b begun front last
@@ -208,7 +209,8 @@ pub record IsOpen {V : Type 0} {way : Way V} (home : Home) (a b : Sides way)
 
 -- The cause of each end. `rest` is what was read after the frames begun, `left` is what the reader
 -- has left, and `reads` is how often it was read from.
-abbrev pub EndsAt : {V : Type 0} → {way : Way V} → End → Home → Sides way → Sides way → List Begun
+abbrev pub EndsAt : {V : Type 0} → {way : Way V} → ConnectionEnd → Home → Sides way → Sides way
+    → List Begun
     → List ℕ → Option (List ℕ) → ℕ → Type 0
 EndsAt end.End home a b begun rest left reads =
     IsOpen home a b begun × (front rest ≡ Waits) × IsAtEnd left
@@ -231,7 +233,7 @@ pub record Reads : Type 0 where
   pub failed : ℕ
 
 -- how many reads failed in a connection that ended so: the first one that fails ends it
-abbrev pub failed_at : End → ℕ
+abbrev pub failed_at : ConnectionEnd → ℕ
 failed_at end.Read = 1
 failed_at end.End = 0
 failed_at end.Stopped = 0
@@ -244,7 +246,7 @@ failed_at end.NoMemory = 0
 
 -- a connection that may ask so much: the bytes read are the frames begun and a rest, and the end
 -- came by its cause
-pub record IsConnection {V : Type 0} {way : Way V} (may : Permission) (result : Served)
+pub record IsConnection {V : Type 0} {way : Way V} (may : Permission) (result : ServingOutcome)
     (home : Home)
     (a b : Sides way) (bytes : List ℕ)
     (begun : List Begun) (rest : List ℕ) (read left : Option (List ℕ))

@@ -8,12 +8,12 @@ use Rattle.acceptor.specs.declared.entry.Entry.{Entry}
 use Rattle.learner.specs.Steps.{is_desk}
 use Rattle.store.specs.declared.home.Home.{Home}
 use Rattle.wire.specs.declared.frame.Frame.{Frame}
-use Rattle.wire.specs.declared.frame.What.{What}
-use Rattle.wire.specs.declared.frame.What.TheVariants as what
+use Rattle.wire.specs.declared.frame.FrameBody.{FrameBody}
+use Rattle.wire.specs.declared.frame.FrameBody.TheVariants as what
 use Rattle.wire.specs.declared.standing.Difference.{Difference}
 use Rattle.wire.specs.declared.standing.Difference.TheVariants.{OtherEntry, Shorter}
 use Rattle.serving.specs.Asking.{is_ours}
-use Rattle.serving.specs.declared.differing.Awaited.{Awaited}
+use Rattle.serving.specs.declared.differing.AwaitRequest.{AwaitRequest}
 use Rattle.serving.specs.declared.permission.Permission.{Permission}
 use Rattle.serving.specs.declared.permission.Permission.TheVariants as permission
 use Rattle.serving.specs.declared.request.Request.{Request}
@@ -25,12 +25,12 @@ abbrev pub first_frame : List Frame → Option Frame
 first_frame [] = None
 first_frame (f ∷ fs) = Some f
 
-abbrev pub awaited_what : What → Option Awaited
+abbrev pub awaited_what : FrameBody → Option AwaitRequest
 awaited_what (what.Await id seconds) = Some (record { id = id; seconds = seconds })
 awaited_what _ = None
 
 -- what it waits for, where it is an Await that is for this desk
-abbrev pub awaited_by : Home → Frame → Option Awaited
+abbrev pub awaited_by : Home → Frame → Option AwaitRequest
 awaited_by home f = if is_ours home f then awaited_what f.what else None
 
 -- ---- what a desk says
@@ -61,7 +61,7 @@ abbrev pub shorter : ℕ → ℕ → List ℕ → Option Difference
 shorter desk len known =
     if nat_lt len (slice_index known (desk - 1)) then Some (Shorter desk len) else None
 
-abbrev pub what_differs : ℕ → What → List Entry → List ℕ → Option Difference
+abbrev pub what_differs : ℕ → FrameBody → List Entry → List ℕ → Option Difference
 what_differs desk (what.Decided pos es) log known = other_from desk pos es log
 what_differs desk (what.Behind len) log known = shorter desk len known
 what_differs desk _ log known = None
@@ -74,7 +74,7 @@ differs_by home may log known f =
     if hears home may f then what_differs f.from f.what log known else None
 
 -- how many entries the sender's log has at least, by what it says
-abbrev pub length_said : What → ℕ
+abbrev pub length_said : FrameBody → ℕ
 length_said (what.Decided pos es) = pos + length es
 length_said (what.Behind len) = len
 length_said _ = 0

@@ -1,11 +1,11 @@
 -- Frames that may take long to answer, and those that have no answer (the project's own).
 use Rattle.std.specs.Prelude.{Bool, true, false, List, [], ◌∷◌}
 use Rattle.wire.specs.declared.frame.Frame.{Frame}
-use Rattle.wire.specs.declared.frame.What.{What}
-use Rattle.wire.specs.declared.frame.What.TheVariants as what
+use Rattle.wire.specs.declared.frame.FrameBody.{FrameBody}
+use Rattle.wire.specs.declared.frame.FrameBody.TheVariants as what
 
 -- it asks for a sheet, or for entries of the log: what that takes grows with the log
-abbrev pub is_dear : What → Bool
+abbrev pub is_dear : FrameBody → Bool
 is_dear (what.Sheet event round position style) = true
 is_dear (what.Log position) = true
 is_dear (what.Prepare b pos) = false
@@ -35,7 +35,7 @@ dear_next [] = false
 dear_next (frame ∷ frames) = is_dear frame.what
 
 -- it is a message of a desk to a desk, which has no answer
-abbrev pub is_message : What → Bool
+abbrev pub is_message : FrameBody → Bool
 is_message (what.Prepare b pos) = true
 is_message (what.Promise b pos vote) = true
 is_message (what.Accept b pos e) = true

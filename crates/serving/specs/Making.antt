@@ -1,5 +1,5 @@
 -- Calls of a node and pushes to other desks as they are made (the project's own).
-use Rattle.std.specs.Prelude.{◌≡◌, ℕ, ◌==◌, if◌then◌else◌, List, [], ◌∷◌, Option, Result}
+use Rattle.std.specs.Prelude.{◌≡◌, ℕ, ◌==◌, Bool, if◌then◌else◌, List, [], ◌∷◌, Option, Result}
 use Rattle.acceptor.specs.declared.message.Message.{Message}
 use Rattle.learner.specs.declared.event.DeskEvent.{DeskEvent}
 use Rattle.replica.specs.declared.roles.fault.NodeFault.{NodeFault}
@@ -13,14 +13,20 @@ use Rattle.serving.specs.Serving.{Act, Called, Pushed, Answered, pushes_of}
 abbrev pub Handling : Type 0 → Type 1
 Handling V = V → DeskEvent → Result (List Message) NodeFault → V → Type 0
 
--- how a node of a kind is served: what is said of its calls, and the version in which frames are
--- pushed
+-- what is said of a settling of such a node: the node before it, whether all is committed, and the
+-- node after it
+abbrev pub Settling : Type 0 → Type 1
+Settling V = V → Bool → V → Type 0
+
+-- how a node of a kind is served: what is said of its calls and its settlings, and the version in
+-- which frames are pushed
 pub record Way (V : Type 0) : Type 1 where
   pub handles : Handling V
+  pub settles : Settling V
   pub wire : Version
 
-abbrev pub speaking : {V : Type 0} → Handling V → Version → Way V
-speaking handles wire = record { handles = handles; wire = wire }
+abbrev pub speaking : {V : Type 0} → Handling V → Settling V → Version → Way V
+speaking handles settles wire = record { handles = handles; settles = settles; wire = wire }
 
 -- the version that has this number, 1 to 5
 abbrev pub spoken : ℕ → Version

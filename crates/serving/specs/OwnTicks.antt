@@ -5,9 +5,9 @@ use Rattle.answers.specs.Seen.{Seen}
 use Rattle.answers.specs.declared.desk.Desk.{Ghosts as DeskOf}
 use Rattle.store.specs.declared.home.Home.{Home}
 use Rattle.wire.specs.declared.frame.Frame.{Frame}
-use Rattle.wire.specs.declared.frame.What.TheVariants as what
+use Rattle.wire.specs.declared.frame.FrameBody.TheVariants as what
 use Rattle.wire.specs.declared.values.Version.{Version}
-use Rattle.serving.specs.declared.ends.Close.{Close}
+use Rattle.serving.specs.declared.ends.FrameEnd.{FrameEnd}
 use Rattle.serving.specs.declared.ends.FrameFault.TheVariants as fault
 use Rattle.serving.specs.declared.permission.Permission.TheVariants as permission
 use Rattle.serving.specs.declared.peers.Peers.{Ghosts as PeersOf}
@@ -38,7 +38,7 @@ unanswered x outside = sides x None outside
 -- all was done that is done for the frame
 abbrev pub Ticks : {V : Type 0} → {way : Way V} → Home → Sides way → Sides way → Type 0
 Ticks {V} {way} home a b =
-    (fates : List Fate) × (close : Option Close)
+    (fates : List Fate) × (close : Option FrameEnd)
     × ServesOne home a b (tick_begun way.wire home fates) close
 
 -- a front part of it was done, for want of memory
@@ -48,6 +48,6 @@ TicksInPart {V} {way} home a b =
 
 -- what a Tick changes of a node and the other desks, where frames are pushed in this version
 abbrev pub sides_alone : {V U : Type 0} → (d : DeskOf V) → PeersOf U → (version : Version) → V → U
-    → Sides (speaking d.handles version)
+    → Sides (speaking d.handles d.settles version)
 sides_alone d p version node peers =
     unanswered (d.seen node) (outside d p version node peers)

@@ -10,8 +10,8 @@ use Rattle.wire.specs.declared.values.Version.{Version}
 use Rattle.wire.specs.declared.frame.Frame.{Frame}
 use Rattle.wire.specs.declared.values.ClientRefusal.TheVariants as refusal
 use Rattle.acceptor.specs.declared.entry.Entry.{Entry}
-use Rattle.wire.specs.declared.frame.What.{What}
-use Rattle.wire.specs.declared.frame.What.TheVariants as what
+use Rattle.wire.specs.declared.frame.FrameBody.{FrameBody}
+use Rattle.wire.specs.declared.frame.FrameBody.TheVariants as what
 use Rattle.wire.specs.Spelling.{spelling}
 use Rattle.store.specs.declared.home.Home.{Home}
 use Rattle.replica.specs.declared.roles.fault.NodeFault.{NodeFault}
@@ -22,7 +22,7 @@ use Rattle.serving.specs.Nodes.{Fate, Goes, Reply, reply}
 use Rattle.serving.specs.Answering.{answer_of, answer_first, state, told_what, printed, standing}
 use Rattle.serving.specs.Answering.{copied}
 use Rattle.serving.specs.Telling.{run_of, run_pushed}
-use Rattle.serving.specs.declared.request.Run.{Run}
+use Rattle.serving.specs.declared.request.DecidedRun.{DecidedRun}
 use Rattle.serving.specs.declared.request.Request.{Request}
 use Rattle.serving.specs.declared.request.Request.TheVariants.{Heard, Lagging, Learned, Entered}
 use Rattle.serving.specs.declared.request.Request.TheVariants.{Asked, Printed, Ticked, Stopped}
@@ -31,7 +31,7 @@ use Rattle.serving.specs.declared.request.Request.TheVariants.{Denied, Withheld}
 
 -- ---- messages as frames
 
-abbrev pub what_of : Body → What
+abbrev pub what_of : Body → FrameBody
 what_of (body.Prepare b pos) = what.Prepare b pos
 what_of (body.Promise b pos vote) = what.Promise b pos vote
 what_of (body.Accept b pos e) = what.Accept b pos e
@@ -54,7 +54,7 @@ pushed version hall m = record { to = m.to; bytes = spelling (framed version hal
 pub data Act : Type 0 where
   Called : DeskEvent → Result (List Message) NodeFault → Act
   Pushed : Message → Act
-  Answered : Run → Act
+  Answered : DecidedRun → Act
 
 -- where the service of a frame is: the node, the messages that wait, how many more the desk may
 -- deliver to itself, what was done, and the fates of the calls to come
@@ -202,14 +202,14 @@ learn home from to pos (e ∷ es) s =
     (call home (decided from to pos e) (waits [] s.left s))
 
 -- entries, all that comes of the last one, and Start where the log grew
-unfoldable pub learn_all : Home → Run → Service → Service
+unfoldable pub learn_all : Home → DecidedRun → Service → Service
 learn_all home run s =
     start_if_grown home (length s.seen.desk.log)
     (settle_by home s.left (learn home run.from run.to run.pos run.entries s))
 
 -- The answer to a desk that lacks entries: a run of entries goes out as one, and anything else as
 -- what comes of other messages.
-abbrev pub hand_out : Home → Option Run → Service → Service
+abbrev pub hand_out : Home → Option DecidedRun → Service → Service
 hand_out home None s = settle home s
 hand_out home (Some run) s =
     record {
@@ -253,7 +253,7 @@ served home x fates _ = begun x fates
 
 -- the answer, where the frame has one: it is that of the first call; at Down, in whichever call, it
 -- is Refused
-abbrev pub answer : Home → Seen → List Fate → Request → Option What
+abbrev pub answer : Home → Seen → List Fate → Request → Option FrameBody
 answer home x fates (Heard m) = None
 answer home x fates (Lagging m) = None
 answer home x fates (Learned run) = None

@@ -3,7 +3,7 @@ use Rattle.std.specs.Prelude.{ℕ, List, Option}
 use Rattle.std.specs.declared.io.Write.{Ghosts as WriteOf}
 use Rattle.answers.specs.declared.desk.Desk.{Ghosts as DeskOf}
 use Rattle.wire.specs.declared.values.Version.{Version}
-use Rattle.serving.specs.declared.ends.Served.{Served}
+use Rattle.serving.specs.declared.ends.ServingOutcome.{ServingOutcome}
 use Rattle.serving.specs.declared.permission.Permission.{Permission}
 use Rattle.serving.specs.declared.peers.Peers.{Ghosts as PeersOf}
 use Rattle.serving.specs.declared.source.Source.{Ghosts as SourceOf}
@@ -21,12 +21,13 @@ line node peers writer = record { node = node; peers = peers; writer = writer }
 
 -- what is there beside what is seen of the node, where frames are pushed in this version
 abbrev pub outside : {V U : Type 0} → (d : DeskOf V) → PeersOf U → (version : Version) → V → U
-    → Outside (speaking d.handles version)
-outside d p version node peers = outside_of (speaking d.handles version) node (p.handed peers)
+    → Outside (speaking d.handles d.settles version)
+outside d p version node peers = outside_of (speaking d.handles d.settles version) node
+    (p.handed peers)
 
 -- what serving changes
 abbrev pub sides_of : {V U X : Type 0} → (d : DeskOf V) → PeersOf U → WriteOf X
-    → (version : Version) → Line V U X → Sides (speaking d.handles version)
+    → (version : Version) → Line V U X → Sides (speaking d.handles d.settles version)
 sides_of d p w version l =
     sides (d.seen l.node) (w.contents l.writer) (outside d p version l.node l.peers)
 
@@ -36,7 +37,7 @@ reads_of s source = record { count = s.reads source; failed = s.failed source }
 
 -- a connection was served over a source
 abbrev pub ServesSource : {V U X S : Type 0} → DeskOf V → PeersOf U → WriteOf X → SourceOf S
-    → Version → Permission → Served → Line V U X → Line V U X → S → S → Type 0
+    → Version → Permission → ServingOutcome → Line V U X → Line V U X → S → S → Type 0
 ServesSource d p w s version may result a b source left =
     (bytes : List ℕ) × (begun : List Begun) × (rest : List ℕ)
     × IsConnection may result (d.home_of a.node) (sides_of d p w version a)
@@ -45,7 +46,7 @@ ServesSource d p w s version may result a b source left =
 
 -- a connection was served over a reader that had these bytes to give
 abbrev pub ServesReader : {V U X : Type 0} → DeskOf V → PeersOf U → WriteOf X → Version
-    → Permission → Served → Line V U X → Line V U X → Option (List ℕ) → Type 0
+    → Permission → ServingOutcome → Line V U X → Line V U X → Option (List ℕ) → Type 0
 ServesReader d p w version may result a b given =
     (left : Option (List ℕ)) × (reads : Reads) × (bytes : List ℕ) × (begun : List Begun)
     × (rest : List ℕ)

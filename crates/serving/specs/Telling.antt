@@ -6,12 +6,12 @@ use Rattle.acceptor.specs.declared.message.Body.{Body}
 use Rattle.acceptor.specs.declared.message.Body.TheVariants as body
 use Rattle.acceptor.specs.declared.message.Message.{Message}
 use Rattle.wire.specs.declared.frame.Frame.{Frame}
-use Rattle.wire.specs.declared.frame.What.TheVariants as what
+use Rattle.wire.specs.declared.frame.FrameBody.TheVariants as what
 use Rattle.wire.specs.declared.values.Version.{Version}
 use Rattle.wire.specs.declared.values.Version.TheVariants.{One, Two, Three, Four, Five}
 use Rattle.wire.specs.Spelling.{spelling}
 use Rattle.serving.specs.Adding.{Push}
-use Rattle.serving.specs.declared.request.Run.{Run}
+use Rattle.serving.specs.declared.request.DecidedRun.{DecidedRun}
 
 -- what a message says was decided: where, and what
 abbrev pub position_told : Body → Option ℕ
@@ -46,17 +46,17 @@ unfoldable pub entries_told : ℕ → ℕ → List Message → Option (List Entr
 entries_told to pos [] = Some []
 entries_told to pos (m ∷ ms) = with_entry (entry_told to pos m) (entries_told to (pos + 1) ms)
 
-abbrev pub run_by : Message → ℕ → Option (List Entry) → Option Run
+abbrev pub run_by : Message → ℕ → Option (List Entry) → Option DecidedRun
 run_by m pos None = None
 run_by m pos (Some es) = Some (record { from = m.from; to = m.to; pos = pos; entries = es })
 
-abbrev pub run_from : Message → List Message → Option ℕ → Option Run
+abbrev pub run_from : Message → List Message → Option ℕ → Option DecidedRun
 run_from m ms None = None
 run_from m ms (Some pos) = run_by m pos (entries_told m.to pos (m ∷ ms))
 
 -- Messages of desk d are a run where they are at most 16, to one other desk, and each says what was
 -- decided at the position after that of the one before.
-unfoldable pub run_of : ℕ → List Message → Option Run
+unfoldable pub run_of : ℕ → List Message → Option DecidedRun
 run_of d [] = None
 run_of d (m ∷ ms) =
     if (m.to == d) || nat_lt 16 (length (m ∷ ms)) then None
@@ -70,7 +70,7 @@ entries_said Three es = es
 entries_said Four es = es
 entries_said Five es = es
 
-abbrev pub run_frame : Version → ℕ → Run → Frame
+abbrev pub run_frame : Version → ℕ → DecidedRun → Frame
 run_frame version hall run =
     record {
       version = version;
@@ -80,6 +80,6 @@ run_frame version hall run =
       what = what.Decided run.pos (entries_said version run.entries);
     }
 
-abbrev pub run_pushed : Version → ℕ → Run → Push
+abbrev pub run_pushed : Version → ℕ → DecidedRun → Push
 run_pushed version hall run =
     record { to = run.to; bytes = spelling (run_frame version hall run) }

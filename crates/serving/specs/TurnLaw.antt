@@ -9,9 +9,9 @@ use Rattle.wire.specs.declared.values.Version.{Version}
 use Rattle.wire.specs.Spelling.{spelling}
 use Rattle.wire.specs.Stream.{Breaks, front, IsOfStream}
 use Rattle.store.specs.declared.home.Home.{Home}
-use Rattle.serving.specs.declared.ends.Close.TheVariants as close
-use Rattle.serving.specs.declared.ends.End.{End}
-use Rattle.serving.specs.declared.ends.End.TheVariants as end
+use Rattle.serving.specs.declared.ends.FrameEnd.TheVariants as close
+use Rattle.serving.specs.declared.ends.ConnectionEnd.{ConnectionEnd}
+use Rattle.serving.specs.declared.ends.ConnectionEnd.TheVariants as end
 use Rattle.serving.specs.declared.ends.FrameFault.TheVariants as fault
 use Rattle.serving.specs.Connection.{Begun, AreBegun, Sides, sides, Serves, Closes, Fails}
 use Rattle.serving.specs.Making.{Way, Outside, speaking}
@@ -91,7 +91,8 @@ begun_in (t ∷ ts) = begun_at t ++ begun_in ts
 
 -- How the frames begun leave a connection, with this after the frames: open, or ended by its cause.
 -- Of the ends of a connection these come by turns.
-abbrev pub Stands : {V : Type 0} → {way : Way V} → Option End → Home → Sides way → Sides way
+abbrev pub Stands : {V : Type 0} → {way : Way V} → Option ConnectionEnd → Home → Sides way
+    → Sides way
     → List Begun → List ℕ → ℕ → Type 0
 Stands None home a b begun rest count = Serves home a b begun × (count < 64)
 Stands (Some end.Stopped) home a b begun rest count = Closes close.Stopped home a b begun
@@ -122,7 +123,8 @@ pub record AreServed {V : Type 0} {way : Way V} (home : Home) (a b : Place way)
 -- that these turns began are served
 abbrev pub TurnsServe : {V : Type 0} → DeskOf V → Type 0
 TurnsServe d =
-    (home : Home) (wire : Version) (turns : List Turn) (a b : Place (speaking d.handles wire))
+    (home : Home) (wire : Version) (turns : List Turn)
+    (a b : Place (speaking d.handles d.settles wire))
     → a.talk ≡ new_talk home wire → Follow a turns b
     → (begun : List Begun) × (rest : List ℕ)
     × AreServed home a b (received turns) (handed_out turns) begun rest × (begun ≡ begun_in turns)

@@ -9,9 +9,9 @@ use Rattle.wire.specs.declared.standing.Difference.{Difference}
 use Rattle.wire.specs.declared.values.Version.{Version}
 use Rattle.wire.specs.Stream.{Breaks, front, IsBegun, IsKept, IsOfStream, Feeds, Reader, holding}
 use Rattle.store.specs.declared.home.Home.{Home}
-use Rattle.serving.specs.declared.ends.Close.TheVariants as close
-use Rattle.serving.specs.declared.ends.End.{End}
-use Rattle.serving.specs.declared.ends.End.TheVariants as end
+use Rattle.serving.specs.declared.ends.FrameEnd.TheVariants as close
+use Rattle.serving.specs.declared.ends.ConnectionEnd.{ConnectionEnd}
+use Rattle.serving.specs.declared.ends.ConnectionEnd.TheVariants as end
 use Rattle.serving.specs.declared.ends.FrameFault.TheVariants as fault
 use Rattle.serving.specs.declared.permission.Permission.{Permission}
 use Rattle.serving.specs.declared.peers.Peers.{Ghosts as PeersOf}
@@ -33,7 +33,7 @@ pub record Talk : Type 0 where
   -- what of the answers was not taken yet
   pub pending : List ℕ
   -- the end, where it came
-  pub end : Option End
+  pub end : Option ConnectionEnd
 
 -- before the first turn
 abbrev pub new_talk : Home → Version → Talk
@@ -69,7 +69,7 @@ pub record OnlyReads (old new : Talk) : Type 0 where
 
 -- the frames that are whole with the piece wait; or no frame is, and the fault at the front of the
 -- stream ends the connection; or memory is refused for a frame
-abbrev pub ReadsTo : Option End → List ℕ → Talk → Talk → Type 0
+abbrev pub ReadsTo : Option ConnectionEnd → List ℕ → Talk → Talk → Type 0
 ReadsTo None piece old new = Feeds (old.stream.held ++ piece) new.waiting new.stream
 ReadsTo (Some (end.Fault e)) piece old new =
     (front (old.stream.held ++ piece) ≡ Breaks e) × IsOfStream e × (new.waiting ≡ [])
@@ -99,7 +99,7 @@ moment node peers talk = record { node = node; peers = peers; talk = talk }
 
 -- what serving changes, where answers wait in the connection
 abbrev pub sides_at : {V U : Type 0} → (d : DeskOf V) → PeersOf U → (version : Version)
-    → Moment V U → Sides (speaking d.handles version)
+    → Moment V U → Sides (speaking d.handles d.settles version)
 sides_at d p version m =
     sides (d.seen m.node) (Some m.talk.pending) (outside d p version m.node m.peers)
 
@@ -115,7 +115,8 @@ pub record BeginsNext (old new : Talk) (frame : Frame) : Type 0 where
 
 -- how the frame leaves the connection, after which this many were begun: open, or ended by the
 -- frame, or as the 64th, or for want of memory
-abbrev pub LeavesAt : {V : Type 0} → {way : Way V} → Option End → Home → Sides way → Sides way
+abbrev pub LeavesAt : {V : Type 0} → {way : Way V} → Option ConnectionEnd → Home → Sides way
+    → Sides way
     → Begun → ℕ → Type 0
 LeavesAt None home a b one count = ServesOne home a b one None × (count < 64)
 LeavesAt (Some end.Stopped) home a b one count = ServesOne home a b one (Some close.Stopped)
@@ -129,12 +130,12 @@ LeavesAt (Some end.Read) home a b one count = ⊥
 LeavesAt (Some end.Write) home a b one count = ⊥
 
 -- the end that a fault of the stream is, where one is kept
-abbrev pub broken_by : Option WireFault → Option End
+abbrev pub broken_by : Option WireFault → Option ConnectionEnd
 broken_by None = None
 broken_by (Some e) = Some (end.Fault e)
 
 -- the same, with this end
-abbrev pub ended : Talk → Option End → Talk
+abbrev pub ended : Talk → Option ConnectionEnd → Talk
 ended c e = record {
   home = c.home;
   wire = c.wire;

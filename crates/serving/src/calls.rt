@@ -13,7 +13,7 @@ use std::collections::VecDeque;
 
 /// How the node answered.
 #[derive(Clone, Copy, PartialEq, Eq, Debug)]
-pub enum Answer {
+pub enum NodeAnswer {
     Taken,
     Refused(NodeFault),
 }
@@ -23,7 +23,7 @@ pub fn call<D: Desk>(
     node: &mut D,
     waiting: &mut VecDeque<Message>,
     event: DeskEvent,
-) -> Result<Answer, NoMemory>
+) -> Result<NodeAnswer, NoMemory>
     requires in_range { let home = D.home_of node.old in
         AreInRange home.desks home.desk waiting.old.items }
     ensures ok { IfOk result
@@ -37,13 +37,13 @@ pub fn call<D: Desk>(
         Ok(messages) => {
             let mut more = VecDeque::from(messages.into_vec());
             waiting.append(&mut more)?;
-            Ok(Answer::Taken)
+            Ok(NodeAnswer::Taken)
         }
         Err(fault) => {
             if fault == NodeFault::Down {
                 waiting.clear();
             }
-            Ok(Answer::Refused(fault))
+            Ok(NodeAnswer::Refused(fault))
         }
     }
 }

@@ -11,7 +11,7 @@ ghost use Rattle.serving.specs.Turns.{Advances, IsFree, Receives, WantsRead, aft
 ghost use Rattle.serving.specs.Turns.{new_talk};
 ghost use Rattle.serving.specs.model.Turning.{end_after};
 
-use crate::ends::{Close, End, Served};
+use crate::ends::{ConnectionEnd, FrameEnd, ServingOutcome};
 use crate::peers::Peers;
 use crate::permission::Permission;
 use crate::session::Session;
@@ -23,21 +23,21 @@ use std::collections::VecDeque;
 use std::io::Write;
 use std::marker::Model;
 use std::mem;
-use wire::{Difference, Frame, FrameReader, Version, What, WireFault};
+use wire::{Difference, Frame, FrameBody, FrameReader, Version, WireFault};
 
 /// The most frames of a connection.
 const MOST_FRAMES: u32 = 64;
 
 /// How a frame that was served leaves its connection, of which it is the frame with this number.
-fn end_after(close: Option<Close>, number: u32) -> Option<End>
+fn end_after(close: Option<FrameEnd>, number: u32) -> Option<ConnectionEnd>
     ensures { result ≡ end_after close number }
 {
     match close {
-        Some(Close::Stopped) => Some(End::Stopped),
-        Some(Close::Down) => Some(End::Down),
+        Some(FrameEnd::Stopped) => Some(ConnectionEnd::Stopped),
+        Some(FrameEnd::Down) => Some(ConnectionEnd::Down),
         None => {
             if number == MOST_FRAMES {
-                Some(End::Frames)
+                Some(ConnectionEnd::Frames)
             } else {
                 None
             }
@@ -46,27 +46,27 @@ fn end_after(close: Option<Close>, number: u32) -> Option<End>
 }
 
 /// Whether a frame asks for a sheet or for entries of the log.
-fn is_dear(what: &What) -> bool
+fn is_dear(what: &FrameBody) -> bool
     ensures { result ≡ is_dear what.now }
 {
     match what {
-        What::Sheet { .. } | What::Log { .. } => true,
+        FrameBody::Sheet { .. } | FrameBody::Log { .. } => true,
         _ => false,
     }
 }
 
 /// Whether a frame is a message of a desk to a desk.
-fn is_message(what: &What) -> bool
+fn is_message(what: &FrameBody) -> bool
     ensures { result ≡ is_message what.now }
 {
     match what {
-        What::Prepare { .. }
-        | What::Promise { .. }
-        | What::Accept { .. }
-        | What::Accepted { .. }
-        | What::Nack { .. }
-        | What::Behind { .. }
-        | What::Decided { .. } => true,
+        FrameBody::Prepare { .. }
+        | FrameBody::Promise { .. }
+        | FrameBody::Accept { .. }
+        | FrameBody::Accepted { .. }
+        | FrameBody::Nack { .. }
+        | FrameBody::Behind { .. }
+        | FrameBody::Decided { .. } => true,
         _ => false,
     }
 }
@@ -91,7 +91,7 @@ pub struct Connection {
     /// The last answer, and how many bytes of it were taken.
     answer: Vec<u8>,
     taken: usize,
-    end: Option<End>,
+    end: Option<ConnectionEnd>,
 }
 
 impl Model for Connection {
@@ -194,8 +194,8 @@ impl Connection {
     {
         match self.stream.feed(piece) {
             Ok(frames) => self.waiting = VecDeque::from(frames),
-            Err(WireFault::NoMemory) => self.end = Some(End::NoMemory),
-            Err(fault) => self.end = Some(End::Fault(fault)),
+            Err(WireFault::NoMemory) => self.end = Some(ConnectionEnd::NoMemory),
+            Err(fault) => self.end = Some(ConnectionEnd::Fault(fault)),
         }
     }
 
@@ -224,7 +224,7 @@ impl Connection {
         }
         let Some(frame) = self.waiting.pop_front() else {
             if let Some(fault) = self.stream.fault() {
-                self.end = Some(End::Fault(fault));
+                self.end = Some(ConnectionEnd::Fault(fault));
             }
             return false;
         };
@@ -235,7 +235,7 @@ impl Connection {
                 self.taken = 0;
                 self.end = end_after(reply.close, self.frames);
             }
-            Err(NoMemory) => self.end = Some(End::NoMemory),
+            Err(NoMemory) => self.end = Some(ConnectionEnd::NoMemory),
         }
         true
     }
@@ -295,10 +295,10 @@ impl Connection {
     }
 
     /// What became of the connection, where it ended so.
-    pub fn served(&self, end: End) -> Served
+    pub fn served(&self, end: ConnectionEnd) -> ServingOutcome
         ensures { result ≡ record { frames = self.now.frames; end = end } }
     {
-        Served {
+        ServingOutcome {
             frames: self.frames,
             end,
         }
@@ -307,7 +307,7 @@ impl Connection {
     /// The end, where it came: by a frame, of which the answer may still have to be sent, by the
     /// 64th frame, by a fault of the stream, or for want of memory. How reading and writing ended
     /// is the caller's to say.
-    pub fn end(&self) -> Option<End>
+    pub fn end(&self) -> Option<ConnectionEnd>
         ensures { result ≡ self.now.end }
     {
         self.end

@@ -11,7 +11,7 @@ use acceptor::NoMemory;
 use answers::Desk;
 use learner::log::Log;
 use std::alloc::Global;
-use wire::{ClientRefusal as Refusal, Entries, What};
+use wire::{ClientRefusal as Refusal, Entries, FrameBody};
 
 /// The most entries of an answer. A frame has room for this many of the longest.
 const MOST_ENTRIES: u32 = 400;
@@ -33,7 +33,7 @@ fn entries_from(alloc: Global, log: &Log, position: u32) -> Result<Entries, NoMe
 /// The entries of the desk's log from a position on, with its length. Where memory is refused, the
 /// desk says so.
 #[tactic(auto, using(crate::proofs::Refusing::refuses_in))]
-pub fn copied<D: Desk>(alloc: Global, node: &D, position: u32) -> What
+pub fn copied<D: Desk>(alloc: Global, node: &D, position: u32) -> FrameBody
     requires { IsLogLength position }
     ensures what { (fate : Fate) × (result ≡ copied (D.seen node.now) fate position) }
     ensures in_range { (version : Version) → IsFromThree version → IsAnswerIn version result }
@@ -44,13 +44,13 @@ pub fn copied<D: Desk>(alloc: Global, node: &D, position: u32) -> What
         Ok(entries) => {
             // Read here, so that the proof knows each entry's range.
             let _entries = entries.as_slice();
-            What::Entries {
+            FrameBody::Entries {
                 position,
                 length,
                 entries,
             }
         }
-        Err(_) => What::Refused {
+        Err(_) => FrameBody::Refused {
             refusal: Refusal::NoMemory,
         },
     }

@@ -13,24 +13,24 @@ use acceptor::entry::Entry;
 use learner::log::Log;
 use replica::roles::heeding::is_desk;
 use store::home::Home;
-use wire::{Difference, Frame, What};
+use wire::{Difference, Frame, FrameBody};
 
 /// What an Await asks: what became of this id, once that is known, or after this many seconds.
 #[derive(Clone, Copy, PartialEq, Eq, Debug)]
-pub struct Awaited {
+pub struct AwaitRequest {
     pub id: u64,
     pub seconds: u8,
 }
 
 /// What a frame waits for, where it is an Await that is for this desk.
-pub fn awaited_by(home: Home, frame: &Frame) -> Option<Awaited>
+pub fn awaited_by(home: Home, frame: &Frame) -> Option<AwaitRequest>
     ensures { result ≡ awaited_by home frame.now }
 {
     if !is_ours(home, frame) {
         return None;
     }
     match &frame.what {
-        What::Await { id, seconds } => Some(Awaited {
+        FrameBody::Await { id, seconds } => Some(AwaitRequest {
             id: *id,
             seconds: *seconds,
         }),
@@ -113,8 +113,13 @@ pub fn differs_by(
         return None;
     }
     match &frame.what {
-        What::Decided { pos, entries } => other_from(frame.from, *pos, entries.as_slice(), log),
-        What::Behind { len } => {
+        FrameBody::Decided { pos, entries } => other_from(
+            frame.from,
+            *pos,
+            entries.as_slice(),
+            log,
+        ),
+        FrameBody::Behind { len } => {
             if *len < known[(frame.from - 1) as usize] {
                 Some(Difference::Shorter {
                     desk: frame.from,
@@ -144,8 +149,8 @@ fn length_said(frame: &Frame) -> u32
     ensures most { result ≤ 65536 }
 {
     match &frame.what {
-        What::Decided { pos, entries } => end_of(*pos, entries.as_slice()),
-        What::Behind { len } => *len,
+        FrameBody::Decided { pos, entries } => end_of(*pos, entries.as_slice()),
+        FrameBody::Behind { len } => *len,
         _ => 0,
     }
 }

@@ -6,7 +6,7 @@ ghost use Rattle.serving.specs.model.Sessions.{Meets, MeetsPart, Settles, Settle
 ghost use Rattle.serving.specs.model.Sessions.{StartsPart, TakesIn, TakesPart, desks, idle, point};
 ghost use Rattle.serving.specs.Serving.{grew};
 
-use crate::calls::{Answer, call};
+use crate::calls::{NodeAnswer, call};
 use crate::peers::Peers;
 use crate::session::Session;
 use acceptor::NoMemory;
@@ -63,7 +63,7 @@ impl Session {
         peers: &mut P,
         left: &mut u8,
         event: DeskEvent,
-    ) -> Result<Answer, NoMemory>
+    ) -> Result<NodeAnswer, NoMemory>
         requires home { D.home_of node.old ≡ self.home }
         ensures ok { IfOk result (Meets D.Desk P.Peers self event
             (idle node.old peers.old left.old) (idle node.new peers.new left.new)) }
@@ -106,7 +106,7 @@ impl Session {
         node: &mut D,
         peers: &mut P,
         event: DeskEvent,
-    ) -> Result<Answer, NoMemory>
+    ) -> Result<NodeAnswer, NoMemory>
         requires home { D.home_of node.old ≡ self.home }
         ensures ok { IfOk result (TakesIn D.Desk P.Peers self event
             (desks node.old peers.old) (desks node.new peers.new)) }

@@ -5,10 +5,10 @@ ghost use Rattle.wire.specs.Ranges.{IsFrame, IsDifference};
 ghost use Rattle.serving.specs.Asking.{close_by};
 ghost use Rattle.serving.specs.model.Sessions.{FailsFrame, ServesFrame, desks};
 
-use crate::ends::Close;
+use crate::ends::FrameEnd;
 use crate::peers::Peers;
 use crate::permission::Permission;
-use crate::request::{Ending, request_of};
+use crate::request::{FrameEndRule, request_of};
 use crate::session::Session;
 use acceptor::NoMemory;
 use answers::Desk;
@@ -17,21 +17,21 @@ use wire::{Difference, Frame};
 /// What comes of a frame: the bytes of its answer, none where it has none, and how it ends the
 /// connection of itself, if it does.
 #[derive(Drop)]
-pub struct Reply {
+pub struct FrameReply {
     pub bytes: Vec<u8>,
-    pub close: Option<Close>,
+    pub close: Option<FrameEnd>,
 }
 
 /// The end of the connection, where the frame after which the desk is seen so ends it.
-fn close_by<D: Desk>(ending: Ending, node: &D) -> Option<Close>
+fn close_by<D: Desk>(ending: FrameEndRule, node: &D) -> Option<FrameEnd>
     ensures { result ≡ close_by ending (D.seen node.now).is_down }
 {
     match ending {
-        Ending::Never => None,
-        Ending::AtStop => Some(Close::Stopped),
-        Ending::IfDown => {
+        FrameEndRule::Never => None,
+        FrameEndRule::AtStop => Some(FrameEnd::Stopped),
+        FrameEndRule::IfDown => {
             if node.is_down() {
-                Some(Close::Down)
+                Some(FrameEnd::Down)
             } else {
                 None
             }
@@ -49,7 +49,7 @@ impl Session {
         may: Permission,
         differs: Option<Difference>,
         frame: Frame,
-    ) -> Result<Reply, NoMemory>
+    ) -> Result<FrameReply, NoMemory>
         requires home { D.home_of node.old ≡ self.home }
         requires spelled { IsFrame frame }
         requires differs { IsDifference differs }
@@ -67,6 +67,6 @@ impl Session {
         let answer = self.serve_request(node, peers, request)?;
         let bytes = self.spell_answer(version, answer)?;
         let close = close_by(ending, node);
-        Ok(Reply { bytes, close })
+        Ok(FrameReply { bytes, close })
     }
 }

@@ -27,8 +27,8 @@ mod streams;
 
 pub use answers::Desk;
 pub use connection::Connection;
-pub use differing::{Awaited, awaited_by, differs_by, first_difference, known_after};
-pub use ends::{End, Served};
+pub use differing::{AwaitRequest, awaited_by, differs_by, first_difference, known_after};
+pub use ends::{ConnectionEnd, ServingOutcome};
 pub use own_ticks::tick;
 pub use peers::Peers;
 pub use permission::Permission;

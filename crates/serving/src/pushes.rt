@@ -16,7 +16,7 @@ use acceptor::entry::Entry;
 use acceptor::message::{Body, Message, Report};
 use std::alloc::Global;
 use std::collections::VecDeque;
-use wire::{Entries, Frame, Version, What, encode};
+use wire::{Entries, Frame, FrameBody, Version, encode};
 
 /// The entry, whose id and text are in their ranges.
 fn kept(entry: Entry) -> Entry
@@ -41,34 +41,34 @@ fn kept_report(vote: Option<Report>) -> Option<Report>
 }
 
 /// A message's body as a frame's.
-fn what_of(alloc: Global, body: Body) -> Result<What, NoMemory>
+fn what_of(alloc: Global, body: Body) -> Result<FrameBody, NoMemory>
     ensures what { IfOk result (λ what. what ≡ what_of body) }
     ensures typed { IsTyped body }
 {
     Ok(match body {
-        Body::Prepare { ballot, pos } => What::Prepare { ballot, pos },
-        Body::Promise { ballot, pos, vote } => What::Promise {
+        Body::Prepare { ballot, pos } => FrameBody::Prepare { ballot, pos },
+        Body::Promise { ballot, pos, vote } => FrameBody::Promise {
             ballot,
             pos,
             vote: kept_report(vote),
         },
-        Body::Accept { ballot, pos, entry } => What::Accept {
+        Body::Accept { ballot, pos, entry } => FrameBody::Accept {
             ballot,
             pos,
             entry: kept(entry),
         },
-        Body::Accepted { ballot, pos } => What::Accepted { ballot, pos },
+        Body::Accepted { ballot, pos } => FrameBody::Accepted { ballot, pos },
         Body::Nack {
             ballot,
             pos,
             promised,
-        } => What::Nack {
+        } => FrameBody::Nack {
             ballot,
             pos,
             promised,
         },
-        Body::Behind { len } => What::Behind { len },
-        Body::Decided { pos, entry } => What::Decided {
+        Body::Behind { len } => FrameBody::Behind { len },
+        Body::Decided { pos, entry } => FrameBody::Decided {
             pos,
             entries: Entries::one(alloc, kept(entry))?,
         },

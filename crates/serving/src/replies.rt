@@ -8,15 +8,15 @@ ghost use Rattle.serving.specs.Answering.{state, told_what, style_of, printed, s
 ghost use Rattle.serving.specs.Connection.{answer_bytes, framed_answer};
 ghost use Rattle.serving.specs.Nodes.{Fate};
 
-use crate::calls::Answer;
+use crate::calls::NodeAnswer;
 use crate::session::Session;
 use acceptor::NoMemory;
-use answers::{Desk, SheetFault, Told};
+use answers::{Desk, IdState, LogSheetFault};
 use formats::Event;
 use replica::roles::NodeFault;
 use sheets::fits_in_a_frame;
 use wire::{
-    Bytes, ClientRefusal as Refusal, CommandState, Frame, SheetStyle as Style, Version, What,
+    Bytes, ClientRefusal as Refusal, CommandState, Frame, FrameBody, SheetStyle as Style, Version,
     encode,
 };
 
@@ -35,48 +35,48 @@ fn refusal_of(fault: NodeFault) -> Refusal
 
 /// The answer to what the desk said of the first call.
 #[tactic(auto, using(crate::proofs::Refusing::refuses))]
-pub fn answer_first<D: Desk>(good: What, answer: Answer, node: &D) -> What
+pub fn answer_first<D: Desk>(good: FrameBody, answer: NodeAnswer, node: &D) -> FrameBody
     requires { IsAnswer good }
     ensures what { result ≡ answer_first good answer (D.seen node.now) }
     ensures in_range { IsAnswer result }
 {
     let refusal = match answer {
-        Answer::Refused(fault) => refusal_of(fault),
-        Answer::Taken => {
+        NodeAnswer::Refused(fault) => refusal_of(fault),
+        NodeAnswer::Taken => {
             if !node.is_down() {
                 return good;
             }
             Refusal::Down
         }
     };
-    What::Refused { refusal }
+    FrameBody::Refused { refusal }
 }
 
 /// What became of a command, in a frame's words.
-fn state_of(told: Told) -> CommandState
+fn state_of(told: IdState) -> CommandState
     ensures { result ≡ state_of told }
 {
     match told {
-        Told::Done { pos, answer } => CommandState::Done { pos, answer },
-        Told::Pending => CommandState::Pending,
-        Told::Unknown => CommandState::Unknown,
+        IdState::Done { pos, answer } => CommandState::Done { pos, answer },
+        IdState::Pending => CommandState::Pending,
+        IdState::Unknown => CommandState::Unknown,
     }
 }
 
 /// What became of the command with this id.
 #[tactic(auto, using(crate::proofs::Refusing::refuses))]
-pub fn asked<D: Desk>(node: &D, id: u64) -> What
+pub fn asked<D: Desk>(node: &D, id: u64) -> FrameBody
     requires { IsId id }
     ensures what { (fate : Fate) × (result ≡ told_what id fate (state (D.seen node.now) id)) }
     ensures in_range { IsAnswer result }
 {
     let _log = node.log();
     match node.answer(id) {
-        Ok(told) => What::Told {
+        Ok(told) => FrameBody::Told {
             id,
             state: state_of(told),
         },
-        Err(_) => What::Refused {
+        Err(_) => FrameBody::Refused {
             refusal: Refusal::NoMemory,
         },
     }
@@ -94,7 +94,7 @@ fn style_of(style: Style) -> sheets::Style
 
 /// The sheet of a round after the log's first entries.
 #[tactic(auto, using(crate::proofs::Refusing::refuses))]
-pub fn printed<D: Desk>(node: &D, event: Event, round: u8, position: u32, style: Style) -> What
+pub fn printed<D: Desk>(node: &D, event: Event, round: u8, position: u32, style: Style) -> FrameBody
     ensures what { (fate : Fate)
         × (result ≡ printed (D.seen node.now) fate event round position style) }
     ensures in_range { IsAnswer result }
@@ -102,30 +102,30 @@ pub fn printed<D: Desk>(node: &D, event: Event, round: u8, position: u32, style:
     fits_in_a_frame();
     let refusal = match node.sheet_at(position, event, round, style_of(style)) {
         Ok(text) => {
-            return What::SheetText {
+            return FrameBody::SheetText {
                 text: Bytes::new(text),
             };
         }
-        Err(SheetFault::NotThere) => Refusal::NotThere,
-        Err(SheetFault::NoSuchRound) => Refusal::NoSuchRound,
-        Err(SheetFault::NoMemory) => Refusal::NoMemory,
+        Err(LogSheetFault::NotThere) => Refusal::NotThere,
+        Err(LogSheetFault::NoSuchRound) => Refusal::NoSuchRound,
+        Err(LogSheetFault::NoMemory) => Refusal::NoMemory,
     };
-    What::Refused { refusal }
+    FrameBody::Refused { refusal }
 }
 
 /// What a version tells of an answer.
-fn said_in(version: Version, what: What) -> What
+fn said_in(version: Version, what: FrameBody) -> FrameBody
     ensures { result ≡ said_in version what }
 {
     match what {
-        What::Told { id, state } => What::Told {
+        FrameBody::Told { id, state } => FrameBody::Told {
             id,
             state: state.in_version(version),
         },
-        What::Refused { refusal } => What::Refused {
+        FrameBody::Refused { refusal } => FrameBody::Refused {
             refusal: version.refusal(refusal),
         },
-        What::Standing { standing } => What::Standing {
+        FrameBody::Standing { standing } => FrameBody::Standing {
             standing: standing.in_version(version),
         },
         other => other,
@@ -134,7 +134,7 @@ fn said_in(version: Version, what: What) -> What
 
 impl Session {
     /// The bytes of an answer of the desk to its client.
-    fn spell_what(self, version: Version, what: What) -> Result<Vec<u8>, NoMemory>
+    fn spell_what(self, version: Version, what: FrameBody) -> Result<Vec<u8>, NoMemory>
         requires in_range { IsAnswerIn version what }
         ensures { IfOk result (λ bytes.
             bytes.items ≡ answer_bytes (framed_answer version self.home (Some what))) }
@@ -151,7 +151,11 @@ impl Session {
     }
 
     /// The bytes of the answer; where there is none, no bytes, and memory is not wanted.
-    pub fn spell_answer(self, version: Version, answer: Option<What>) -> Result<Vec<u8>, NoMemory>
+    pub fn spell_answer(
+        self,
+        version: Version,
+        answer: Option<FrameBody>,
+    ) -> Result<Vec<u8>, NoMemory>
         requires in_range { ForSome answer (IsAnswerIn version) }
         ensures bytes { IfOk result (λ bytes.
             bytes.items ≡ answer_bytes (framed_answer version self.home answer)) }

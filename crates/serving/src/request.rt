@@ -12,11 +12,11 @@ use acceptor::entry::Entry;
 use acceptor::message::{Body, Message};
 use formats::Event;
 use store::home::Home;
-use wire::{Difference, Entries, Frame, SheetStyle as Style, Version, What};
+use wire::{Difference, Entries, Frame, FrameBody, SheetStyle as Style, Version};
 
 /// What a desk says was decided, from a position on.
 #[derive(Debug, Drop)]
-pub struct Run {
+pub struct DecidedRun {
     /// The desk that says it.
     pub from: u8,
     /// The desk to which it is said.
@@ -39,7 +39,7 @@ pub enum Request {
     },
     /// A desk says what was decided from a position on.
     Learned {
-        run: Run,
+        run: DecidedRun,
     },
     /// A client enters a command.
     Entered {
@@ -81,7 +81,7 @@ pub enum Request {
 
 /// How a frame ends the connection of itself.
 #[derive(Clone, Copy, PartialEq, Eq, Debug)]
-pub enum Ending {
+pub enum FrameEndRule {
     /// It does not.
     Never,
     /// Where the desk is down after it.
@@ -92,7 +92,7 @@ pub enum Ending {
 
 impl Request {
     /// How the request ends the connection of itself.
-    pub fn ending(&self) -> Ending
+    pub fn ending(&self) -> FrameEndRule
         ensures { result ≡ ending self.now }
     {
         match self {
@@ -100,8 +100,8 @@ impl Request {
             | Request::Lagging { .. }
             | Request::Learned { .. }
             | Request::Entered { .. }
-            | Request::Ticked => Ending::IfDown,
-            Request::Stopped => Ending::AtStop,
+            | Request::Ticked => FrameEndRule::IfDown,
+            Request::Stopped => FrameEndRule::AtStop,
             Request::Asked { .. }
             | Request::Printed { .. }
             | Request::Inspected { .. }
@@ -109,7 +109,7 @@ impl Request {
             | Request::Strange
             | Request::Ignored
             | Request::Denied
-            | Request::Withheld => Ending::Never,
+            | Request::Withheld => FrameEndRule::Never,
         }
     }
 
@@ -219,34 +219,34 @@ impl Request {
 }
 
 /// What a frame for another desk, or for another hall, asks.
-fn strange(what: What) -> Request
+fn strange(what: FrameBody) -> Request
     ensures strange { result ≡ strange what }
     ensures in_range { AsksInRange result }
     ensures asked { (version : Version) → IsAskedIn version result }
 {
     match what {
-        What::Submit { .. }
-        | What::Ask { .. }
-        | What::Sheet { .. }
-        | What::Tick
-        | What::Stop
-        | What::Status
-        | What::Log { .. }
-        | What::Await { .. } => Request::Strange,
-        What::Prepare { .. }
-        | What::Promise { .. }
-        | What::Accept { .. }
-        | What::Accepted { .. }
-        | What::Nack { .. }
-        | What::Behind { .. }
-        | What::Decided { .. }
-        | What::Taken { .. }
-        | What::Told { .. }
-        | What::SheetText { .. }
-        | What::Refused { .. }
-        | What::Fine
-        | What::Standing { .. }
-        | What::Entries { .. } => Request::Ignored,
+        FrameBody::Submit { .. }
+        | FrameBody::Ask { .. }
+        | FrameBody::Sheet { .. }
+        | FrameBody::Tick
+        | FrameBody::Stop
+        | FrameBody::Status
+        | FrameBody::Log { .. }
+        | FrameBody::Await { .. } => Request::Strange,
+        FrameBody::Prepare { .. }
+        | FrameBody::Promise { .. }
+        | FrameBody::Accept { .. }
+        | FrameBody::Accepted { .. }
+        | FrameBody::Nack { .. }
+        | FrameBody::Behind { .. }
+        | FrameBody::Decided { .. }
+        | FrameBody::Taken { .. }
+        | FrameBody::Told { .. }
+        | FrameBody::SheetText { .. }
+        | FrameBody::Refused { .. }
+        | FrameBody::Fine
+        | FrameBody::Standing { .. }
+        | FrameBody::Entries { .. } => Request::Ignored,
     }
 }
 
@@ -260,16 +260,16 @@ fn heard(from: u8, to: u8, body: Body) -> Request
 }
 
 /// What a frame for this desk asks.
-fn ours(version: Version, from: u8, to: u8, what: What) -> Request
+fn ours(version: Version, from: u8, to: u8, what: FrameBody) -> Request
     requires { IsBody version what }
     ensures ours { result ≡ ours from to what }
     ensures in_range { AsksInRange result }
     ensures asked { IsAskedIn version result }
 {
     match what {
-        What::Submit { entry } => Request::Entered { entry },
-        What::Ask { id } | What::Await { id, .. } => Request::Asked { id },
-        What::Sheet {
+        FrameBody::Submit { entry } => Request::Entered { entry },
+        FrameBody::Ask { id } | FrameBody::Await { id, .. } => Request::Asked { id },
+        FrameBody::Sheet {
             event,
             round,
             position,
@@ -280,15 +280,23 @@ fn ours(version: Version, from: u8, to: u8, what: What) -> Request
             position,
             style,
         },
-        What::Tick => Request::Ticked,
-        What::Stop => Request::Stopped,
-        What::Status => Request::Inspected { differs: None },
-        What::Log { position } => Request::Copied { position },
-        What::Prepare { ballot, pos } => heard(from, to, Body::Prepare { ballot, pos }),
-        What::Promise { ballot, pos, vote } => heard(from, to, Body::Promise { ballot, pos, vote }),
-        What::Accept { ballot, pos, entry } => heard(from, to, Body::Accept { ballot, pos, entry }),
-        What::Accepted { ballot, pos } => heard(from, to, Body::Accepted { ballot, pos }),
-        What::Nack {
+        FrameBody::Tick => Request::Ticked,
+        FrameBody::Stop => Request::Stopped,
+        FrameBody::Status => Request::Inspected { differs: None },
+        FrameBody::Log { position } => Request::Copied { position },
+        FrameBody::Prepare { ballot, pos } => heard(from, to, Body::Prepare { ballot, pos }),
+        FrameBody::Promise { ballot, pos, vote } => heard(
+            from,
+            to,
+            Body::Promise { ballot, pos, vote },
+        ),
+        FrameBody::Accept { ballot, pos, entry } => heard(
+            from,
+            to,
+            Body::Accept { ballot, pos, entry },
+        ),
+        FrameBody::Accepted { ballot, pos } => heard(from, to, Body::Accepted { ballot, pos }),
+        FrameBody::Nack {
             ballot,
             pos,
             promised,
@@ -301,28 +309,28 @@ fn ours(version: Version, from: u8, to: u8, what: What) -> Request
                 promised,
             },
         ),
-        What::Behind { len } => Request::Lagging {
+        FrameBody::Behind { len } => Request::Lagging {
             message: Message {
                 from,
                 to,
                 body: Body::Behind { len },
             },
         },
-        What::Decided { pos, entries } => Request::Learned {
-            run: Run {
+        FrameBody::Decided { pos, entries } => Request::Learned {
+            run: DecidedRun {
                 from,
                 to,
                 pos,
                 entries,
             },
         },
-        What::Taken { .. }
-        | What::Told { .. }
-        | What::SheetText { .. }
-        | What::Refused { .. }
-        | What::Fine
-        | What::Standing { .. }
-        | What::Entries { .. } => Request::Ignored,
+        FrameBody::Taken { .. }
+        | FrameBody::Told { .. }
+        | FrameBody::SheetText { .. }
+        | FrameBody::Refused { .. }
+        | FrameBody::Fine
+        | FrameBody::Standing { .. }
+        | FrameBody::Entries { .. } => Request::Ignored,
     }
 }
 

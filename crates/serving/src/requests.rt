@@ -10,7 +10,7 @@ ghost use Rattle.serving.specs.model.Sessions.{Enters, EntersPart, Hears, HearsP
 ghost use Rattle.serving.specs.model.Sessions.{ServesPart, StartsNext, StartsNextPart, Ticks};
 ghost use Rattle.serving.specs.model.Sessions.{TicksPart, desks};
 
-use crate::calls::{Answer, call};
+use crate::calls::{NodeAnswer, call};
 use crate::copies::copied;
 use crate::events::MOST_OWN;
 use crate::peers::Peers;
@@ -24,7 +24,7 @@ use acceptor::message::Message;
 use answers::Desk;
 use learner::event::DeskEvent;
 use std::collections::VecDeque;
-use wire::{ClientRefusal as Refusal, What};
+use wire::{ClientRefusal as Refusal, FrameBody};
 
 impl Session {
     /// A desk says something: it is delivered.
@@ -46,7 +46,7 @@ impl Session {
     }
 
     /// The desk is given a Tick, and this is what a client is answered that gave it.
-    pub fn tick<D: Desk, P: Peers>(self, node: &mut D, peers: &mut P) -> Result<What, NoMemory>
+    pub fn tick<D: Desk, P: Peers>(self, node: &mut D, peers: &mut P) -> Result<FrameBody, NoMemory>
         requires home { D.home_of node.old ≡ self.home }
         ensures ok { IfOk result (Ticks D.Desk P.Peers self
             (desks node.old peers.old) (desks node.new peers.new)) }
@@ -56,7 +56,7 @@ impl Session {
         ensures home { D.home_of node.new ≡ D.home_of node.old }
     {
         let answer = self.take(node, peers, DeskEvent::Tick)?;
-        Ok(answer_first(What::Fine, answer, node))
+        Ok(answer_first(FrameBody::Fine, answer, node))
     }
 
     /// Start, and all that comes of it and of the messages that wait.
@@ -88,7 +88,7 @@ impl Session {
         node: &mut D,
         peers: &mut P,
         entry: Entry,
-    ) -> Result<What, NoMemory>
+    ) -> Result<FrameBody, NoMemory>
         requires home { D.home_of node.old ≡ self.home }
         requires in_range { IsEntry entry }
         ensures ok { IfOk result (Enters D.Desk P.Peers self entry
@@ -101,11 +101,11 @@ impl Session {
         let id = entry.id();
         let mut waiting = VecDeque::new(self.alloc);
         let answer = call(node, &mut waiting, DeskEvent::Submit(entry))?;
-        if answer != Answer::Taken {
-            return Ok(answer_first(What::Taken { id }, answer, node));
+        if answer != NodeAnswer::Taken {
+            return Ok(answer_first(FrameBody::Taken { id }, answer, node));
         }
         self.start(node, peers, &mut waiting)?;
-        Ok(answer_first(What::Taken { id }, answer, node))
+        Ok(answer_first(FrameBody::Taken { id }, answer, node))
     }
 
     /// Makes the calls and pushes of a request, and gives its answer, where it has one.
@@ -115,7 +115,7 @@ impl Session {
         node: &mut D,
         peers: &mut P,
         request: Request,
-    ) -> Result<Option<What>, NoMemory>
+    ) -> Result<Option<FrameBody>, NoMemory>
         requires home { D.home_of node.old ≡ self.home }
         requires in_range { AsksInRange request }
         ensures ok { IfOk result (Serves D.Desk P.Peers self request
@@ -150,15 +150,15 @@ impl Session {
             } => Ok(Some(printed(node, event, round, position, style))),
             Request::Inspected { differs } => Ok(Some(inspected(node, differs))),
             Request::Copied { position } => Ok(Some(copied(self.alloc, node, position))),
-            Request::Stopped => Ok(Some(What::Fine)),
-            Request::Strange => Ok(Some(What::Refused {
+            Request::Stopped => Ok(Some(FrameBody::Fine)),
+            Request::Strange => Ok(Some(FrameBody::Refused {
                 refusal: Refusal::Foreign,
             })),
             Request::Ignored => Ok(None),
-            Request::Denied => Ok(Some(What::Refused {
+            Request::Denied => Ok(Some(FrameBody::Refused {
                 refusal: Refusal::NotAllowed,
             })),
-            Request::Withheld => Ok(Some(What::Refused {
+            Request::Withheld => Ok(Some(FrameBody::Refused {
                 refusal: Refusal::HallDiffers,
             })),
         }

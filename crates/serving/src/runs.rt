@@ -13,7 +13,7 @@ ghost use Rattle.serving.specs.model.Sessions.{TellsPart, desks, idle};
 use crate::calls::call;
 use crate::events::MOST_OWN;
 use crate::peers::Peers;
-use crate::request::Run;
+use crate::request::DecidedRun;
 use crate::session::Session;
 use acceptor::NoMemory;
 use acceptor::entry::Entry;
@@ -23,7 +23,7 @@ use learner::event::DeskEvent;
 use std::alloc::Global;
 use std::collections::VecDeque;
 use store::home::Home;
-use wire::{Entries, Frame, Version, What, encode};
+use wire::{Entries, Frame, FrameBody, Version, encode};
 
 /// The most entries of a run.
 const MOST_ENTRIES: usize = 16;
@@ -76,7 +76,7 @@ fn gather(
 /// The run that messages of this desk are: at most 16, to one other desk, each saying what was
 /// decided at the position after that of the one before. None: they are no run.
 #[tactic(auto, unfolding(crate::specs::Telling::run_of), using(crate::proofs::Told::run_in_range))]
-fn run_of(alloc: Global, home: Home, messages: &[Message]) -> Result<Option<Run>, NoMemory>
+fn run_of(alloc: Global, home: Home, messages: &[Message]) -> Result<Option<DecidedRun>, NoMemory>
     requires in_range { AreInRange home.desks home.desk messages.now }
     ensures run { IfOk result (λ run. run ≡ run_of home.desk messages.now) }
     ensures in_range { IfOk result (λ run. IfSome run (λ r. IsRun home.desks r)) }
@@ -92,7 +92,7 @@ fn run_of(alloc: Global, home: Home, messages: &[Message]) -> Result<Option<Run>
     };
     let mut entries = Entries::none(alloc);
     if gather(alloc, &mut entries, first.to, *pos, messages)? {
-        Ok(Some(Run {
+        Ok(Some(DecidedRun {
             from: first.from,
             to: first.to,
             pos: *pos,
@@ -127,7 +127,7 @@ impl Session {
         self,
         node: &mut D,
         waiting: &mut VecDeque<Message>,
-        run: Run,
+        run: DecidedRun,
     ) -> Result<(), NoMemory>
         requires most { run.pos + length run.entries ≤ 65536 }
         requires home { D.home_of node.old ≡ self.home }
@@ -139,7 +139,7 @@ impl Session {
         ensures in_range { AreInRange self.home.desks self.home.desk waiting.new.items }
         ensures home { D.home_of node.new ≡ D.home_of node.old }
     {
-        let Run {
+        let DecidedRun {
             from,
             to,
             mut pos,
@@ -168,7 +168,7 @@ impl Session {
         node: &mut D,
         peers: &mut P,
         left: &mut u8,
-        run: Run,
+        run: DecidedRun,
     ) -> Result<(), NoMemory>
         requires most { run.pos + length run.entries ≤ 65536 }
         requires home { D.home_of node.old ≡ self.home }
@@ -189,7 +189,7 @@ impl Session {
         self,
         node: &mut D,
         peers: &mut P,
-        run: Run,
+        run: DecidedRun,
     ) -> Result<(), NoMemory>
         requires most { run.pos + length run.entries ≤ 65536 }
         requires home { D.home_of node.old ≡ self.home }
@@ -206,14 +206,14 @@ impl Session {
     }
 
     /// Pushes a run as one frame.
-    fn push_run<P: Peers>(self, run: Run, peers: &mut P) -> Result<(), NoMemory>
+    fn push_run<P: Peers>(self, run: DecidedRun, peers: &mut P) -> Result<(), NoMemory>
         requires in_range { IsRun self.home.desks run }
         ensures ok { let sent = run_pushed self.wire self.home.hall run in
             OnOk result (Hands (P.handed peers.old) (P.handed peers.new) (sent ∷ [])) }
         ensures err { OnErr result (peers.new ≡ peers.old) }
     {
         let Session { alloc, home, wire } = self;
-        let Run {
+        let DecidedRun {
             from,
             to,
             pos,
@@ -227,7 +227,7 @@ impl Session {
             hall: home.hall,
             from,
             to,
-            what: What::Decided { pos, entries },
+            what: FrameBody::Decided { pos, entries },
         };
         let bytes = encode(alloc, &frame)?;
         peers.push(to, &bytes);

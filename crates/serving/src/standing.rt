@@ -5,14 +5,14 @@ ghost use Rattle.std.specs.List.{AllByRecursion};
 ghost use Rattle.wire.specs.Numbers.{IsFromThree};
 ghost use Rattle.wire.specs.Ranges.{AreLengths, IsDifference};
 ghost use Rattle.wire.specs.declared.values.Version.{Version};
-ghost use Rattle.wire.specs.declared.frame.What.TheVariants.{Standing as StandingOf};
+ghost use Rattle.wire.specs.declared.frame.FrameBody.TheVariants.{Standing as StandingOf};
 ghost use Rattle.serving.specs.Answering.{IsAnswerIn, lengths_of_hall, promised_of, role_of};
 ghost use Rattle.serving.specs.Answering.{standing};
 
 use acceptor::ballot::Ballot;
 use answers::Desk;
 use proposer::role::Role;
-use wire::{DeskRole, Difference, Lengths, Standing, What};
+use wire::{DeskRole, DeskStatus, Difference, FrameBody, Lengths};
 
 /// What a desk does for a ballot of its own, in a frame's words.
 fn role_of(role: &Role) -> DeskRole
@@ -52,14 +52,14 @@ fn lengths_of_hall(desks: u8, told: [u32; 5]) -> Lengths
 }
 
 /// How the desk is, where another one differs so, or none does.
-pub fn inspected<D: Desk>(node: &D, differs: Option<Difference>) -> What
+pub fn inspected<D: Desk>(node: &D, differs: Option<Difference>) -> FrameBody
     requires { IsDifference differs }
     ensures what { result ≡ StandingOf (standing (D.home_of node.now) (D.seen node.now) differs) }
     ensures in_range { (version : Version) → IsFromThree version → IsAnswerIn version result }
 {
     let promised = promised_of(node.promised());
-    What::Standing {
-        standing: Standing {
+    FrameBody::Standing {
+        standing: DeskStatus {
             length: node.log().len(),
             waiting: node.queued(),
             role: role_of(node.role()),

@@ -9,10 +9,10 @@ ghost use Rattle.serving.specs.model.Sessions.{ServesPiece, ServesWaiting};
 ghost use Rattle.serving.specs.model.Turning.{GoesOn};
 
 use crate::connection::Connection;
-use crate::ends::{End, Served};
+use crate::ends::{ConnectionEnd, ServingOutcome};
 use crate::peers::Peers;
 use crate::permission::Permission;
-use crate::source::{Counted, MOST_READS, Source};
+use crate::source::{CountedReader, MOST_READS, Source};
 use answers::Desk;
 use std::alloc::Global;
 use std::io::{ErrorKind, Read, Write};
@@ -26,7 +26,7 @@ fn serve_waiting<D: Desk, W: Write, P: Peers>(
     peers: &mut P,
     writer: &mut W,
     may: Permission,
-) -> Option<End>
+) -> Option<ConnectionEnd>
     requires home { D.home_of node.old ≡ connection.old.home }
     requires free { IsFree connection.old }
     requires open { connection.old.frames < 64 }
@@ -36,7 +36,7 @@ fn serve_waiting<D: Desk, W: Write, P: Peers>(
 {
     while connection.advance(node, peers, may, None) {
         if connection.write_out(writer).is_err() {
-            return Some(End::Write);
+            return Some(ConnectionEnd::Write);
         }
     }
     connection.end()
@@ -51,7 +51,7 @@ fn serve_piece<D: Desk, W: Write, P: Peers>(
     writer: &mut W,
     may: Permission,
     piece: &[u8],
-) -> Option<End>
+) -> Option<ConnectionEnd>
     requires home { D.home_of node.old ≡ connection.old.home }
     requires read { WantsRead connection.old }
     requires open { connection.old.frames < 64 }
@@ -77,7 +77,7 @@ pub fn serve_source<D: Desk, S: Source, W: Write, P: Peers>(
     peers: &mut P,
     wire: Version,
     may: Permission,
-) -> Served
+) -> ServingOutcome
     requires fresh { S.reads source.old ≡ 0 }
     requires whole { S.failed source.old ≡ 0 }
     ensures served { ServesSource D.Desk P.Peers W.Write S.Source wire may result
@@ -86,9 +86,9 @@ pub fn serve_source<D: Desk, S: Source, W: Write, P: Peers>(
     ensures home { D.home_of node.new ≡ D.home_of node.old }
 {
     let Ok(mut connection) = Connection::new(alloc, node, wire) else {
-        return Served {
+        return ServingOutcome {
             frames: 0,
-            end: End::NoMemory,
+            end: ConnectionEnd::NoMemory,
         };
     };
     let mut buffer = [0; 4096];
@@ -96,7 +96,7 @@ pub fn serve_source<D: Desk, S: Source, W: Write, P: Peers>(
     while reads < MOST_READS {
         reads += 1;
         match source.read_once(&mut buffer) {
-            Ok(0) => return connection.served(End::End),
+            Ok(0) => return connection.served(ConnectionEnd::End),
             Ok(count) => {
                 let piece = &buffer[..count];
                 if let Some(end) = serve_piece(&mut connection, node, peers, writer, may, piece) {
@@ -105,12 +105,12 @@ pub fn serve_source<D: Desk, S: Source, W: Write, P: Peers>(
             }
             Err(error) => {
                 if error.kind() != ErrorKind::Interrupted {
-                    return connection.served(End::Read);
+                    return connection.served(ConnectionEnd::Read);
                 }
             }
         }
     }
-    connection.served(End::Reads)
+    connection.served(ConnectionEnd::Reads)
 }
 
 /// The version that has this number.
@@ -140,13 +140,13 @@ pub fn serve_connection<D: Desk, R: Read + Drop, W: Write, P: Peers>(
     peers: &mut P,
     wire: u8,
     may: Permission,
-) -> Served
+) -> ServingOutcome
     requires version { IsVersion wire }
     ensures served { ServesReader D.Desk P.Peers W.Write (spoken wire) may result
         (line node.old peers.old writer.old) (line node.new peers.new writer.new)
         (R.remaining reader) }
     ensures home { D.home_of node.new ≡ D.home_of node.old }
 {
-    let mut source = Counted::new(reader);
+    let mut source = CountedReader::new(reader);
     serve_source(alloc, &mut source, writer, node, peers, spoken(wire), may)
 }

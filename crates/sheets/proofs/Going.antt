@@ -1,17 +1,15 @@
 -- What is kept of who goes on from a round tells it of each number.
 use Rattle.std.proofs.Common.{◌≡◌, ◌∙◌, ℕ, Bool, List, [], ◌∷◌, nat_eq, Option, Some, None, refl}
-use Rattle.std.proofs.Common.{sym}
 use Rattle.std.proofs.Common.{ap, suc, arith}
 use Rattle.std.specs.List.{list_any}
 use Rattle.std.specs.Option.{option_map}
 use Rattle.std.proofs.lemmas.Bool.Decides.{nat_tests}
 use Rattle.formats.specs.declared.events.Event.{Event}
-use Rattle.rounds.specs.Tables.{Table, entrant}
-use Rattle.advancement.specs.Advancing.{IsBorder, holds_of, is_before}
+use Rattle.rounds.specs.Tables.{Table}
 use Rattle.advancement.proofs.Listed.{is_listed}
 use Rattle.texts.specs.declared.command.Command.{Command}
 use Rattle.texts.specs.declared.command.Settings.{Settings}
-use Rattle.commands.specs.Accepted.{Opened, opened, round_in, round_of, seen_by, seen_of}
+use Rattle.commands.specs.Accepted.{Opened, opened, round_in, seen_by, seen_of}
 use Rattle.commands.specs.Accepted.{who_advance, advanced_of}
 use Rattle.sheets.specs.Sheet.{goes_through}
 
@@ -43,22 +41,3 @@ advanced_then cs e r ns is n = step (opened e (suc r) [] cs) is
         let here : ns ≡ who_advance (round_in e r next.before) = cc same in
         flipped ns n ∙ ap (list_any (λ m. nat_eq m n)) here
         ∙ advances_there (round_in e r next.before) n
-
--- where the next one is not opened, a round is seen as it is
-seen_now : (cs : List Command) (e : Event) (r : ℕ) → None ≡ advanced_of cs e r
-    → seen_of cs e r ≡ round_of cs e r
-seen_now cs e r is = step (opened e (suc r) [] cs) is
-  where
-    step : (next : Option Opened)
-        → None ≡ option_map (λ o. who_advance (round_in e r o.before)) next
-        → seen_by e r cs next ≡ round_of cs e r
-    step None same = refl
-    step (Some next) same = absurd (cc same)
-
--- those before the border are then those who go on
-pub before_border : (cs : List Command) (e : Event) (r : ℕ) (settings : Settings) (t : Table)
-    (border : ℕ) → None ≡ advanced_of cs e r → IsBorder t settings.advance border
-    → round_of cs e r ≡ Some (settings, t) → (n : ℕ)
-    → holds_of (is_before t border) (entrant t n) ≡ goes_through (seen_of cs e r) n
-before_border cs e r settings t border is law here n =
-    sym (law n) ∙ sym (ap (λ seen. goes_through seen n) (seen_now cs e r is ∙ here))

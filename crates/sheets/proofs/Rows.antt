@@ -11,14 +11,14 @@ use Rattle.csv.specs.Writing.{row_text, default_writer}
 use Rattle.texts.specs.declared.command.Command.{Command}
 use Rattle.texts.specs.declared.command.Settings.{Settings}
 use Rattle.commands.specs.Accepted.{round_of}
-use Rattle.rounds.specs.declared.table.Row.{Row}
+use Rattle.rounds.specs.declared.table.EntrantRow.{EntrantRow}
 use Rattle.rounds.specs.Tables.{Entrant, Table, place}
 use Rattle.rounds.specs.Rows.{IsRow}
 use Rattle.sheets.specs.Sheet.{name_text, results, attempts, person, entrant_line}
 use Rattle.sheets.specs.Sheet.{line_of, entrant_fields, entrant_record, record_of}
 
 pub line_of_row : (unit : Measure) (cs : List Command) (settings : Settings) (t : Table)
-    (marks : ℕ → Bool) (n : ℕ) (e : Entrant) (row : Row) (shown : Measure) (count : ℕ)
+    (marks : ℕ → Bool) (n : ℕ) (e : Entrant) (row : EntrantRow) (shown : Measure) (count : ℕ)
     (marked : Bool) (name : List ℕ)
     → IsRow t n e row
     → shown ≡ unit → count ≡ attempts_of settings.format → marked ≡ marks n
@@ -37,7 +37,7 @@ line_of_row unit cs settings t marks n e row shown count marked name is in_unit 
     (option_map (entrant_line unit settings t marks n (name_text cs n)) o) []) is.entrant)
 
 pub record_of_row : (unit : Measure) (cs : List Command) (settings : Settings) (t : Table)
-    (marks : ℕ → Bool) (n : ℕ) (e : Entrant) (row : Row) (marked : Bool) → IsRow t n e row
+    (marks : ℕ → Bool) (n : ℕ) (e : Entrant) (row : EntrantRow) (marked : Bool) → IsRow t n e row
     → marked ≡ marks n
     → row_text default_writer (entrant_fields unit (attempts_of settings.format) row.place n
     (name_text cs n) row.average row.values.now marked)

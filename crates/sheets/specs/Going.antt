@@ -8,21 +8,21 @@ use Rattle.advancement.specs.Advancing.{holds_of, is_before}
 use Rattle.texts.specs.declared.command.Command.{Command}
 use Rattle.texts.specs.declared.command.Settings.{Settings}
 use Rattle.commands.specs.Accepted.{round_of, seen_of}
-use Rattle.sheets.specs.declared.going_on.GoingOn.{GoingOn}
-use Rattle.sheets.specs.declared.going_on.GoingOn.TheVariants.{PlacedBefore, These}
+use Rattle.sheets.specs.declared.going_on.AdvancingEntrants.{AdvancingEntrants}
+use Rattle.sheets.specs.declared.going_on.AdvancingEntrants.TheVariants.{PlacedBefore, These}
 use Rattle.sheets.specs.Sheet.{goes_through}
 
 -- what is kept tells of a number in this table
-abbrev pub is_told : GoingOn → Table → ℕ → Bool
+abbrev pub is_told : AdvancingEntrants → Table → ℕ → Bool
 is_told (PlacedBefore border) t n = holds_of (is_before t border) (entrant t n)
 is_told (These numbers) t n = contains nat_eq numbers n
 
 -- of each number it tells whether it goes on from the round
-abbrev pub Tells : GoingOn → Table → Option (Settings × Table) → Type 0
+abbrev pub Tells : AdvancingEntrants → Table → Option (Settings × Table) → Type 0
 Tells going t seen = (n : ℕ) → is_told going t n ≡ goes_through seen n
 
 -- so it does of a round of these commands, where that is opened
-abbrev pub TellsOf : GoingOn → List Command → Event → ℕ → Type 0
+abbrev pub TellsOf : AdvancingEntrants → List Command → Event → ℕ → Type 0
 TellsOf going cs event round =
     (r : Settings × Table) → round_of cs event round ≡ Some r
     → Tells going r.1 (seen_of cs event round)

@@ -12,14 +12,14 @@ ghost use Rattle.sheets.specs.model.Shown.{IsOpened, TellsShown, fields_shown, r
 ghost use Rattle.sheets.specs.model.Shown.{table_shown};
 
 use crate::shown::{
-    Shown, attempt_text, best_text, decimal_text, is_marked, name_text, shown_round,
+    SheetRound, attempt_text, best_text, decimal_text, is_marked, name_text, shown_round,
 };
-use crate::{GoingOn, SheetFault};
+use crate::{AdvancingEntrants, SheetFault};
 use attempts::{NoMemory, Unit, Value};
 use commands::Meet;
 use csv::{ByteRecord, Writer};
 use formats::{Event, attempts_of, print_average, unit_of};
-use rounds::Row;
+use rounds::EntrantRow;
 use std::alloc::Global;
 
 /// Adds a field.
@@ -112,7 +112,7 @@ fn push_person(
 fn push_results(
     fields: &mut ByteRecord,
     alloc: Global,
-    row: Row<'_>,
+    row: EntrantRow<'_>,
     unit: Unit,
 ) -> Result<(), NoMemory>
     requires best { row.best ≡ best_of row.values.now }
@@ -129,8 +129,8 @@ fn push_results(
 /// The fields of an entrant.
 fn entrant_fields(
     alloc: Global,
-    shown: Shown<'_>,
-    row: Row<'_>,
+    shown: SheetRound<'_>,
+    row: EntrantRow<'_>,
     number: u16,
     marked: bool,
 ) -> Result<ByteRecord, NoMemory>
@@ -178,8 +178,8 @@ fn write_record(writer: &mut Writer<Vec<u8>>, fields: &ByteRecord) -> Result<(),
 fn write_entrant(
     writer: &mut Writer<Vec<u8>>,
     alloc: Global,
-    shown: Shown<'_>,
-    going_on: &GoingOn,
+    shown: SheetRound<'_>,
+    going_on: &AdvancingEntrants,
     number: u16,
 ) -> Result<(), NoMemory>
     requires ready { IsReady writer.old }
@@ -198,8 +198,8 @@ fn write_entrant(
 fn write_entrants(
     writer: &mut Writer<Vec<u8>>,
     alloc: Global,
-    shown: Shown<'_>,
-    going_on: &GoingOn,
+    shown: SheetRound<'_>,
+    going_on: &AdvancingEntrants,
     numbers: &[u16],
 ) -> Result<(), NoMemory>
     requires ready { IsReady writer.old }
@@ -224,12 +224,12 @@ fn text_held(writer: Writer<Vec<u8>>) -> Result<Vec<u8>, NoMemory>
 }
 
 /// The table of a round.
-fn table_of(alloc: Global, shown: Shown<'_>) -> Result<Vec<u8>, NoMemory>
+fn table_of(alloc: Global, shown: SheetRound<'_>) -> Result<Vec<u8>, NoMemory>
     requires { IsOpened shown }
     ensures { IfOk result (λ text. text.items ≡ table_shown shown.entry) }
 {
     let numbers = shown.table.standings()?;
-    let going_on = GoingOn::from_round(alloc, shown.meet, shown.event, shown.round)?;
+    let going_on = AdvancingEntrants::from_round(alloc, shown.meet, shown.event, shown.round)?;
     let names = header(alloc, attempts_of(shown.settings.format))?;
     let mut writer = Writer::from_writer(Vec::new(alloc));
     write_record(&mut writer, &names)?;

@@ -8,13 +8,13 @@ ghost use Rattle.sheets.specs.Faults.{NoSheet};
 ghost use Rattle.sheets.specs.model.Shown.{IsOpened, TellsShown, line_shown, text_shown};
 
 use crate::shown::{
-    Shown, attempt_text, best_text, decimal_text, is_marked, name_text, shown_round,
+    SheetRound, attempt_text, best_text, decimal_text, is_marked, name_text, shown_round,
 };
-use crate::{GoingOn, SheetFault};
+use crate::{AdvancingEntrants, SheetFault};
 use attempts::{NoMemory, Unit, Value, push_decimal};
 use commands::{Meet, Settings, print_advance, print_cutoff, print_limit};
 use formats::{Event, Format, attempts_of, print_average, unit_of};
-use rounds::Row;
+use rounds::EntrantRow;
 use std::alloc::Global;
 
 /// Adds a text on the right of this many columns.
@@ -101,7 +101,12 @@ fn columns(unit: Unit) -> usize
 }
 
 /// Adds the place, the average and the best of an entrant.
-fn push_results(out: &mut Vec<u8>, alloc: Global, row: Row<'_>, unit: Unit) -> Result<(), NoMemory>
+fn push_results(
+    out: &mut Vec<u8>,
+    alloc: Global,
+    row: EntrantRow<'_>,
+    unit: Unit,
+) -> Result<(), NoMemory>
     requires { row.best ≡ best_of row.values.now }
     ensures { OnOk result (out.new.items ≡ out.old.items
         ++ results unit row.entry.place row.entry.average row.entry.values.now) }
@@ -175,8 +180,8 @@ fn push_person(
 fn push_line(
     out: &mut Vec<u8>,
     alloc: Global,
-    shown: Shown<'_>,
-    going_on: &GoingOn,
+    shown: SheetRound<'_>,
+    going_on: &AdvancingEntrants,
     number: u16,
 ) -> Result<(), NoMemory>
     requires { TellsShown shown going_on.now }
@@ -203,8 +208,8 @@ fn push_line(
 fn push_lines(
     out: &mut Vec<u8>,
     alloc: Global,
-    shown: Shown<'_>,
-    going_on: &GoingOn,
+    shown: SheetRound<'_>,
+    going_on: &AdvancingEntrants,
     numbers: &[u16],
 ) -> Result<(), NoMemory>
     requires { TellsShown shown going_on.now }
@@ -218,12 +223,12 @@ fn push_lines(
 }
 
 /// The sheet of a round.
-fn text_of(alloc: Global, shown: Shown<'_>, position: u32) -> Result<Vec<u8>, NoMemory>
+fn text_of(alloc: Global, shown: SheetRound<'_>, position: u32) -> Result<Vec<u8>, NoMemory>
     requires { IsOpened shown }
     ensures { IfOk result (λ text. text.items ≡ text_shown shown.entry position) }
 {
     let numbers = shown.table.standings()?;
-    let going_on = GoingOn::from_round(alloc, shown.meet, shown.event, shown.round)?;
+    let going_on = AdvancingEntrants::from_round(alloc, shown.meet, shown.event, shown.round)?;
     let mut out = Vec::new(alloc);
     let closed = shown.table.is_closed();
     push_first_line(

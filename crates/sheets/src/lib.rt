@@ -11,7 +11,7 @@ mod styled;
 
 pub use as_table::table;
 pub use as_text::text;
-pub use going_on::GoingOn;
+pub use going_on::AdvancingEntrants;
 pub use laws::{fits_in_a_frame, later_editions_change_no_sheet};
 pub use reading_back::table_reads_back;
 pub use styled::sheet;

@@ -8,16 +8,16 @@ ghost use Rattle.rounds.specs.Tables.{Entrant};
 ghost use Rattle.sheets.specs.Sheet.{best_text, attempt_text, name_text};
 ghost use Rattle.sheets.specs.model.Shown.{IsOpened, TellsShown, marks_shown};
 
-use crate::GoingOn;
+use crate::AdvancingEntrants;
 use attempts::{NoMemory, Unit, Value, print_value, push_decimal};
 use commands::{Meet, Settings};
 use formats::Event;
-use rounds::{RoundTable, Row};
+use rounds::{EntrantRow, RoundTable};
 use std::alloc::Global;
 
 /// A round that was opened, and the meet that it belongs to.
 #[derive(Clone, Copy)]
-pub struct Shown<'a> {
+pub struct SheetRound<'a> {
     pub meet: &'a Meet,
     pub event: Event,
     pub round: u8,
@@ -26,7 +26,7 @@ pub struct Shown<'a> {
 }
 
 /// The round to show, if it was opened.
-pub fn shown_round(meet: &Meet, event: Event, round: u8) -> Option<Shown<'_>>
+pub fn shown_round(meet: &Meet, event: Event, round: u8) -> Option<SheetRound<'_>>
     ensures meet { IfSome result (λ shown. shown.meet.now ≡ meet.now) }
     ensures event { IfSome result (λ shown. shown.event ≡ event) }
     ensures number { IfSome result (λ shown. shown.round ≡ round) }
@@ -38,7 +38,7 @@ pub fn shown_round(meet: &Meet, event: Event, round: u8) -> Option<Shown<'_>>
     else {
         return None;
     };
-    Some(Shown {
+    Some(SheetRound {
         meet,
         event,
         round,
@@ -99,7 +99,12 @@ pub fn name_text(meet: &Meet, number: u16) -> &[u8]
 }
 
 /// Whether the sheet marks the entrant of a row as one who advances.
-pub fn is_marked(shown: Shown<'_>, going_on: &GoingOn, number: u16, row: Row<'_>) -> bool
+pub fn is_marked(
+    shown: SheetRound<'_>,
+    going_on: &AdvancingEntrants,
+    number: u16,
+    row: EntrantRow<'_>,
+) -> bool
     requires { TellsShown shown going_on.now }
     ensures { (e : Entrant) → IsRow shown.entry.table.now number e row.entry
         → result ≡ marks_shown shown.entry number }

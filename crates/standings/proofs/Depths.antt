@@ -17,9 +17,9 @@ use Rattle.standings.specs.AsJson.{polled_json, promised_json, reply_members}
 use Rattle.standings.specs.Reports.{ReadsBack}
 use Rattle.standings.specs.Standings.{behind_by, difference, every_desk}
 use Rattle.standings.specs.Written.{Adds}
-use Rattle.standings.specs.declared.polled.Polled.{Polled}
-use Rattle.standings.specs.declared.polled.Reply.{Reply}
-use Rattle.standings.specs.declared.polled.Reply.TheVariants as reply
+use Rattle.standings.specs.declared.polled.PolledDesk.{PolledDesk}
+use Rattle.standings.specs.declared.polled.StatusReply.{StatusReply}
+use Rattle.standings.specs.declared.polled.StatusReply.TheVariants as reply
 use Rattle.wire.specs.Spelling.{lengths_of}
 use Rattle.wire.specs.declared.standing.Difference.{Difference}
 use Rattle.wire.specs.declared.standing.Difference.TheVariants.{OtherEntry, Shorter}
@@ -36,7 +36,7 @@ promised_depth : (b : Option Ballot) → depth (promised_json b) ≤ 1
 promised_depth None = omega arith
 promised_depth (Some b) = omega arith
 
-reply_depth : (r : Reply) → members_depth (reply_members r) ≤ 1
+reply_depth : (r : StatusReply) → members_depth (reply_members r) ≤ 1
 reply_depth (reply.Stands desk standing) =
     go (depth (promised_json standing.promised))
     (items_depth (items_of (map natural (lengths_of standing.told))))
@@ -54,13 +54,13 @@ reply_depth reply.OtherKey = omega arith
 reply_depth reply.HasKey = omega arith
 reply_depth (reply.Refused refusal) = omega arith
 
-polled_depth : (p : Polled) → depth (polled_json p) ≤ 2
+polled_depth : (p : PolledDesk) → depth (polled_json p) ≤ 2
 polled_depth p = go (members_depth (reply_members p.reply)) (reply_depth p.reply)
   where
     go : (n : ℕ) → n ≤ 1 → suc (max 0 (max 0 n)) ≤ 2
     go n h = grind (arith, nat_tests)
 
-desks_depth : (polled : List Polled) → items_depth (items_of (map polled_json polled)) ≤ 2
+desks_depth : (polled : List PolledDesk) → items_depth (items_of (map polled_json polled)) ≤ 2
 desks_depth [] = omega arith
 desks_depth (p ∷ polled) =
     both 2 (depth (polled_json p)) (items_depth (items_of (map polled_json polled)))
@@ -72,7 +72,7 @@ one_or_none : (b : Bool) (j : Json) (rest : List Json) → depth j ≤ 1
 one_or_none true j rest h k = k
 one_or_none false j rest h k = both 1 (depth j) (items_depth (items_of rest)) h k
 
-lags_depth : (polled : List Polled) (desks : List ℕ)
+lags_depth : (polled : List PolledDesk) (desks : List ℕ)
     → items_depth (items_of (flat_map (lag_of polled) desks)) ≤ 1
 lags_depth polled [] = omega arith
 lags_depth polled (desk ∷ desks) =
@@ -84,7 +84,7 @@ difference_depth None = omega arith
 difference_depth (Some (OtherEntry desk position)) = omega arith
 difference_depth (Some (Shorter desk len)) = omega arith
 
-hall_depth : (hall : ℕ) (polled : List Polled) → depth (hall_json hall polled) ≤ max_depth
+hall_depth : (hall : ℕ) (polled : List PolledDesk) → depth (hall_json hall polled) ≤ max_depth
 hall_depth hall polled =
     go (items_depth (items_of (map polled_json polled)))
     (items_depth (items_of (flat_map (lag_of polled) every_desk)))
@@ -96,7 +96,7 @@ hall_depth hall polled =
         (max 0 (max 0 (max 0 (max 0 (max (suc l) (max x (max 0 0))))))))) ≤ 128
     go d l x h k j = grind (arith, nat_tests)
 
-reads_back : (hall : ℕ) (polled : List Polled)
+reads_back : (hall : ℕ) (polled : List PolledDesk)
     → tokens (print (json_tokens (hall_json hall polled))) ≡ json_tokens (hall_json hall polled)
     → document (print (json_tokens (hall_json hall polled))) ≡ Some (hall_json hall polled)
 reads_back hall polled found =
@@ -106,7 +106,7 @@ reads_back hall polled found =
     ∙ value-json_tokens d max_depth [] (hall_depth hall polled))
 
 -- so the text of a writer that was given the value's tokens reads back as the value
-pub reads_back_of : (start end : Written) (hall : ℕ) (polled : List Polled) → start.tokens ≡ []
+pub reads_back_of : (start end : Written) (hall : ℕ) (polled : List PolledDesk) → start.tokens ≡ []
     → Adds start end (json_tokens (hall_json hall polled))
     → tokens (print end.tokens) ≡ end.tokens → ReadsBack hall polled
 reads_back_of start end hall polled none added found =

@@ -39,7 +39,3 @@ lists_left f xs i x d within is =
 pub none_left : {X : Type 0} (f : X → List Json) (xs : List X) (i : ℕ) → length xs ≤ i
     → items_tokens (items_of (flat_map f (drop i xs))) ≡ end_array ∷ []
 none_left f xs i past = ap (λ ys. items_tokens (items_of (flat_map f ys))) (drop_all i xs past)
-
-pub no_items_left : {X : Type 0} (f : X → Json) (xs : List X) (i : ℕ) → length xs ≤ i
-    → items_tokens (items_of (map f (drop i xs))) ≡ end_array ∷ []
-no_items_left f xs i past = ap (λ ys. items_tokens (items_of (map f ys))) (drop_all i xs past)

@@ -11,9 +11,9 @@ use Rattle.standings.specs.AsText.{in_order as is_in_order}
 use Rattle.standings.specs.Standings.{answered, difference, every_desk, is_majority, size_of}
 use Rattle.standings.specs.Standings.{status_of}
 use Rattle.wire.specs.declared.standing.Difference.{Difference}
-use Rattle.standings.specs.declared.polled.Polled.{Polled}
+use Rattle.standings.specs.declared.polled.PolledDesk.{PolledDesk}
 
-pub lags_tokens : (polled : List Polled) (desks : List ℕ) → desks ≡ every_desk
+pub lags_tokens : (polled : List PolledDesk) (desks : List ℕ) → desks ≡ every_desk
     → begin_array ∷ items_tokens (items_of (flat_map (lag_of polled) desks))
     ≡ json_tokens (lags_json polled)
 lags_tokens polled desks is =
@@ -27,7 +27,7 @@ pub past_five : (desks : List ℕ) (i : ℕ) → desks ≡ every_desk → 5 ≤ 
 past_five desks i is h = subst (λ ds. length ds ≤ i) (sym is) h
 
 -- the tokens of the members with these values
-abbrev pub tokens_with : List Polled → (size n : ℕ) (majority in_order : Bool)
+abbrev pub tokens_with : List PolledDesk → (size n : ℕ) (majority in_order : Bool)
     → Option Difference → (status : ℕ) → List Token
 tokens_with polled size n majority in_order differs status =
     members_tokens (member (codes "size") (natural size) (member (codes "answered") (natural n)
@@ -36,7 +36,7 @@ tokens_with polled size n majority in_order differs status =
     (member (codes "differs") (difference_json differs) (member (codes "status") (natural status)
     no_members)))))))
 
-pub meaning_tokens : (polled : List Polled) (size n : ℕ) (majority in_order : Bool)
+pub meaning_tokens : (polled : List PolledDesk) (size n : ℕ) (majority in_order : Bool)
     (differs : Option Difference) (status : ℕ)
     → size ≡ size_of polled → n ≡ answered polled → majority ≡ is_majority polled
     → in_order ≡ is_in_order polled → differs ≡ difference polled → status ≡ status_of polled

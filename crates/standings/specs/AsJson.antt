@@ -13,9 +13,9 @@ use Rattle.wire.specs.declared.standing.Difference.TheVariants.{OtherEntry, Shor
 use Rattle.standings.specs.AsText.{in_order, role_name}
 use Rattle.standings.specs.Standings.{answered, behind_by, every_desk, is_majority}
 use Rattle.standings.specs.Standings.{difference, size_of, status_of}
-use Rattle.standings.specs.declared.polled.Polled.{Polled}
-use Rattle.standings.specs.declared.polled.Reply.{Reply}
-use Rattle.standings.specs.declared.polled.Reply.TheVariants as reply
+use Rattle.standings.specs.declared.polled.PolledDesk.{PolledDesk}
+use Rattle.standings.specs.declared.polled.StatusReply.{StatusReply}
+use Rattle.standings.specs.declared.polled.StatusReply.TheVariants as reply
 
 abbrev pub natural : ℕ → Json
 natural n = number (decimal n)
@@ -36,7 +36,7 @@ abbrev pub fault_members : List ℕ → Members
 fault_members name = member (codes "fault") (string name) no_members
 
 -- what came of asking a desk: how it is, or why that isn't known
-abbrev pub reply_members : Reply → Members
+abbrev pub reply_members : StatusReply → Members
 reply_members (reply.Stands desk standing) =
     member (codes "desk") (natural desk)
     (member (codes "role") (string (role_name standing.role))
@@ -57,7 +57,7 @@ reply_members (reply.Refused refusal) =
     (member (codes "refusal") (string (refusal_name refusal)) no_members)
 
 -- a desk that was asked
-abbrev pub polled_json : Polled → Json
+abbrev pub polled_json : PolledDesk → Json
 polled_json p =
     object (member (codes "asked") (natural p.asked)
     (member (codes "address") (string p.address.now) (reply_members p.reply)))
@@ -69,12 +69,12 @@ lag_json desk by =
     (member (codes "commands") (natural by) no_members))
 
 -- what a desk lacks, where it lacks any
-abbrev pub lag_of : List Polled → ℕ → List Json
+abbrev pub lag_of : List PolledDesk → ℕ → List Json
 lag_of polled desk =
     if behind_by polled desk == 0 then [] else lag_json desk (behind_by polled desk) ∷ []
 
 -- the desks that are behind
-abbrev pub lags_json : List Polled → Json
+abbrev pub lags_json : List PolledDesk → Json
 lags_json polled = array (items_of (flat_map (lag_of polled) every_desk))
 
 -- how a desk differs: where it has another command, or how many it has now
@@ -93,7 +93,7 @@ difference_json None = null
 difference_json (Some d) = differs_json d
 
 -- what they come to
-abbrev pub meaning_members : List Polled → Members
+abbrev pub meaning_members : List PolledDesk → Members
 meaning_members polled =
     member (codes "size") (natural (size_of polled))
     (member (codes "answered") (natural (answered polled))
@@ -103,7 +103,7 @@ meaning_members polled =
     (member (codes "differs") (difference_json (difference polled))
     (member (codes "status") (natural (status_of polled)) no_members))))))
 
-abbrev pub hall_json : (hall : ℕ) → List Polled → Json
+abbrev pub hall_json : (hall : ℕ) → List PolledDesk → Json
 hall_json hall polled =
     object (member (codes "hall") (natural hall)
     (member (codes "desks") (list_of polled_json polled) (meaning_members polled)))

@@ -5,23 +5,23 @@ use Rattle.json.specs.Print.{print}
 use Rattle.json.specs.Tree.{json_tokens}
 use Rattle.standings.specs.AsJson.{hall_json}
 use Rattle.standings.specs.AsText.{text_of}
-use Rattle.standings.specs.declared.polled.Polled.{Polled}
+use Rattle.standings.specs.declared.polled.PolledDesk.{PolledDesk}
 use Rattle.standings.specs.declared.forms.Form.{Form}
 use Rattle.standings.specs.declared.forms.Form.TheVariants.{Text, Json}
 
 -- the JSON value, without white space
-abbrev pub json_text : (hall : ℕ) → List Polled → List ℕ
+abbrev pub json_text : (hall : ℕ) → List PolledDesk → List ℕ
 json_text hall polled = print (json_tokens (hall_json hall polled))
 
 -- it reads back as the value
-pub record ReadsBack (hall : ℕ) (polled : List Polled) : Type 0 where
+pub record ReadsBack (hall : ℕ) (polled : List PolledDesk) : Type 0 where
   pub value : document (json_text hall polled) ≡ Some (hall_json hall polled)
 
 -- the JSON value and a line feed
-abbrev pub json_line : (hall : ℕ) → List Polled → List ℕ
+abbrev pub json_line : (hall : ℕ) → List PolledDesk → List ℕ
 json_line hall polled = json_text hall polled ++ codes "\n"
 
 -- lines for people, or the JSON value on a line
-abbrev pub report : Form → (hall : ℕ) → List Polled → List ℕ
+abbrev pub report : Form → (hall : ℕ) → List PolledDesk → List ℕ
 report Text hall polled = text_of polled
 report Json hall polled = json_line hall polled

@@ -8,9 +8,9 @@ use Rattle.wire.specs.declared.standing.Difference.TheVariants.{OtherEntry}
 use Rattle.wire.specs.declared.standing.Lengths.{Lengths}
 use Rattle.wire.specs.declared.standing.Lengths.TheVariants.{OfThree, OfFive}
 use Rattle.wire.specs.Spelling.{lengths_of}
-use Rattle.standings.specs.declared.polled.Polled.{Polled}
-use Rattle.standings.specs.declared.polled.Reply.{Reply}
-use Rattle.standings.specs.declared.polled.Reply.TheVariants.{Stands, Earlier}
+use Rattle.standings.specs.declared.polled.PolledDesk.{PolledDesk}
+use Rattle.standings.specs.declared.polled.StatusReply.{StatusReply}
+use Rattle.standings.specs.declared.polled.StatusReply.TheVariants.{Stands, Earlier}
 
 -- the numbers that a desk can have
 abbrev pub every_desk : List ℕ
@@ -27,86 +27,86 @@ desks_of (OfThree lengths) = 3
 desks_of (OfFive lengths) = 5
 
 -- how many desks the hall has, as a reply says, or 0
-abbrev pub desks_told : Reply → ℕ
+abbrev pub desks_told : StatusReply → ℕ
 desks_told (Stands desk standing) = desks_of standing.told
 desks_told _ = 0
 
 -- the desk of this number answered, and said how it is or not
-abbrev pub is_from : ℕ → Reply → Bool
+abbrev pub is_from : ℕ → StatusReply → Bool
 is_from desk (Stands other standing) = other == desk
 is_from desk (Earlier other) = other == desk
 is_from desk _ = false
 
 -- the desk of this number said how it is
-abbrev pub stands_as : ℕ → Reply → Bool
+abbrev pub stands_as : ℕ → StatusReply → Bool
 stands_as desk (Stands other standing) = other == desk
 stands_as desk _ = false
 
 -- the length of the log of the desk of this number, where it said how it is, or 0
-abbrev pub length_as : ℕ → Reply → ℕ
+abbrev pub length_as : ℕ → StatusReply → ℕ
 length_as desk (Stands other standing) = if other == desk then standing.length else 0
 length_as desk _ = 0
 
 -- the greatest length of a log that a reply tells, of the desk's own or of another's
-abbrev pub newest_told : Reply → ℕ
+abbrev pub newest_told : StatusReply → ℕ
 newest_told (Stands desk standing) = max standing.length (greatest (lengths_of standing.told))
 newest_told _ = 0
 
 -- ---- all answers
 
 -- the greatest number of desks that one of them says the hall has, or 0
-abbrev pub most_told : List Polled → ℕ
+abbrev pub most_told : List PolledDesk → ℕ
 most_told polled = greatest (map (λ p. desks_told p.reply) polled)
 
 -- how many desks the hall has: as one of them says, and where none does, as many as were asked
-abbrev pub size_of : List Polled → ℕ
+abbrev pub size_of : List PolledDesk → ℕ
 size_of polled = if most_told polled == 0 then length polled else most_told polled
 
 -- the desk of this number answered, at whichever address
-abbrev pub answers : List Polled → ℕ → Bool
+abbrev pub answers : List PolledDesk → ℕ → Bool
 answers polled desk = list_any (λ p. is_from desk p.reply) polled
 
 -- it said how it is
-abbrev pub stands : List Polled → ℕ → Bool
+abbrev pub stands : List PolledDesk → ℕ → Bool
 stands polled desk = list_any (λ p. stands_as desk p.reply) polled
 
 -- how many desks answered, and how many said how they are, each counted once
-abbrev pub answered : List Polled → ℕ
+abbrev pub answered : List PolledDesk → ℕ
 answered polled = count_by (answers polled) every_desk
 
-abbrev pub standing_count : List Polled → ℕ
+abbrev pub standing_count : List PolledDesk → ℕ
 standing_count polled = count_by (stands polled) every_desk
 
 -- the length of the log of the desk of this number, as it said
-abbrev pub length_at : List Polled → ℕ → ℕ
+abbrev pub length_at : List PolledDesk → ℕ → ℕ
 length_at polled desk = greatest (map (λ p. length_as desk p.reply) polled)
 
 -- the length of the longest log that is known
-abbrev pub newest : List Polled → ℕ
+abbrev pub newest : List PolledDesk → ℕ
 newest polled = greatest (map (λ p. newest_told p.reply) polled)
 
 -- how many commands a desk that said how it is lacks of that log
-abbrev pub behind_by : List Polled → ℕ → ℕ
+abbrev pub behind_by : List PolledDesk → ℕ → ℕ
 behind_by polled desk =
     if stands polled desk then newest polled - length_at polled desk else 0
 
-abbrev pub is_behind : List Polled → ℕ → Bool
+abbrev pub is_behind : List PolledDesk → ℕ → Bool
 is_behind polled desk = not (behind_by polled desk == 0)
 
 -- a desk that said how it is lacks commands
-abbrev pub some_behind : List Polled → Bool
+abbrev pub some_behind : List PolledDesk → Bool
 some_behind polled = list_any (is_behind polled) every_desk
 
 -- more than half of the desks answered
-abbrev pub is_majority : List Polled → Bool
+abbrev pub is_majority : List PolledDesk → Bool
 is_majority polled = nat_lt (size_of polled) (answered polled * 2)
 
 -- how many more desks have to answer for a majority
-abbrev pub missing : List Polled → ℕ
+abbrev pub missing : List PolledDesk → ℕ
 missing polled = size_of polled / 2 + 1 - answered polled
 
 -- how many desks of the hall were not asked
-abbrev pub unasked : List Polled → ℕ
+abbrev pub unasked : List PolledDesk → ℕ
 unasked polled = size_of polled - length polled
 
 -- how a desk differs: by its own entries, or as it has heard of another one
@@ -114,7 +114,7 @@ abbrev pub by_entries : ℕ → Option ℕ → Option Difference → Option Diff
 by_entries desk None heard = heard
 by_entries desk (Some position) heard = Some (OtherEntry desk position)
 
-abbrev pub difference_by : Reply → Option ℕ → Option Difference
+abbrev pub difference_by : StatusReply → Option ℕ → Option Difference
 difference_by (Stands desk standing) other = by_entries desk other standing.differs
 difference_by _ other = None
 
@@ -123,13 +123,13 @@ first_of None later = later
 first_of (Some d) later = Some d
 
 -- how a desk differs from others, if one does: the first that is known of
-abbrev pub difference : List Polled → Option Difference
+abbrev pub difference : List PolledDesk → Option Difference
 difference [] = None
 difference (p ∷ ps) = first_of (difference_by p.reply p.other) (difference ps)
 
 -- the exit status: 0 where a majority answered, no desk is known to lack commands and none differs,
 -- 1 where a majority answered and none differs, else 3
-abbrev pub status_of : List Polled → ℕ
+abbrev pub status_of : List PolledDesk → ℕ
 status_of polled =
     if is_some (difference polled) || not (is_majority polled) then 3
     else (if some_behind polled then 1 else 0)

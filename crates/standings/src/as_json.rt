@@ -12,18 +12,18 @@ ghost use Rattle.standings.specs.AsJson.{promised_json, reply_members};
 ghost use Rattle.standings.specs.AsText.{role_name};
 ghost use Rattle.standings.specs.Reports.{ReadsBack, json_line, json_text};
 ghost use Rattle.standings.specs.Written.{Adds};
-ghost use Rattle.standings.specs.declared.polled.Reply.TheVariants as reply;
+ghost use Rattle.standings.specs.declared.polled.StatusReply.TheVariants as reply;
 
 use crate::as_text::{in_order, role_name};
 use crate::meaning::{
     answered, behind_by, difference, every_desk, is_majority, size_of, status_of,
 };
-use crate::polled::{Polled, Reply};
+use crate::polled::{PolledDesk, StatusReply};
 use acceptor::ballot::Ballot;
 use client::refusal_name;
 use json::Writer;
 use std::alloc::{AllocError, Global};
-use wire::{ClientRefusal, DeskRole, Difference, Lengths, Standing};
+use wire::{ClientRefusal, DeskRole, DeskStatus, Difference, Lengths};
 
 fn write_natural(out: &mut Writer, number: u32) -> Result<(), AllocError>
     ensures { OnOk result (Adds out.old out.new (json_tokens (natural number))) }
@@ -77,7 +77,7 @@ fn write_told(out: &mut Writer, told: Lengths) -> Result<(), AllocError>
 }
 
 /// Writes how a desk is, and the end of its object.
-fn write_standing(out: &mut Writer, desk: u8, standing: Standing) -> Result<(), AllocError>
+fn write_standing(out: &mut Writer, desk: u8, standing: DeskStatus) -> Result<(), AllocError>
     ensures { OnOk result (Adds out.old out.new
         (members_tokens (reply_members (reply.Stands desk standing)))) }
 {
@@ -128,24 +128,24 @@ fn write_refused(out: &mut Writer, refusal: ClientRefusal) -> Result<(), AllocEr
 }
 
 /// Writes what came of asking a desk, and the end of its object.
-fn write_reply(out: &mut Writer, reply: &Reply) -> Result<(), AllocError>
+fn write_reply(out: &mut Writer, reply: &StatusReply) -> Result<(), AllocError>
     ensures { OnOk result (Adds out.old out.new (members_tokens (reply_members reply.now))) }
 {
     match reply {
-        Reply::Stands { desk, standing } => write_standing(out, *desk, *standing),
-        Reply::Earlier { desk } => write_earlier(out, *desk),
-        Reply::CannotConnect => write_fault(out, "cannot connect"),
-        Reply::NoAnswer => write_fault(out, "no answer"),
-        Reply::Late => write_fault(out, "no answer in time"),
-        Reply::NoKey => write_fault(out, "the desk has no key"),
-        Reply::OtherKey => write_fault(out, "the desk has another key"),
-        Reply::HasKey => write_fault(out, "the desk has a key"),
-        Reply::Refused { refusal } => write_refused(out, *refusal),
+        StatusReply::Stands { desk, standing } => write_standing(out, *desk, *standing),
+        StatusReply::Earlier { desk } => write_earlier(out, *desk),
+        StatusReply::CannotConnect => write_fault(out, "cannot connect"),
+        StatusReply::NoAnswer => write_fault(out, "no answer"),
+        StatusReply::Late => write_fault(out, "no answer in time"),
+        StatusReply::NoKey => write_fault(out, "the desk has no key"),
+        StatusReply::OtherKey => write_fault(out, "the desk has another key"),
+        StatusReply::HasKey => write_fault(out, "the desk has a key"),
+        StatusReply::Refused { refusal } => write_refused(out, *refusal),
     }
 }
 
 /// Writes a desk that was asked.
-fn write_polled(out: &mut Writer, polled: &Polled<'_>) -> Result<(), AllocError>
+fn write_polled(out: &mut Writer, polled: &PolledDesk<'_>) -> Result<(), AllocError>
     ensures { OnOk result (Adds out.old out.new (json_tokens (polled_json polled.now))) }
 {
     out.begin_object()?;
@@ -157,7 +157,7 @@ fn write_polled(out: &mut Writer, polled: &Polled<'_>) -> Result<(), AllocError>
 }
 
 /// Writes the desks that were asked.
-fn write_desks(out: &mut Writer, polled: &[Polled<'_>]) -> Result<(), AllocError>
+fn write_desks(out: &mut Writer, polled: &[PolledDesk<'_>]) -> Result<(), AllocError>
     ensures { OnOk result
         (Adds out.old out.new (json_tokens (list_of polled_json polled.now))) }
 {
@@ -181,7 +181,7 @@ fn write_lag(out: &mut Writer, desk: u8, by: u32) -> Result<(), AllocError>
 }
 
 /// Writes what a desk lacks, where it lacks any.
-fn write_lag_of(out: &mut Writer, polled: &[Polled<'_>], desk: u8) -> Result<(), AllocError>
+fn write_lag_of(out: &mut Writer, polled: &[PolledDesk<'_>], desk: u8) -> Result<(), AllocError>
     ensures { OnOk result
         (Adds out.old out.new (flat_map json_tokens (lag_of polled.now desk))) }
 {
@@ -194,7 +194,7 @@ fn write_lag_of(out: &mut Writer, polled: &[Polled<'_>], desk: u8) -> Result<(),
 }
 
 /// Writes the desks that are behind.
-fn write_lags(out: &mut Writer, polled: &[Polled<'_>]) -> Result<(), AllocError>
+fn write_lags(out: &mut Writer, polled: &[PolledDesk<'_>]) -> Result<(), AllocError>
     ensures { OnOk result (Adds out.old out.new (json_tokens (lags_json polled.now))) }
 {
     let desks = every_desk();
@@ -238,7 +238,7 @@ fn write_difference(out: &mut Writer, differs: Option<Difference>) -> Result<(),
 }
 
 /// Writes what the answers come to, and the end of the object.
-fn write_meaning(out: &mut Writer, polled: &[Polled<'_>]) -> Result<(), AllocError>
+fn write_meaning(out: &mut Writer, polled: &[PolledDesk<'_>]) -> Result<(), AllocError>
     requires { length polled.now ≤ 5 }
     ensures { OnOk result (Adds out.old out.new (members_tokens (meaning_members polled.now))) }
 {
@@ -259,7 +259,7 @@ fn write_meaning(out: &mut Writer, polled: &[Polled<'_>]) -> Result<(), AllocErr
     out.end_object()
 }
 
-fn write_hall(out: &mut Writer, hall: u32, polled: &[Polled<'_>]) -> Result<(), AllocError>
+fn write_hall(out: &mut Writer, hall: u32, polled: &[PolledDesk<'_>]) -> Result<(), AllocError>
     requires { length polled.now ≤ 5 }
     ensures { OnOk result (Adds out.old out.new (json_tokens (hall_json hall polled.now))) }
 {
@@ -272,7 +272,7 @@ fn write_hall(out: &mut Writer, hall: u32, polled: &[Polled<'_>]) -> Result<(), 
 }
 
 /// The JSON object of the desks that were asked, at most five.
-fn json_text(alloc: Global, hall: u32, polled: &[Polled<'_>]) -> Result<Vec<u8>, AllocError>
+fn json_text(alloc: Global, hall: u32, polled: &[PolledDesk<'_>]) -> Result<Vec<u8>, AllocError>
     requires { length polled.now ≤ 5 }
     ensures text { IfOk result (λ text. text.items ≡ json_text hall polled.now) }
     ensures reads_back { OnOk result (ReadsBack hall polled.now) }
@@ -284,7 +284,7 @@ fn json_text(alloc: Global, hall: u32, polled: &[Polled<'_>]) -> Result<Vec<u8>,
 
 /// The JSON object of the desks of a hall that were asked, at most five, without white space, and a
 /// line feed. docs/FORMATS.md names its members.
-pub fn json_line(alloc: Global, hall: u32, polled: &[Polled<'_>]) -> Result<Vec<u8>, AllocError>
+pub fn json_line(alloc: Global, hall: u32, polled: &[PolledDesk<'_>]) -> Result<Vec<u8>, AllocError>
     requires { length polled.now ≤ 5 }
     ensures line { IfOk result (λ text. text.items ≡ json_line hall polled.now) }
     ensures reads_back { OnOk result (ReadsBack hall polled.now) }

@@ -10,17 +10,17 @@ ghost use Rattle.standings.specs.AsText.{text_of, role_name, some_elsewhere, som
 ghost use Rattle.standings.specs.AsText.{state_text, unasked_text, verb_text, waiting_text};
 ghost use Rattle.standings.specs.AsText.{difference_text, differs_text, other_text, shorter_text};
 ghost use Rattle.standings.specs.AsText.{wanted_text};
-ghost use Rattle.standings.specs.declared.polled.Reply.TheVariants as reply;
+ghost use Rattle.standings.specs.declared.polled.StatusReply.TheVariants as reply;
 
 use crate::meaning::{
     answered, behind_by, difference, every_desk, is_majority, missing, newest, size_of,
     some_behind, standing_count, unasked,
 };
-use crate::polled::{Polled, Reply};
+use crate::polled::{PolledDesk, StatusReply};
 use client::refusal_name;
 use itoa::Buffer;
 use std::alloc::{AllocError, Global};
-use wire::{DeskRole, Difference, Standing};
+use wire::{DeskRole, DeskStatus, Difference};
 
 /// Adds a number in decimal.
 fn push_number(out: &mut Vec<u8>, number: u32) -> Result<(), AllocError>
@@ -67,7 +67,7 @@ fn push_standing(
     out: &mut Vec<u8>,
     asked: u8,
     desk: u8,
-    standing: Standing,
+    standing: DeskStatus,
 ) -> Result<(), AllocError>
     ensures { OnOk result (out.new.items
         ≡ out.old.items ++ reply_text asked (reply.Stands desk standing)) }
@@ -82,22 +82,22 @@ fn push_standing(
 }
 
 /// Adds what came of asking for the desk of a number.
-fn push_reply(out: &mut Vec<u8>, asked: u8, reply: &Reply) -> Result<(), AllocError>
+fn push_reply(out: &mut Vec<u8>, asked: u8, reply: &StatusReply) -> Result<(), AllocError>
     ensures { OnOk result (out.new.items ≡ out.old.items ++ reply_text asked reply.now) }
 {
     match reply {
-        Reply::Stands { desk, standing } => push_standing(out, asked, *desk, *standing),
-        Reply::Earlier { desk } => {
+        StatusReply::Stands { desk, standing } => push_standing(out, asked, *desk, *standing),
+        StatusReply::Earlier { desk } => {
             push_name(out, asked, *desk)?;
             out.extend_from_slice(b"an earlier program")
         }
-        Reply::CannotConnect => out.extend_from_slice(b"cannot connect"),
-        Reply::NoAnswer => out.extend_from_slice(b"no answer"),
-        Reply::Late => out.extend_from_slice(b"no answer in time"),
-        Reply::NoKey => out.extend_from_slice(b"the desk has no key"),
-        Reply::OtherKey => out.extend_from_slice(b"the desk has another key"),
-        Reply::HasKey => out.extend_from_slice(b"the desk has a key"),
-        Reply::Refused { refusal } => {
+        StatusReply::CannotConnect => out.extend_from_slice(b"cannot connect"),
+        StatusReply::NoAnswer => out.extend_from_slice(b"no answer"),
+        StatusReply::Late => out.extend_from_slice(b"no answer in time"),
+        StatusReply::NoKey => out.extend_from_slice(b"the desk has no key"),
+        StatusReply::OtherKey => out.extend_from_slice(b"the desk has another key"),
+        StatusReply::HasKey => out.extend_from_slice(b"the desk has a key"),
+        StatusReply::Refused { refusal } => {
             out.extend_from_slice(b"refused ")?;
             out.extend_from_slice(refusal_name(*refusal).as_bytes())
         }
@@ -116,7 +116,7 @@ fn push_place(out: &mut Vec<u8>, size: u32, asked: u8) -> Result<(), AllocError>
 }
 
 /// Adds the line of a desk of this many.
-fn push_line(out: &mut Vec<u8>, size: u32, polled: &Polled<'_>) -> Result<(), AllocError>
+fn push_line(out: &mut Vec<u8>, size: u32, polled: &PolledDesk<'_>) -> Result<(), AllocError>
     ensures { OnOk result (out.new.items ≡ out.old.items ++ line_text size polled.now) }
 {
     push_place(out, size, polled.asked)?;
@@ -127,7 +127,7 @@ fn push_line(out: &mut Vec<u8>, size: u32, polled: &Polled<'_>) -> Result<(), Al
 }
 
 /// Adds a line for each.
-fn push_lines(out: &mut Vec<u8>, size: u32, polled: &[Polled<'_>]) -> Result<(), AllocError>
+fn push_lines(out: &mut Vec<u8>, size: u32, polled: &[PolledDesk<'_>]) -> Result<(), AllocError>
     ensures { OnOk result
         (out.new.items ≡ out.old.items ++ flat_map (line_text size) polled.now) }
 {
@@ -137,30 +137,30 @@ fn push_lines(out: &mut Vec<u8>, size: u32, polled: &[Polled<'_>]) -> Result<(),
     Ok(())
 }
 
-fn is_other(asked: u8, reply: &Reply) -> bool
+fn is_other(asked: u8, reply: &StatusReply) -> bool
     ensures { result ≡ is_other asked reply.now }
 {
     match reply {
-        Reply::Stands { desk, .. } | Reply::Earlier { desk } => *desk != asked,
+        StatusReply::Stands { desk, .. } | StatusReply::Earlier { desk } => *desk != asked,
         _ => false,
     }
 }
 
 /// Whether another desk than was asked for answered at an address.
-fn some_elsewhere(polled: &[Polled<'_>]) -> bool
+fn some_elsewhere(polled: &[PolledDesk<'_>]) -> bool
     ensures { result ≡ some_elsewhere polled.now }
 {
     polled.iter().any(|one| is_other(one.asked, &one.reply))
 }
 
 /// Whether the addresses are in the order of the desks, as far as these answered.
-pub(crate) fn in_order(polled: &[Polled<'_>]) -> bool
+pub(crate) fn in_order(polled: &[PolledDesk<'_>]) -> bool
     ensures { result ≡ in_order polled.now }
 {
     !some_elsewhere(polled)
 }
 
-fn push_order(out: &mut Vec<u8>, polled: &[Polled<'_>]) -> Result<(), AllocError>
+fn push_order(out: &mut Vec<u8>, polled: &[PolledDesk<'_>]) -> Result<(), AllocError>
     ensures { OnOk result (out.new.items ≡ out.old.items ++ order_text polled.now) }
 {
     if in_order(polled) {
@@ -203,7 +203,7 @@ fn push_lag(out: &mut Vec<u8>, desk: u8, by: u32) -> Result<(), AllocError>
 fn push_lags(
     out: &mut Vec<u8>,
     follows: bool,
-    polled: &[Polled<'_>],
+    polled: &[PolledDesk<'_>],
     desks: &[u8],
 ) -> Result<(), AllocError>
     ensures { OnOk result
@@ -225,7 +225,11 @@ fn push_lags(
 
 /// Adds what each desk of the hall lacks.
 #[tactic(auto, unfolding(crate::specs::AsText::every_lag_text))]
-fn push_every_lag(out: &mut Vec<u8>, follows: bool, polled: &[Polled<'_>]) -> Result<(), AllocError>
+fn push_every_lag(
+    out: &mut Vec<u8>,
+    follows: bool,
+    polled: &[PolledDesk<'_>],
+) -> Result<(), AllocError>
     ensures { OnOk result (out.new.items ≡ out.old.items ++ every_lag_text follows polled.now) }
 {
     push_lags(out, follows, polled, &every_desk())
@@ -241,7 +245,7 @@ fn push_all(out: &mut Vec<u8>, size: u32, newest: u32) -> Result<(), AllocError>
 }
 
 /// Adds what it means where each desk said how it is.
-fn push_all_stand(out: &mut Vec<u8>, polled: &[Polled<'_>]) -> Result<(), AllocError>
+fn push_all_stand(out: &mut Vec<u8>, polled: &[PolledDesk<'_>]) -> Result<(), AllocError>
     requires { length polled.now ≤ 5 }
     ensures { OnOk result (out.new.items ≡ out.old.items ++ all_stand_text polled.now) }
 {
@@ -253,7 +257,7 @@ fn push_all_stand(out: &mut Vec<u8>, polled: &[Polled<'_>]) -> Result<(), AllocE
 }
 
 /// Adds that the hall works, and what desks lack.
-fn push_works(out: &mut Vec<u8>, polled: &[Polled<'_>]) -> Result<(), AllocError>
+fn push_works(out: &mut Vec<u8>, polled: &[PolledDesk<'_>]) -> Result<(), AllocError>
     ensures { OnOk result (out.new.items ≡ out.old.items ++ works_text polled.now) }
 {
     out.extend_from_slice(b"the hall works")?;
@@ -261,7 +265,7 @@ fn push_works(out: &mut Vec<u8>, polled: &[Polled<'_>]) -> Result<(), AllocError
 }
 
 /// Adds what it means where a majority answered, and not each said how it is.
-fn push_some_stand(out: &mut Vec<u8>, polled: &[Polled<'_>]) -> Result<(), AllocError>
+fn push_some_stand(out: &mut Vec<u8>, polled: &[PolledDesk<'_>]) -> Result<(), AllocError>
     requires { length polled.now ≤ 5 }
     ensures { OnOk result (out.new.items ≡ out.old.items ++ some_stand_text polled.now) }
 {
@@ -270,7 +274,7 @@ fn push_some_stand(out: &mut Vec<u8>, polled: &[Polled<'_>]) -> Result<(), Alloc
 }
 
 /// Adds what it means where a majority answered.
-fn push_going(out: &mut Vec<u8>, polled: &[Polled<'_>]) -> Result<(), AllocError>
+fn push_going(out: &mut Vec<u8>, polled: &[PolledDesk<'_>]) -> Result<(), AllocError>
     requires { length polled.now ≤ 5 }
     ensures { OnOk result (out.new.items ≡ out.old.items ++ going_text polled.now) }
 {
@@ -305,7 +309,7 @@ fn push_unasked(out: &mut Vec<u8>, unasked: u32) -> Result<(), AllocError>
 }
 
 /// Adds what is wanted for a majority.
-fn push_wanted(out: &mut Vec<u8>, polled: &[Polled<'_>]) -> Result<(), AllocError>
+fn push_wanted(out: &mut Vec<u8>, polled: &[PolledDesk<'_>]) -> Result<(), AllocError>
     requires { length polled.now ≤ 5 }
     ensures { OnOk result (out.new.items ≡ out.old.items ++ wanted_text polled.now) }
 {
@@ -318,7 +322,7 @@ fn push_wanted(out: &mut Vec<u8>, polled: &[Polled<'_>]) -> Result<(), AllocErro
 }
 
 /// Adds what it means where no majority answered.
-fn push_waiting(out: &mut Vec<u8>, polled: &[Polled<'_>]) -> Result<(), AllocError>
+fn push_waiting(out: &mut Vec<u8>, polled: &[PolledDesk<'_>]) -> Result<(), AllocError>
     requires { length polled.now ≤ 5 }
     ensures { OnOk result (out.new.items ≡ out.old.items ++ waiting_text polled.now) }
 {
@@ -364,7 +368,7 @@ fn push_difference(out: &mut Vec<u8>, difference: Difference) -> Result<(), Allo
     out.extend_from_slice(b": enter nothing more; see HALL, 'Two desks differ'")
 }
 
-fn push_state(out: &mut Vec<u8>, polled: &[Polled<'_>]) -> Result<(), AllocError>
+fn push_state(out: &mut Vec<u8>, polled: &[PolledDesk<'_>]) -> Result<(), AllocError>
     requires { length polled.now ≤ 5 }
     ensures { OnOk result (out.new.items ≡ out.old.items ++ state_text polled.now) }
 {
@@ -381,7 +385,7 @@ fn push_state(out: &mut Vec<u8>, polled: &[Polled<'_>]) -> Result<(), AllocError
 /// What is printed of the desks that were asked, at most five: a line for each, and one that says
 /// what these mean. Where a desk has another number than it was asked for, a line in front of that
 /// one says so.
-pub(crate) fn text_of(alloc: Global, polled: &[Polled<'_>]) -> Result<Vec<u8>, AllocError>
+pub(crate) fn text_of(alloc: Global, polled: &[PolledDesk<'_>]) -> Result<Vec<u8>, AllocError>
     requires { length polled.now ≤ 5 }
     ensures { IfOk result (λ text. text.items ≡ text_of polled.now) }
 {

@@ -5,7 +5,7 @@ ghost use Rattle.standings.specs.Reports.{report};
 
 use crate::as_json::json_line;
 use crate::as_text::text_of;
-use crate::polled::Polled;
+use crate::polled::PolledDesk;
 use std::alloc::{AllocError, Global};
 
 /// How a report is printed.
@@ -25,7 +25,7 @@ pub fn report(
     alloc: Global,
     form: Form,
     hall: u32,
-    polled: &[Polled<'_>],
+    polled: &[PolledDesk<'_>],
 ) -> Result<Vec<u8>, AllocError>
     requires { length polled.now ≤ 5 }
     ensures { IfOk result (λ text. text.items ≡ report form hall polled.now) }

@@ -10,4 +10,4 @@ mod polled;
 pub use as_json::json_line;
 pub use forms::{Form, report};
 pub use meaning::{difference, status_of};
-pub use polled::{Polled, Reply};
+pub use polled::{PolledDesk, StatusReply};

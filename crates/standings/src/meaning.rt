@@ -8,7 +8,7 @@ ghost use Rattle.standings.specs.Standings.{length_at, missing, most_told, newes
 ghost use Rattle.standings.specs.Standings.{size_of, some_behind, standing_count, stands};
 ghost use Rattle.standings.specs.Standings.{stands_as, status_of, unasked};
 
-use crate::polled::{Polled, Reply};
+use crate::polled::{PolledDesk, StatusReply};
 use wire::{Difference, Lengths};
 
 /// The numbers that a desk can have.
@@ -26,12 +26,12 @@ fn greatest(numbers: &[u32]) -> u32
 }
 
 /// How many desks the hall has, as a reply says.
-fn desks_told(reply: &Reply) -> u32
+fn desks_told(reply: &StatusReply) -> u32
     ensures same { result ≡ desks_told reply.now }
     ensures most { result ≤ 5 }
 {
     match reply {
-        Reply::Stands { standing, .. } => match standing.told {
+        StatusReply::Stands { standing, .. } => match standing.told {
             Lengths::OfThree(_) => 3,
             Lengths::OfFive(_) => 5,
         },
@@ -39,29 +39,30 @@ fn desks_told(reply: &Reply) -> u32
     }
 }
 
-fn is_from(desk: u8, reply: &Reply) -> bool
+fn is_from(desk: u8, reply: &StatusReply) -> bool
     ensures { result ≡ is_from desk reply.now }
 {
     match reply {
-        Reply::Stands { desk: other, .. } | Reply::Earlier { desk: other } => *other == desk,
+        StatusReply::Stands { desk: other, .. } | StatusReply::Earlier { desk: other } => *other
+            == desk,
         _ => false,
     }
 }
 
-fn stands_as(desk: u8, reply: &Reply) -> bool
+fn stands_as(desk: u8, reply: &StatusReply) -> bool
     ensures { result ≡ stands_as desk reply.now }
 {
     match reply {
-        Reply::Stands { desk: other, .. } => *other == desk,
+        StatusReply::Stands { desk: other, .. } => *other == desk,
         _ => false,
     }
 }
 
-fn length_as(desk: u8, reply: &Reply) -> u32
+fn length_as(desk: u8, reply: &StatusReply) -> u32
     ensures { result ≡ length_as desk reply.now }
 {
     match reply {
-        Reply::Stands {
+        StatusReply::Stands {
             desk: other,
             standing,
         } if *other == desk => standing.length,
@@ -70,18 +71,18 @@ fn length_as(desk: u8, reply: &Reply) -> u32
 }
 
 /// The greatest length of a log that a reply tells.
-fn newest_told(reply: &Reply) -> u32
+fn newest_told(reply: &StatusReply) -> u32
     ensures { result ≡ newest_told reply.now }
 {
     match reply {
-        Reply::Stands { standing, .. } => {
+        StatusReply::Stands { standing, .. } => {
             standing.length.max(greatest(standing.told.as_slice()))
         }
         _ => 0,
     }
 }
 
-fn most_told(polled: &[Polled<'_>]) -> u32
+fn most_told(polled: &[PolledDesk<'_>]) -> u32
     ensures { result ≡ most_told polled.now }
 {
     polled
@@ -91,7 +92,7 @@ fn most_told(polled: &[Polled<'_>]) -> u32
 }
 
 /// How many desks the hall has, as far as is known.
-pub(crate) fn size_of(polled: &[Polled<'_>]) -> u32
+pub(crate) fn size_of(polled: &[PolledDesk<'_>]) -> u32
     requires { length polled.now ≤ 5 }
     ensures { result ≡ size_of polled.now }
 {
@@ -100,21 +101,21 @@ pub(crate) fn size_of(polled: &[Polled<'_>]) -> u32
 }
 
 /// Whether the desk of a number answered, at whichever address.
-fn answers(polled: &[Polled<'_>], desk: u8) -> bool
+fn answers(polled: &[PolledDesk<'_>], desk: u8) -> bool
     ensures { result ≡ answers polled.now desk }
 {
     polled.iter().any(|one| is_from(desk, &one.reply))
 }
 
 /// Whether it said how it is.
-fn stands(polled: &[Polled<'_>], desk: u8) -> bool
+fn stands(polled: &[PolledDesk<'_>], desk: u8) -> bool
     ensures { result ≡ stands polled.now desk }
 {
     polled.iter().any(|one| stands_as(desk, &one.reply))
 }
 
 /// How many desks answered, at most five.
-pub(crate) fn answered(polled: &[Polled<'_>]) -> u32
+pub(crate) fn answered(polled: &[PolledDesk<'_>]) -> u32
     ensures same { result ≡ answered polled.now }
     ensures most { result ≤ 5 }
 {
@@ -123,7 +124,7 @@ pub(crate) fn answered(polled: &[Polled<'_>]) -> u32
 }
 
 /// How many desks said how they are, at most five.
-pub(crate) fn standing_count(polled: &[Polled<'_>]) -> u32
+pub(crate) fn standing_count(polled: &[PolledDesk<'_>]) -> u32
     ensures same { result ≡ standing_count polled.now }
     ensures most { result ≤ 5 }
 {
@@ -132,7 +133,7 @@ pub(crate) fn standing_count(polled: &[Polled<'_>]) -> u32
 }
 
 /// The length of the log of the desk of a number, as it said.
-fn length_at(polled: &[Polled<'_>], desk: u8) -> u32
+fn length_at(polled: &[PolledDesk<'_>], desk: u8) -> u32
     ensures { result ≡ length_at polled.now desk }
 {
     polled
@@ -142,7 +143,7 @@ fn length_at(polled: &[Polled<'_>], desk: u8) -> u32
 }
 
 /// The length of the longest log that is known.
-pub(crate) fn newest(polled: &[Polled<'_>]) -> u32
+pub(crate) fn newest(polled: &[PolledDesk<'_>]) -> u32
     ensures { result ≡ newest polled.now }
 {
     polled
@@ -152,7 +153,7 @@ pub(crate) fn newest(polled: &[Polled<'_>]) -> u32
 }
 
 /// How many commands a desk that said how it is lacks.
-pub(crate) fn behind_by(polled: &[Polled<'_>], desk: u8) -> u32
+pub(crate) fn behind_by(polled: &[PolledDesk<'_>], desk: u8) -> u32
     ensures { result ≡ behind_by polled.now desk }
 {
     if stands(polled, desk) {
@@ -162,14 +163,14 @@ pub(crate) fn behind_by(polled: &[Polled<'_>], desk: u8) -> u32
     }
 }
 
-fn is_behind(polled: &[Polled<'_>], desk: u8) -> bool
+fn is_behind(polled: &[PolledDesk<'_>], desk: u8) -> bool
     ensures { result ≡ is_behind polled.now desk }
 {
     behind_by(polled, desk) != 0
 }
 
 /// Whether a desk that said how it is lacks commands.
-pub(crate) fn some_behind(polled: &[Polled<'_>]) -> bool
+pub(crate) fn some_behind(polled: &[PolledDesk<'_>]) -> bool
     ensures { result ≡ some_behind polled.now }
 {
     let desks = every_desk();
@@ -177,7 +178,7 @@ pub(crate) fn some_behind(polled: &[Polled<'_>]) -> bool
 }
 
 /// Whether more than half of the desks answered.
-pub(crate) fn is_majority(polled: &[Polled<'_>]) -> bool
+pub(crate) fn is_majority(polled: &[PolledDesk<'_>]) -> bool
     requires { length polled.now ≤ 5 }
     ensures { result ≡ is_majority polled.now }
 {
@@ -185,7 +186,7 @@ pub(crate) fn is_majority(polled: &[Polled<'_>]) -> bool
 }
 
 /// How many more desks have to answer for a majority.
-pub(crate) fn missing(polled: &[Polled<'_>]) -> u32
+pub(crate) fn missing(polled: &[PolledDesk<'_>]) -> u32
     requires { length polled.now ≤ 5 }
     ensures { result ≡ missing polled.now }
 {
@@ -193,7 +194,7 @@ pub(crate) fn missing(polled: &[Polled<'_>]) -> u32
 }
 
 /// How many desks of the hall were not asked.
-pub(crate) fn unasked(polled: &[Polled<'_>]) -> u32
+pub(crate) fn unasked(polled: &[PolledDesk<'_>]) -> u32
     requires { length polled.now ≤ 5 }
     ensures { result ≡ unasked polled.now }
 {
@@ -201,10 +202,10 @@ pub(crate) fn unasked(polled: &[Polled<'_>]) -> u32
 }
 
 /// How a desk differs by its reply: by its own entries, or as it has heard of another one.
-fn difference_by(reply: &Reply, other: Option<u32>) -> Option<Difference>
+fn difference_by(reply: &StatusReply, other: Option<u32>) -> Option<Difference>
     ensures { result ≡ difference_by reply.now other }
 {
-    let Reply::Stands { desk, standing } = reply else {
+    let StatusReply::Stands { desk, standing } = reply else {
         return None;
     };
     match other {
@@ -217,7 +218,7 @@ fn difference_by(reply: &Reply, other: Option<u32>) -> Option<Difference>
 }
 
 /// How a desk differs from others, if one does: the first that is known of.
-pub fn difference(polled: &[Polled<'_>]) -> Option<Difference>
+pub fn difference(polled: &[PolledDesk<'_>]) -> Option<Difference>
     ensures { result ≡ difference polled.now }
 {
     let [one, rest @ ..] = polled else {
@@ -232,7 +233,7 @@ pub fn difference(polled: &[Polled<'_>]) -> Option<Difference>
 /// The exit status of asking the desks: 0 where a majority answered, no desk is known to lack
 /// commands and none differs; 1 where a majority answered and none differs; and else 3. At most
 /// five were asked.
-pub fn status_of(polled: &[Polled<'_>]) -> u8
+pub fn status_of(polled: &[PolledDesk<'_>]) -> u8
     requires { length polled.now ≤ 5 }
     ensures { result ≡ status_of polled.now }
 {

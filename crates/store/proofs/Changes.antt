@@ -1,59 +1,105 @@
--- What each change leaves.
-use Rattle.std.proofs.Common.{◌≡◌, ℕ, List, [], ◌∷◌, ◌++◌, length, Some, None, Ok, Result, subst}
-use Rattle.std.proofs.Common.{◌∙◌, ap, sym, map, IsPermutation}
+-- What each change leaves inside a transaction.
+use Rattle.std.proofs.Common.{◌≡◌, inl, inr, ℕ, List, [], ◌∷◌, ◌++◌, length, Some, None, Ok, Err}
+use Rattle.std.proofs.Common.{Result, ◌∙◌, ap, sym, map, subst, IsPermutation}
+use Rattle.sqlite.specs.Order.{Row}
 use Rattle.sqlite.specs.declared.error.Error.{Error}
-use Rattle.sqlite.specs.State.{State, HasCleanDisk, Survives, Executes, CommitsBy}
+use Rattle.sqlite.specs.Command.{Command}
+use Rattle.sqlite.specs.Command.TheVariants.{Insert}
+use Rattle.sqlite.specs.Source.TheVariants.{Values}
+use Rattle.sqlite.specs.Does.{Does}
+use Rattle.sqlite.specs.Effect.{Database}
+use Rattle.sqlite.specs.Listing.{understood}
+use Rattle.sqlite.specs.Table.{Table}
+use Rattle.sqlite.specs.State.{State, mode_of, Runs, Writes, ExecutesInside}
+use Rattle.sqlite.proofs.Callers.{IsPlain, command_of, statement_of, runs_as}
+use Rattle.sqlite_schema.specs.declared.schema.Index.{Index}
+use Rattle.sqlite_schema.specs.declared.schema.View.{View}
 use Rattle.acceptor.specs.declared.entry.Entry.{Entry}
-use Rattle.store.specs.declared.home.Home.{Home}
 use Rattle.acceptor.specs.declared.ballot.Ballot.{Ballot}
 use Rattle.acceptor.specs.declared.stored.Vote.{Vote}
 use Rattle.acceptor.specs.declared.stored.Stored.{Stored}
+use Rattle.acceptor.specs.declared.stored.Change.TheVariants.{Promised, Voted, Tried}
+use Rattle.acceptor.specs.Storing.{stored_after}
+use Rattle.store.specs.declared.home.Home.{Home}
+use Rattle.store.specs.Layout.{store_schema}
 use Rattle.store.specs.Holding.{shown_desk, shown_entry, log_values}
-use Rattle.store.specs.Kept.{Keeps, Saved}
+use Rattle.store.specs.Inside.{Inside, GoesOn}
 use Rattle.store.proofs.SqlTexts.{promise_text, vote_text, try_text, append_text}
 use Rattle.store.proofs.Texts.{updates, promise_is, promise_plain, promise_terms, vote_is}
 use Rattle.store.proofs.Texts.{vote_plain, vote_terms, try_is, try_plain, try_terms, append_is}
 use Rattle.store.proofs.Texts.{append_plain, append_terms}
 use Rattle.store.proofs.Rewriting.{promises, promise_params, votes, vote_params, tries, try_params}
-use Rattle.store.proofs.Saving.{Settles, saves, update_makes, Makes}
+use Rattle.store.proofs.Saving.{update_makes, Makes}
 use Rattle.store.proofs.Inserting.{append_params, appends, inserted}
-use Rattle.sqlite.specs.Command.TheVariants.{Insert}
-use Rattle.sqlite.specs.Source.TheVariants.{Values}
-use Rattle.sqlite.specs.Does.{Does}
 
-module _ (old new : State) (r : Result ℕ Error) (settles : Settles old) (clean : HasCleanDisk new)
-    (home : Home) (s : Stored) (log : List Entry) (k : Keeps home s log old) where
-  pub promise_saves : (b : Ballot) → Executes promise_text (promise_params b) old new r
-      → Survives old new (CommitsBy promise_text (promise_params b) old)
-      → Saved home s (record s { promised = b }) log log new r
-  promise_saves b =
-      saves promise_text (promise_params b) (updates promise_terms)
-      (λ e. absurd cc, λ name e. absurd cc) promise_is promise_plain home s
-      (record s { promised = b }) log log
+module _ (sql : List ℕ) (params : Row) (command : Command)
+    (is : (others : List Table) (ix : List Index) (vs : List View)
+    → command_of (understood (store_schema others ix vs) sql) ≡ command)
+    (plain : (others : List Table) (ix : List Index) (vs : List View)
+    → IsPlain (understood (store_schema others ix vs) sql))
+    (home : Home) (s t : Stored) (log more : List Entry)
+    (makes : Makes command params home s t log more)
+    (is_write : (old new : State) (text : List ℕ) (count : ℕ)
+    → Runs old new None command text params count → Writes old new None command text params count)
+    (past : Database) (old new : State) (k : Inside home s log past old)
+  where
+    pub goes_on : (r : Result ℕ Error) → ExecutesInside 0 sql params old new r
+        → GoesOn home t more past new r
+    goes_on (Ok count) ran =
+        let ours = k.ours in
+        let w =
+        is_write old new _ count
+        (runs_as sql params old new (store_schema ours.others ours.indexes ours.views) ours.is
+        command
+        (is ours.others ours.indexes ours.views) (plain ours.others ours.indexes ours.views) count
+        ran.0) in
+        let all =
+        makes old.step_limit (mode_of old) old.now ours k.holds
+        (statement_of sql (understood (store_schema ours.others ours.indexes ours.views) sql))
+        w.tally
+        new.now w.changed in (
+          record {
+            is_open = ran.1.is_open;
+            mode = ran.1.mode;
+            committed = ran.1.committed_is ∙ k.committed;
+            ours = all.0;
+            holds = all.1;
+          },
+          tt,
+        )
+    goes_on (Err e) (inl (ran, inl same)) = (tt, λ live. same.0.committed_is ∙ k.committed)
+    goes_on (Err e) (inl (ran, inr back)) = (tt, λ live. (back.undone live).1 ∙ k.committed)
+    goes_on (Err e) (inr ends) = (tt, λ live. ends.2.0.committed_is ∙ k.committed)
+
+module _ (past : Database) (old new : State) (r : Result ℕ Error) (home : Home) (s : Stored)
+    (log : List Entry) (k : Inside home s log past old) where
+  pub promise_goes_on : (b : Ballot) → ExecutesInside 0 promise_text (promise_params b) old new r
+      → GoesOn home (stored_after s (Some (Promised b))) log past new r
+  promise_goes_on b =
+      goes_on promise_text (promise_params b) (updates promise_terms) promise_is promise_plain home
+      s (record s { promised = b }) log log
       (update_makes (promise_params b) promise_terms home s (record s { promised = b }) log
       (λ trees row one shows. promises trees row home s one shows b))
-      (λ _ _ _ _ w. w) old new r settles clean k
+      (λ _ _ _ _ w. w) past old new k r
 
-  pub vote_saves : (v : Vote) → Executes vote_text (vote_params v) old new r
-      → Survives old new (CommitsBy vote_text (vote_params v) old)
-      → Saved home s (record s { promised = v.ballot; vote = Some v }) log log new r
-  vote_saves v =
-      saves vote_text (vote_params v) (updates vote_terms) (λ e. absurd cc, λ name e. absurd cc)
-      vote_is vote_plain home s (record s { promised = v.ballot; vote = Some v }) log log
+  pub vote_goes_on : (v : Vote) → ExecutesInside 0 vote_text (vote_params v) old new r
+      → GoesOn home (stored_after s (Some (Voted v))) log past new r
+  vote_goes_on v =
+      goes_on vote_text (vote_params v) (updates vote_terms) vote_is vote_plain home
+      s (record s { promised = v.ballot; vote = Some v }) log log
       (update_makes (vote_params v) vote_terms home s
       (record s { promised = v.ballot; vote = Some v }) log
       (λ trees row one shows. votes trees row home s one shows v))
-      (λ _ _ _ _ w. w) old new r settles clean k
+      (λ _ _ _ _ w. w) past old new k r
 
-  pub try_saves : (n : ℕ) → Executes try_text (try_params n) old new r
-      → Survives old new (CommitsBy try_text (try_params n) old)
-      → Saved home s (record s { tried = n }) log log new r
-  try_saves n =
-      saves try_text (try_params n) (updates try_terms) (λ e. absurd cc, λ name e. absurd cc) try_is
-      try_plain home s (record s { tried = n }) log log
+  pub try_goes_on : (n : ℕ) → ExecutesInside 0 try_text (try_params n) old new r
+      → GoesOn home (stored_after s (Some (Tried n))) log past new r
+  try_goes_on n =
+      goes_on try_text (try_params n) (updates try_terms) try_is try_plain home
+      s (record s { tried = n }) log log
       (update_makes (try_params n) try_terms home s (record s { tried = n }) log
       (λ trees row one shows. tries trees row home s one shows n))
-      (λ _ _ _ _ w. w) old new r settles clean k
+      (λ _ _ _ _ w. w) past old new k r
 
 append_makes : (at : ℕ) (e : Entry) (home : Home) (s : Stored) (log : List Entry) → at ≡ length log
     → Makes (Insert 1 (Values append_terms 4)) (append_params at e) home s s log (log ++ e ∷ [])
@@ -80,13 +126,12 @@ append_makes at e home s log last limit mode db ours holds text tally after does
       },
     )
 
-pub append_saves : (old new : State) (r : Result ℕ Error) → Settles old → HasCleanDisk new
-    → (home : Home) (s : Stored) (log : List Entry) → Keeps home s log old → (at : ℕ) (e : Entry)
-    → at ≡ length log
-    → Executes append_text (append_params at e) old new r
-    → Survives old new (CommitsBy append_text (append_params at e) old)
-    → Saved home s s log (log ++ e ∷ []) new r
-append_saves old new r settles clean home s log k at e last =
-    saves append_text (append_params at e) (Insert 1 (Values append_terms 4))
-    (λ e. absurd cc, λ name e. absurd cc) append_is append_plain home s s log (log ++ e ∷ [])
-    (append_makes at e home s log last) (λ _ _ _ _ w. w) old new r settles clean k
+pub append_goes_on : (past : Database) (old new : State) (r : Result ℕ Error) (home : Home)
+    (s : Stored)
+    (log : List Entry) → Inside home s log past old → (at : ℕ) (e : Entry) → at ≡ length log
+    → ExecutesInside 0 append_text (append_params at e) old new r
+    → GoesOn home s (log ++ e ∷ []) past new r
+append_goes_on past old new r home s log k at e last =
+    goes_on append_text (append_params at e) (Insert 1 (Values append_terms 4)) append_is
+    append_plain home s s log (log ++ e ∷ []) (append_makes at e home s log last)
+    (λ _ _ _ _ w. w) past old new k r

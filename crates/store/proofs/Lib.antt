@@ -6,6 +6,8 @@ pub mod Inserting
 pub mod Saving
 pub mod Refusing
 pub mod Changes
+pub mod Together
+pub mod Settled
 pub mod Probing
 pub mod Queries
 pub mod Decoding

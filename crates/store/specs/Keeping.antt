@@ -45,6 +45,27 @@ abbrev pub FindsNoMore : (Stored → List Entry → Type 0) → Type 0
 FindsNoMore held broke holds breaks =
     ((s : Stored) (log : List Entry) → holds s log → held s log) × (breaks → broke)
 
+-- An opening finds what it could find before, or nothing waits, and it finds what the store may
+-- hold.
+abbrev pub FindsOldOrKept : (Stored → List Entry → Type 0) → (Stored → List Entry → Type 0)
+    → (Stored → List Entry → Type 0) → Type 0 → Type 0
+FindsOldOrKept found finds may_hold is_settled =
+    (s : Stored) (log : List Entry) → finds s log
+    → found s log ⊎ (is_settled × may_hold s log)
+
+-- whatever was kept still is
+abbrev pub StaysKept : (Stored → List Entry → Type 0) → (Stored → List Entry → Type 0) → Type 0
+StaysKept kept keeps = (s : Stored) (log : List Entry) → kept s log → keeps s log
+
+-- Where a keeper kept a state, a settling leaves a store in which an opening finds what it found
+-- before it, or what the store was to hold once it is settled.
+abbrev pub SettlesFor : (Stored → List Entry → Type 0) → (Stored → List Entry → Type 0)
+    → (Stored → List Entry → Type 0) → (Stored → List Entry → Type 0) → Type 0 → Type 0
+SettlesFor kept found held finds breaks =
+    (s : Stored) (log : List Entry) → kept s log
+    → (¬ breaks)
+    × ((t : Stored) (more : List Entry) → finds t more → found t more ⊎ held t more)
+
 -- the state after the change is in its ranges
 abbrev pub IsFitAfter : ℕ → Stored → List Entry → Change → Type 0
 IsFitAfter n s log change = IsFit n (stored_after s (Some change)) (log_after log (Some change))

@@ -5,6 +5,9 @@ pub mod Opening
 pub mod Layout
 pub mod Holding
 pub mod Kept
+pub mod Changes
+pub mod Inside
+pub mod Waiting
 pub mod Reads
 pub mod Refusals
 pub mod model

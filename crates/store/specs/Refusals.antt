@@ -1,5 +1,5 @@
 -- Why a call over SQL wants memory: SQLite refused it, or the values of a query's rows had none.
-use Rattle.std.specs.Prelude.{◌≡◌, ◌⊎◌, ℕ, List, Result, Ok, Err, IfErr}
+use Rattle.std.specs.Prelude.{◌≡◌, ◌⊎◌, ℕ, List, Result, Ok, Err}
 use Rattle.std.specs.Global.{Vec}
 use Rattle.sqlite.specs.Order.{Row}
 use Rattle.sqlite.specs.declared.error.Error.{Error}
@@ -19,10 +19,6 @@ abbrev pub IsRefused : State → State → Error → Type 0
 IsRefused old new e =
     (sql : List ℕ) × (params : Row)
     × (Executes sql params old new (Err e) ⊎ FailsToQuery sql params old new e)
-
--- what was run is told of every refusal
-abbrev pub NamesRefusal : State → State → Result ℕ Error → Type 0
-NamesRefusal old new r = HasCleanDisk new → IfErr r (IsRefused old new)
 
 -- A query that was run on the connection was answered, and left it so.
 abbrev pub IsAnswered : State → State → Type 0
@@ -61,8 +57,3 @@ ReadNamesWant shows old new r =
 abbrev pub LoadLacksMemory : {C : Type 0} → (C → State) → C → C → Type 0
 LoadLacksMemory {C} shows old new =
     (mid : C) × ReadLacksMemory shows old mid × IsUnchanged (shows mid) (shows new)
-
--- It was refused to the one statement of a save, which then left the connection as it was.
-abbrev pub SaveLacksMemory : {C : Type 0} → (C → State) → C → C → Type 0
-SaveLacksMemory {C} shows old new =
-    (mid : C) × IsRefused (shows old) (shows mid) no_memory × IsUnchanged (shows mid) (shows new)

@@ -4,7 +4,7 @@ ghost use Rattle.std.specs.Prelude.{◌≡◌, ◌≤◌, IfOk, length};
 ghost use Rattle.store.specs.Ranges.{most_entries};
 
 use crate::NoMemory;
-use acceptor::stored::{Stored, Vote};
+use acceptor::stored::{Change, Stored, Vote};
 use learner::log::{Log, ReserveFault};
 use std::alloc::Global;
 
@@ -32,6 +32,18 @@ pub fn copy_stored(alloc: Global, stored: &Stored) -> Result<Stored, NoMemory>
         promised: stored.promised,
         vote,
         tried: stored.tried,
+    })
+}
+
+/// An equal change.
+pub fn copy_change(alloc: Global, change: &Change) -> Result<Change, NoMemory>
+    ensures { IfOk result (λ c. c ≡ change.now) }
+{
+    Ok(match change {
+        Change::Promised(ballot) => Change::Promised(*ballot),
+        Change::Voted(vote) => Change::Voted(copy_vote(alloc, vote)?),
+        Change::Tried(number) => Change::Tried(*number),
+        Change::Appended(entry) => Change::Appended(entry.copy_in(alloc)?),
     })
 }
 

@@ -10,8 +10,9 @@ use acceptor::stored::{Change, Stored};
 use learner::log::Log;
 use std::alloc::Global;
 
-/// Saves, and says what a store that is opened again holds: after Ok the state after the change and
-/// no other, after NoMemory the state before it and no other, and after Device one of the two.
+/// Saves, and says what a store that is settled and then opened again holds: after Ok the state
+/// after the change and no other, after NoMemory the state before it and no other, and after Device
+/// one of the two.
 ///
 /// Device comes only where the count of failures has risen, and Down exactly where the keeper was
 /// Down.
@@ -37,6 +38,10 @@ impl<K: Keeper> Keeper for &mut K {
 
     ghost keeps = { λ k. K.keeps k.now };
 
+    ghost finds = { λ k. K.finds k.now };
+
+    ghost is_settled = { λ k. K.is_settled k.now };
+
     ghost is_down = { λ k. K.is_down k.now };
 
     ghost failures_of = { λ k. K.failures_of k.now };
@@ -59,6 +64,10 @@ impl<K: Keeper> Keeper for &mut K {
         (**self).save(change)
     }
 
+    fn settle(&mut self) -> bool {
+        (**self).settle()
+    }
+
     fn load(&mut self, alloc: Global) -> Result<(Stored, Log), LoadFault> {
         (**self).load(alloc)
     }
@@ -68,4 +77,6 @@ impl<K: Keeper> Keeper for &mut K {
     ghost ranges = { λ k s log kept. (K.Keeper).ranges k.now s log kept };
 
     ghost works = { λ k s log kept. (K.Keeper).works k.now s log kept };
+
+    ghost rests = { λ k s log settled found. (K.Keeper).rests k.now s log settled found };
 }

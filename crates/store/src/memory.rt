@@ -20,7 +20,7 @@ use learner::log::{Log, ReserveFault};
 use std::alloc::Global;
 use std::marker::Model;
 
-/// A keeper in memory. Tests can tell it at which save to fail.
+/// A keeper in memory, which commits each change at once. Tests can tell it at which save to fail.
 #[derive(Drop)]
 pub struct MemoryKeeper {
     alloc: Global,
@@ -167,6 +167,10 @@ impl Keeper for MemoryKeeper {
     ghost keeps = { λ k s log. (is_stopped k ≡ false) × IsFit k.home.desks s log × (s ≡ k.stored)
         × (log ≡ k.log) };
 
+    ghost finds = { λ k s log. (s ≡ k.stored) × (log ≡ k.log) };
+
+    ghost is_settled = { λ _. Unit {0} };
+
     ghost is_down = { is_stopped };
 
     ghost failures_of = { λ k. k.failures };
@@ -203,6 +207,10 @@ impl Keeper for MemoryKeeper {
         Ok(())
     }
 
+    fn settle(&mut self) -> bool {
+        !self.down && self.failures != u64::MAX
+    }
+
     fn load(&mut self, alloc: Global) -> Result<(Stored, Log), LoadFault> {
         if self.failures == u64::MAX || !is_fit(self.home.desks, &self.stored) {
             return Err(LoadFault::Damaged);
@@ -227,4 +235,6 @@ impl Keeper for MemoryKeeper {
     ghost ranges = { λ k s log kept. kept.1 };
 
     ghost works = { λ k s log kept. kept.0 };
+
+    ghost rests = { λ k s log settled found. found };
 }

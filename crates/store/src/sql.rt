@@ -1,44 +1,55 @@
 //! The keeper over two tables of a database.
 
-ghost use Rattle.std.specs.Prelude.{◌≡◌, ◌≢◌, ◌==◌, ◌||◌, ◌⊎◌, ◌-◌, ◌<◌, ◌≤◌, false, true, []};
-ghost use Rattle.std.specs.Prelude.{List, Some, Result, Err, IsTrue, IfOk, IfErr, length};
+ghost use Rattle.std.specs.Prelude.{◌≡◌, ◌≢◌, ◌==◌, ◌||◌, ◌⊎◌, ◌<◌, false, true, [], List};
+ghost use Rattle.std.specs.Prelude.{Err, IsTrue, IfOk, IfErr, length};
 ghost use Rattle.sqlite.specs.State.{HasCleanDisk};
 ghost use Rattle.sqlite.specs.Held.{state};
 ghost use Rattle.acceptor.specs.Entries.{EntryValue};
-ghost use Rattle.acceptor.specs.Storing.{log_after};
 ghost use Rattle.acceptor.specs.declared.stored.Stored.{Stored as State};
-ghost use Rattle.store.specs.Ranges.{IsHome, IsFit, is_housed, home_at, most_entries};
+ghost use Rattle.store.specs.Ranges.{IsHome, IsFit, is_housed, home_at};
 ghost use Rattle.store.specs.Whole.{IsSound};
-ghost use Rattle.store.specs.Keeping.{most_failures, CountsOne};
-ghost use Rattle.store.specs.model.Unique.{alone};
-ghost use Rattle.store.specs.Kept.{Keeps, SavesAt, MayLeave, MayBreak};
-ghost use Rattle.store.specs.Refusals.{NamesRefusal, SaveLacksMemory, LoadLacksMemory};
+ghost use Rattle.store.specs.Keeping.{most_failures, CountsOne, StaysKept};
+ghost use Rattle.store.specs.model.Unique.{alone_after, leads_nowhere};
+ghost use Rattle.store.specs.Kept.{Keeps, MayLeave, MayBreak};
+ghost use Rattle.store.specs.Waiting.{KeepsBefore, MayLeaveBefore};
+ghost use Rattle.store.specs.Refusals.{LoadLacksMemory};
 ghost use Rattle.store.specs.Opening.{Opens, Refuses};
 
+use crate::copying::copy_change;
 use crate::fault::{LoadFault, OpenFault, SaveFault};
 use crate::home::Home;
 use crate::keeper::Keeper;
 use crate::loading::{ReadFault, read_all};
 use crate::opening::prepare;
-use crate::statements::{append, promise, try_number, vote};
+use crate::statements::{length_after_all, make_all};
 use crate::still_open::is_harmless;
 use acceptor::stored::{Change, Stored};
 use learner::log::Log;
-use sqlite::{Alter, Connection, Error};
+use sqlite::{Alter, Connection};
 use std::alloc::Global;
+
+/// The most changes that wait.
+const MOST_WAITING: usize = 200;
 
 /// A keeper over the two tables of a database, `desk` and `entries`.
 ///
-/// Once a save or a load has answered Device, the keeper is Down for good: each save is Down, and
-/// each load counts a failure and is Device, without asking the device, until the failures are
-/// 2^64 - 1. Only a store that is opened anew helps. Want of memory that has shut the connection is
-/// Device too.
+/// A change that is saved waits in memory, 200 of them at most, and nothing is open between two
+/// calls: `settle` commits all that wait in one transaction.
+///
+/// Once a settling has failed, or a load has answered Device, the keeper is Down for good: each
+/// save is Down, and each load counts a failure and is Device, without asking the device, until the
+/// failures are 2^64 - 1. Only a store that is opened anew helps. Want of memory in a settling, or
+/// that has shut the connection, is as the device's refusal.
 pub struct SqlKeeper<S: Alter> {
+    alloc: Global,
     conn: Connection<S>,
     home: Home,
+    /// How long the log is in the table.
     len: u32,
     failures: u64,
     down: bool,
+    /// The changes that wait, in order.
+    changes: Vec<Change>,
     ghost housed: { is_housed home ≡ true },
 }
 
@@ -46,38 +57,14 @@ pub struct SqlKeeper<S: Alter> {
 impl<S: Alter + Drop> Drop for SqlKeeper<S> {
     fn drop(self) {
         let SqlKeeper {
+            alloc: _,
             conn: _,
             home: _,
             len: _,
             failures: _,
             down: _,
+            changes: _,
         } = self;
-    }
-}
-
-/// One statement, which makes the change.
-fn make<S: Alter>(conn: &mut Connection<S>, len: u32, change: &Change) -> Result<usize, Error>
-    ensures clean { HasCleanDisk (state S.Store conn.new) → HasCleanDisk (state S.Store conn.old) }
-    ensures saves { SavesAt len change.now (state S.Store conn.old)
-        (state S.Store conn.new) result }
-    ensures refused { NamesRefusal (state S.Store conn.old) (state S.Store conn.new) result }
-{
-    match change {
-        Change::Promised(ballot) => promise(conn, *ballot),
-        Change::Voted(new) => vote(conn, new),
-        Change::Tried(number) => try_number(conn, *number),
-        Change::Appended(entry) => append(conn, len, entry),
-    }
-}
-
-fn length_after(len: u32, change: &Change) -> u32
-    ensures { (log : List EntryValue) → len ≡ length log
-        → length (log_after log (Some change.now)) ≤ most_entries
-        → result ≡ length (log_after log (Some change.now)) }
-{
-    match change {
-        Change::Appended(_) => len.saturating_add(1),
-        _ => len,
     }
 }
 
@@ -87,13 +74,18 @@ impl<S: Alter> Keeper for SqlKeeper<S> {
 
     ghost is_honest = { λ k. HasCleanDisk (state S.Store k.conn) };
 
-    ghost may_hold = { λ k s log. MayLeave (state S.Store k.conn) k.home s log };
+    ghost may_hold = { λ k s log. MayLeaveBefore k.changes.items (state S.Store k.conn) k.home s
+        log };
 
     ghost may_break = { λ k. MayBreak (state S.Store k.conn) k.home };
 
     ghost keeps = { λ k s log. ((k.down || (k.failures == most_failures)) ≡ false)
-        × (k.len ≡ length log) × IsFit k.home.desks s log
-        × Keeps k.home s log (state S.Store k.conn) };
+        × IsFit k.home.desks s log
+        × KeepsBefore k.home k.len k.changes.items (state S.Store k.conn) s log };
+
+    ghost finds = { λ k s log. MayLeave (state S.Store k.conn) k.home s log };
+
+    ghost is_settled = { λ k. k.changes.items ≡ [] };
 
     ghost is_down = { λ k. k.down || (k.failures == most_failures) };
 
@@ -101,12 +93,8 @@ impl<S: Alter> Keeper for SqlKeeper<S> {
 
     ghost home_of = { λ k. k.home };
 
-    /// Device counts exactly one failure. NoMemory comes only where SQLite refused memory to the
-    /// change's statement.
-    ghost save_gives = { λ k _ r after.
-        (r ≡ Err saving.Device → CountsOne k.failures after.failures)
-        × (r ≡ Err saving.NoMemory → HasCleanDisk (state S.Store after.conn)
-        → SaveLacksMemory (state S.Store) k.conn after.conn) };
+    /// The device is not asked.
+    ghost save_gives = { λ k _ r after. (r ≢ Err saving.Device) × (after.conn ≡ k.conn) };
 
     /// Once it is down, a load counts a failure and is Device, as long as the count is not at its
     /// end. Below that end it is Damaged only where the tables hold no state of this desk that is
@@ -134,23 +122,41 @@ impl<S: Alter> Keeper for SqlKeeper<S> {
         if self.down || self.failures == u64::MAX {
             return Err(SaveFault::Down);
         }
-        match make(&mut self.conn, self.len, change) {
-            Ok(_) => {
-                self.len = length_after(self.len, change);
-                Ok(())
+        if self.changes.len() >= MOST_WAITING {
+            return Err(SaveFault::NoMemory);
+        }
+        let Ok(change) = copy_change(self.alloc, change) else {
+            return Err(SaveFault::NoMemory);
+        };
+        match self.changes.push(change) {
+            Ok(()) => Ok(()),
+            Err(_) => Err(SaveFault::NoMemory),
+        }
+    }
+
+    fn settle(&mut self) -> bool {
+        if self.down || self.failures == u64::MAX {
+            return false;
+        }
+        if self.changes.is_empty() {
+            return true;
+        }
+        match make_all(&mut self.conn, self.len, self.changes.as_slice()) {
+            Ok(()) => {
+                self.len = length_after_all(self.len, self.changes.as_slice());
+                self.changes.clear();
+                true
             }
-            Err(error) => {
-                if is_harmless(&mut self.conn, error) {
-                    return Err(SaveFault::NoMemory);
-                }
+            Err(_) => {
+                self.changes.clear();
                 self.failures += 1;
                 self.down = true;
-                Err(SaveFault::Device)
+                false
             }
         }
     }
 
-    #[tactic(auto, using(crate::proofs::Saving::own_desk))]
+    #[tactic(auto, using(crate::proofs::Saving::own_desk, crate::proofs::Settled::finds_no_more, crate::proofs::Settled::kept_alone))]
     fn load(&mut self, alloc: Global) -> Result<(Stored, Log), LoadFault> {
         if self.failures == u64::MAX {
             return Err(LoadFault::Damaged);
@@ -177,12 +183,19 @@ impl<S: Alter> Keeper for SqlKeeper<S> {
     }
 
     ghost alone = { λ k s log honest kept.
-        alone (state (S.Store.own) k.conn) k.home s log ((S.Store).settled k.conn.store)
-        ((S.Store).stays k.conn.store) kept.3 };
+        alone_after (state (S.Store.own) k.conn) k.home k.len k.changes.items s log
+        ((S.Store).settled k.conn.store) ((S.Store).stays k.conn.store) kept.2 };
 
-    ghost ranges = { λ k s log kept. kept.2 };
+    ghost ranges = { λ k s log kept. kept.1 };
 
     ghost works = { λ k s log kept. kept.0 };
+
+    ghost rests = { λ k s log settled found. (
+      s,
+      log,
+      found,
+      leads_nowhere k.changes.items s log settled,
+    ) };
 }
 
 impl<S: Alter + Drop> SqlKeeper<S> {
@@ -211,6 +224,7 @@ impl<S: Alter + Drop> SqlKeeper<S> {
         ensures home { IfOk result
             (λ k. ⟦<SqlKeeper<S> as Keeper>⟧.home_of k ≡ home_at hall desk desks) }
         ensures failures { IfOk result (λ k. ⟦<SqlKeeper<S> as Keeper>⟧.failures_of k ≡ 0) }
+        ensures settled { IfOk result (λ k. ⟦<SqlKeeper<S> as Keeper>⟧.is_settled k) }
         ensures opened { IfOk result (λ k. ⟦<SqlKeeper<S> as Keeper>⟧.is_honest k
             → Opens (home_at hall desk desks) (state S.Store conn)
             (⟦<SqlKeeper<S> as Keeper>⟧.keeps k)) }
@@ -239,6 +253,7 @@ impl<S: Alter + Drop> SqlKeeper<S> {
         ensures home { IfOk result
             (λ k. ⟦<SqlKeeper<S> as Keeper>⟧.home_of k ≡ home_at hall desk desks) }
         ensures failures { IfOk result (λ k. ⟦<SqlKeeper<S> as Keeper>⟧.failures_of k ≡ 0) }
+        ensures settled { IfOk result (λ k. ⟦<SqlKeeper<S> as Keeper>⟧.is_settled k) }
         ensures opened { IfOk result (λ k. ⟦<SqlKeeper<S> as Keeper>⟧.is_honest k
             → Opens (home_at hall desk desks) (state S.Store conn)
             (⟦<SqlKeeper<S> as Keeper>⟧.keeps k)) }
@@ -248,11 +263,13 @@ impl<S: Alter + Drop> SqlKeeper<S> {
         let home = Home { hall, desk, desks };
         match prepare(&mut conn, alloc, home) {
             Ok(len) => Ok(SqlKeeper {
+                alloc,
                 conn,
                 home,
                 len,
                 failures: 0,
                 down: false,
+                changes: Vec::new(alloc),
             }),
             Err(fault) => Err((fault, conn)),
         }
@@ -260,25 +277,28 @@ impl<S: Alter + Drop> SqlKeeper<S> {
 }
 
 impl<S: Alter> SqlKeeper<S> {
-    /// The connection, with what the keeper has kept.
+    /// The connection, with what the keeper has kept, but for changes that wait: they are lost.
     pub fn into_connection(self) -> Connection<S>
         ensures honest { HasCleanDisk (state S.Store result)
             → ⟦<SqlKeeper<S> as Keeper>⟧.is_honest self }
-        ensures kept { (s : State) (log : List EntryValue)
-            → ⟦<SqlKeeper<S> as Keeper>⟧.keeps self s log
-            → Keeps (⟦<SqlKeeper<S> as Keeper>⟧.home_of self) s log (state S.Store result) }
+        ensures kept { ⟦<SqlKeeper<S> as Keeper>⟧.is_settled self
+            → StaysKept (⟦<SqlKeeper<S> as Keeper>⟧.keeps self)
+            (λ s log. Keeps (⟦<SqlKeeper<S> as Keeper>⟧.home_of self) s log
+            (state S.Store result)) }
         ensures left { (s : State) (log : List EntryValue)
             → MayLeave (state S.Store result) (⟦<SqlKeeper<S> as Keeper>⟧.home_of self) s log
-            → ⟦<SqlKeeper<S> as Keeper>⟧.may_hold self s log }
+            → ⟦<SqlKeeper<S> as Keeper>⟧.finds self s log }
         ensures whole { MayBreak (state S.Store result) (⟦<SqlKeeper<S> as Keeper>⟧.home_of self)
             → ⟦<SqlKeeper<S> as Keeper>⟧.may_break self }
     {
         let SqlKeeper {
+            alloc: _,
             conn: connection,
             home: _,
             len: _,
             failures: _,
             down: _,
+            changes: _,
         } = self;
         connection
     }

@@ -5,9 +5,9 @@ use Rattle.std.specs.declared.alloc.AllocError.{AllocError}
 use Rattle.acceptor.specs.declared.entry.Entry.{Entry}
 use Rattle.http.specs.declared.request.Request.{Request}
 use Rattle.outbox.specs.Items.{ItemsOf}
-use Rattle.table_views.specs.declared.around.Around.{Around}
+use Rattle.table_views.specs.declared.around.PageContext.{PageContext}
 use Rattle.table_views.specs.declared.around.Recent.{Recent}
-use Rattle.table_service.specs.declared.plan.Plan.{Plan}
+use Rattle.table_service.specs.declared.plan.RequestPlan.{RequestPlan}
 use Rattle.table_service.specs.declared.plan.Problem.TheVariants as problem
 use Rattle.table_service.specs.Gate.{is_own}
 use Rattle.table_service.specs.Recents.{AreRecent}
@@ -25,26 +25,26 @@ own_seen hosts seen same s is request asked own answers so =
     ∙ ap (λ (hs : List (List ℕ)). is_own hs request) (ap (map string_bytes) same ∙ is))
     ∙ so
 
-pub foreign_planned : (s : ServiceOf) (request : Request (List ℕ)) (plan : Plan)
+pub foreign_planned : (s : ServiceOf) (request : Request (List ℕ)) (plan : RequestPlan)
     → is_own s.hosts request ≡ false → plan ≡ refuses problem.Foreign → Plans s request plan
 foreign_planned s request plan not-so is =
     subst (λ (b : Bool). PlansIf s request b plan) (sym not-so) is
 
 module _ (s : ServiceOf) (request : Request (List ℕ)) (so : is_own s.hosts request ≡ true) where
-  pub busy_planned : (plan : Plan) → slice_get s.ids 0 ≡ None → plan ≡ refuses problem.Busy
+  pub busy_planned : (plan : RequestPlan) → slice_get s.ids 0 ≡ None → plan ≡ refuses problem.Busy
       → Plans s request plan
   busy_planned plan none is =
       subst (λ (b : Bool). PlansIf s request b plan) (sym so)
       (subst (λ (o : Option (List ℕ)). PlansWith s request o plan) (sym none) is)
 
-  own_planned : (set : List ℕ) → slice_get s.ids 0 ≡ Some set → (plan : Plan)
+  own_planned : (set : List ℕ) → slice_get s.ids 0 ≡ Some set → (plan : RequestPlan)
       → PlansAround s set request plan → Plans s request plan
   own_planned set some plan is =
       subst (λ (b : Bool). PlansIf s request b plan) (sym so)
       (subst (λ (o : Option (List ℕ)). PlansWith s request o plan) (sym some) is)
 
   pub all_planned : (set : List ℕ) → slice_get s.ids 0 ≡ Some set
-      → (r : Result Plan AllocError) → IfOk r (PlansAround s set request)
+      → (r : Result RequestPlan AllocError) → IfOk r (PlansAround s set request)
       → IfOk r (Plans s request)
   all_planned set some (Ok plan) is = own_planned set some plan is
   all_planned set some (Err error) is = tt
@@ -57,8 +57,9 @@ recent_seen log held q list recents shown same_log same_list same are =
     (subst (λ (p : ItemsOf). AreRecent log p shown) same_list
     (subst (λ (rs : List Recent). AreRecent log q rs) (sym same) are))
 
-pub around_planned : (s : ServiceOf) (set : List ℕ) (request : Request (List ℕ)) (around : Around)
-    (title : List ℕ) (q : ItemsOf) (r : Result Plan AllocError)
+pub around_planned : (s : ServiceOf) (set : List ℕ) (request : Request (List ℕ))
+    (around : PageContext)
+    (title : List ℕ) (q : ItemsOf) (r : Result RequestPlan AllocError)
     → IfOk r (PlansOwn around title q request) → IsAround s set request around → title ≡ s.title
     → q ≡ s.outbox.list → IfOk r (PlansAround s set request)
 around_planned s set request around title q (Ok plan) plans is named same = record {

@@ -12,7 +12,7 @@ use Rattle.outbox.specs.Lines.{HallOf}
 use Rattle.outbox.specs.Outboxes.{AnswersIf, OutboxOf, with_list}
 use Rattle.table_service.specs.declared.plan.Effect.{Effect}
 use Rattle.table_service.specs.declared.plan.Effect.TheVariants as effect
-use Rattle.table_service.specs.declared.plan.Plan.{Plan}
+use Rattle.table_service.specs.declared.plan.RequestPlan.{RequestPlan}
 use Rattle.table_service.specs.Disks.{IsSynced, lines_in, with_kept}
 use Rattle.table_service.specs.Services.{Answers, AnswersIt, AnswersKept, DoesAs, IsTakenAgain}
 use Rattle.table_service.specs.Services.{KeepsList, LeavesAll, ServiceOf, TakesAgain, TakesAll}
@@ -136,7 +136,8 @@ module _ (hall : HallOf) where
                 (single last.call (world (with_list old.outbox list) file) end last.lead);
           }
 
-      again_kept : (of : ℕ) (plan : Plan) (r : Response) → IsTakenAgain list of plan old r new
+      again_kept : (of : ℕ) (plan : RequestPlan) (r : Response)
+          → IsTakenAgain list of plan old r new
           → IsCalled hall file old new
       again_kept of plan r a =
           let mid : IsKeptBy file (with_list old.outbox list) a.kept =
@@ -160,7 +161,7 @@ module _ (hall : HallOf) where
         (ap (λ (s : ServiceOf). s.file) left.1)
     none_lead entries (inr tried) = kept_lead entries tried.0 tried.1 false tried.2
 
-    module _ (plan : Plan) (r : Response) where
+    module _ (plan : RequestPlan) (r : Response) where
       take_lead : (entries : List Entry) → TakesThem entries plan old r new
           → IsCalled hall file old new
       take_lead entries (inl none) = none_lead entries none.0
@@ -171,7 +172,7 @@ module _ (hall : HallOf) where
       again_lead entry of (inl none) = none_lead (entry ∷ []) none.0
       again_lead entry of (inr is) = again_kept (entry ∷ []) is.0 is.1 of plan r is.2
 
-    does_lead : (plan : Plan) (r : Response) (what : Effect) → DoesAs what plan old r new
+    does_lead : (plan : RequestPlan) (r : Response) (what : Effect) → DoesAs what plan old r new
         → IsCalled hall file old new
     does_lead plan r effect.Nothing does =
         nothing_called file old new is synced (ap (λ (s : ServiceOf). s.outbox) does.0)

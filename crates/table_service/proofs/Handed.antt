@@ -1,16 +1,16 @@
 -- What is under way keeps its items, whatever its dialogue with a desk comes to.
 use Rattle.std.proofs.Common.{◌≡◌, ◌∙◌, ◌==◌, ◌∷◌, [], Bool, true, false, ℕ, List, ap}
-use Rattle.wire.specs.declared.frame.What.{What}
-use Rattle.wire.specs.declared.frame.What.TheVariants as what
+use Rattle.wire.specs.declared.frame.FrameBody.{FrameBody}
+use Rattle.wire.specs.declared.frame.FrameBody.TheVariants as what
 use Rattle.desk_talks.specs.Dialogues.{Act, Call, CallsLead, Hear, Lost, Opened, Reaches, Sent}
-use Rattle.desk_talks.specs.declared.dialogue.Came.{Came}
-use Rattle.desk_talks.specs.declared.dialogue.Wish.{Wish}
-use Rattle.desk_talks.specs.declared.dialogue.Wish.TheVariants as wish
-use Rattle.desk_talks.specs.declared.line.Due.{Due}
-use Rattle.desk_talks.specs.declared.line.Due.TheVariants as due
-use Rattle.desk_talks.specs.declared.talk.Heard.{Heard}
-use Rattle.desk_talks.specs.declared.talk.Heard.TheVariants as heard
-use Rattle.desk_talks.specs.Lines.{due_of}
+use Rattle.desk_talks.specs.declared.dialogue.ReceiveOutcome.{ReceiveOutcome}
+use Rattle.desk_talks.specs.declared.dialogue.DialogueAction.{DialogueAction}
+use Rattle.desk_talks.specs.declared.dialogue.DialogueAction.TheVariants as wish
+use Rattle.desk_talks.specs.declared.kept_connection.DueAction.{DueAction}
+use Rattle.desk_talks.specs.declared.kept_connection.DueAction.TheVariants as due
+use Rattle.desk_talks.specs.declared.exchange.AnswerOutcome.{AnswerOutcome}
+use Rattle.desk_talks.specs.declared.exchange.AnswerOutcome.TheVariants as heard
+use Rattle.desk_talks.specs.KeptConnections.{due_of}
 use Rattle.outbox.specs.declared.item.Item.{Item}
 use Rattle.outbox.specs.Outboxes.{ActsAt, ActsBy, Asks, AsksIf, AsksNext, DialogueLeads, Follows}
 use Rattle.outbox.specs.Outboxes.{FollowsAnswer, OpensIf, OutboxOf, is_left, kept_from, skipped}
@@ -27,24 +27,27 @@ next_asked : (left : List (ℕ × Item)) (now : ℕ) (old new : OutboxOf) → As
 next_asked [] now old new none = absurd none
 next_asked (pair ∷ more) now old new (line, asks, e) = is_same (with_line old line) new e
 
-asked : (w : Wish) (now : ℕ) (old new : OutboxOf) → Asks w now old new → Stays old new
+asked : (w : DialogueAction) (now : ℕ) (old new : OutboxOf) → Asks w now old new → Stays old new
 asked wish.Write now old new asks = next_asked (kept_from old.list old.next) now old new asks
 asked wish.Close now old new e = is_same _ new e
 asked wish.Rest now old new none = absurd none
 asked (wish.Open d) now old new none = absurd none
 asked wish.Stop now old new none = absurd none
 
-asked_if : (left : Bool) (w : Wish) (now : ℕ) (old new : OutboxOf) → AsksIf left w now old new
+asked_if : (left : Bool) (w : DialogueAction) (now : ℕ) (old new : OutboxOf)
+    → AsksIf left w now old new
     → Stays old new
 asked_if true w now old new asks = asked w now old new asks
 asked_if false w now old new (is, e) = is_same old new e
 
-opened_if : (left : Bool) (w : Wish) (now : ℕ) (old new : OutboxOf) → OpensIf left w now old new
+opened_if : (left : Bool) (w : DialogueAction) (now : ℕ) (old new : OutboxOf)
+    → OpensIf left w now old new
     → Stays old new
 opened_if true w now old new (is, e) = is_same _ new e
 opened_if false w now old new (is, e) = is_same old new e
 
-acted_by : (is : Due) (w : Wish) (now : ℕ) (old new : OutboxOf) → ActsBy is w now old new
+acted_by : (is : DueAction) (w : DialogueAction) (now : ℕ) (old new : OutboxOf)
+    → ActsBy is w now old new
     → Stays old new
 acted_by due.Rest w now old new (is, e) = is_same old new e
 acted_by due.Open w now old new acts =
@@ -54,17 +57,19 @@ acted_by due.Ask w now old new acts =
 acted_by due.Close w now old new (is, e) = is_same _ new e
 acted_by due.Renew w now old new (is, e) = is_same _ new e
 
-acted : (stays : Bool) (w : Wish) (now : ℕ) (old new : OutboxOf) → ActsAt stays w now old new
+acted : (stays : Bool) (w : DialogueAction) (now : ℕ) (old new : OutboxOf)
+    → ActsAt stays w now old new
     → Stays old new
 acted true w now old new acts = acted_by (due_of old.line now) w now old new acts
 acted false w now old new (is, e) = is_same _ new e
 
-answered : (answer : What) (c : Came) (old new : OutboxOf) → FollowsAnswer answer c old new
+answered : (answer : FrameBody) (c : ReceiveOutcome) (old new : OutboxOf)
+    → FollowsAnswer answer c old new
     → Stays old new
 answered (what.Taken id) c old new (is, e) = is_same _ new e
 answered _ c old new (is, e) = is_same _ new e
 
-heard_so : (told : Heard) (c : Came) (old new : OutboxOf) → Follows told c old new
+heard_so : (told : AnswerOutcome) (c : ReceiveOutcome) (old new : OutboxOf) → Follows told c old new
     → Stays old new
 heard_so heard.Waits c old new (is, e) = is_same old new e
 heard_so (heard.Answer answer) c old new follows = answered answer c old new follows

@@ -15,16 +15,16 @@ use Rattle.command_lists.specs.declared.file.FileLines.TheVariants as file
 use Rattle.command_lists.specs.Answered.{first_refusal}
 use Rattle.command_lists.specs.Files.{IsOfFile}
 use Rattle.command_lists.specs.Lists.{AreUnfit, IsReadFrom}
-use Rattle.hall_views.specs.Refused.{faults_page}
+use Rattle.table_hall_views.specs.Refused.{faults_page}
 use Rattle.outbox.specs.Items.{ItemsOf}
 use Rattle.wcif.specs.declared.file.FileFault.{FileFault}
 use Rattle.wcif.specs.declared.options.Options.{Options}
-use Rattle.table_views.specs.declared.around.Around.{Around}
+use Rattle.table_views.specs.declared.around.PageContext.{PageContext}
 use Rattle.table_service.specs.declared.plan.Effect.TheVariants as effect
-use Rattle.table_service.specs.declared.plan.Plan.{Plan}
-use Rattle.table_service.specs.declared.plan.Reply.TheVariants as reply
-use Rattle.table_service.specs.declared.plan.Shown.{Shown}
-use Rattle.table_service.specs.declared.plan.Shown.TheVariants as shown
+use Rattle.table_service.specs.declared.plan.RequestPlan.{RequestPlan}
+use Rattle.table_service.specs.declared.plan.PageReply.TheVariants as reply
+use Rattle.table_service.specs.declared.plan.PageStatus.{PageStatus}
+use Rattle.table_service.specs.declared.plan.PageStatus.TheVariants as shown
 use Rattle.table_service.specs.Imports.{PlansCarried, PlansFile, PlansParts, content_of}
 use Rattle.table_service.specs.Imports.{options_of}
 use Rattle.table_service.specs.Lists.{LooksAt, PlansAsked, PlansLines, answered, unfit_words}
@@ -34,17 +34,17 @@ use Rattle.table_service.specs.Replying.{ShowsPage}
 use Rattle.table_service.specs.Taking.{PlansEntries}
 
 -- a page that is sent
-pub page_shown : (status : Shown) (text : List ℕ) (page : Vec ℕ Global) (plan : Plan)
+pub page_shown : (status : PageStatus) (text : List ℕ) (page : Vec ℕ Global) (plan : RequestPlan)
     → page.items ≡ text
     → plan ≡ record { reply = reply.Html status page; effect = effect.Ids }
     → ShowsPage status text plan
 page_shown status text page plan is made =
-    subst (λ (p : Plan). ShowsPage status text p) (sym made) ((refl, is), refl)
+    subst (λ (p : RequestPlan). ShowsPage status text p) (sym made) ((refl, is), refl)
 
 -- the page says which field is wrong, and why
-pub is_wrong : (around : Around) (pairs : List Pair) (it : Said) → AsksNone pairs it
+pub is_wrong : (around : PageContext) (pairs : List Pair) (it : Said) → AsksNone pairs it
     → (back words : List ℕ) → back ≡ page_after pairs → words ≡ said_words it
-    → (r : Result Plan AllocError) → IfOk r (RefusesWith around back words)
+    → (r : Result RequestPlan AllocError) → IfOk r (RefusesWith around back words)
     → IfOk r (IsWrong around pairs)
 is_wrong around pairs it none back words same says (Ok plan) wrong = (
   it,
@@ -55,15 +55,15 @@ is_wrong around pairs it none back words same says (Ok plan) wrong = (
 is_wrong around pairs it none back words same says (Err error) wrong = tt
 
 -- entries are taken at a place, by what both are
-pub taken_at : (q : ItemsOf) (around : Around) (at place : List ℕ) → at ≡ place
-    → (given entries : List Entry) → given ≡ entries → (r : Result Plan AllocError)
+pub taken_at : (q : ItemsOf) (around : PageContext) (at place : List ℕ) → at ≡ place
+    → (given entries : List Entry) → given ≡ entries → (r : Result RequestPlan AllocError)
     → IfOk r (PlansEntries q around at given) → IfOk r (PlansEntries q around place entries)
 taken_at q around at place same given entries are (Ok plan) plans =
     subst (λ (es : List Entry). PlansEntries q around place es plan) are
     (subst (λ (back : List ℕ). PlansEntries q around back given plan) same plans)
 taken_at q around at place same given entries are (Err error) plans = tt
 
-module _ (around : Around) (q : ItemsOf) (pairs : List Pair) (id : ℕ) where
+module _ (around : PageContext) (q : ItemsOf) (pairs : List Pair) (id : ℕ) where
   -- the first of them is known, or all would be accepted
   abbrev goes_on : List (List ℕ) → Bool
   goes_on texts = is_known q id || would_be_done around.mirror.now id texts
@@ -72,7 +72,7 @@ module _ (around : Around) (q : ItemsOf) (pairs : List Pair) (id : ℕ) where
   pub goes : (texts : List (List ℕ)) → goes_on texts ≡ true → (place : List ℕ)
       → place ≡ page_after pairs → (entries : List Entry)
       → entries ≡ command_entries id (map (noted (remark_in around)) texts)
-      → (r : Result Plan AllocError) → IfOk r (PlansEntries q around place entries)
+      → (r : Result RequestPlan AllocError) → IfOk r (PlansEntries q around place entries)
       → IfOk r (PlansAsked around q pairs id texts (goes_on texts))
   goes texts is place same entries are (Ok plan) plans =
       subst (λ (b : Bool). PlansAsked around q pairs id texts b plan) (sym is)
@@ -84,7 +84,7 @@ module _ (around : Around) (q : ItemsOf) (pairs : List Pair) (id : ℕ) where
     -- not all commands would be accepted
     pub not_done : (texts : List (List ℕ)) → goes_on texts ≡ false → (why : List ℕ)
         → why ≡ first_refusal texts (answered around.mirror.now id texts)
-        → (r : Result Plan AllocError) → IfOk r (RefusesWith around back why)
+        → (r : Result RequestPlan AllocError) → IfOk r (RefusesWith around back why)
         → IfOk r (PlansAsked around q pairs id texts (goes_on texts))
     not_done texts is why says (Ok plan) wrong =
         subst (λ (b : Bool). PlansAsked around q pairs id texts b plan) (sym is)
@@ -95,7 +95,7 @@ module _ (around : Around) (q : ItemsOf) (pairs : List Pair) (id : ℕ) where
     -- the lines have no commands that can be sent together
     pub none_read : (lines : List ℕ) → lines ≡ value_of (codes "lines") pairs
         → (texts : Option (List (List ℕ))) → texts ≡ None → IsReadFrom lines texts
-        → (r : Result Plan AllocError) → IfOk r (RefusesWith around back unfit_words)
+        → (r : Result RequestPlan AllocError) → IfOk r (RefusesWith around back unfit_words)
         → IfOk r (PlansLines around q pairs id)
     none_read lines of texts is read (Ok plan) wrong =
         inl (
@@ -105,11 +105,11 @@ module _ (around : Around) (q : ItemsOf) (pairs : List Pair) (id : ℕ) where
         )
     none_read lines of texts is read (Err error) wrong = tt
 
-module _ (around : Around) (options : Options) (bytes : List ℕ) (found : FileLines)
+module _ (around : PageContext) (options : Options) (bytes : List ℕ) (found : FileLines)
     (of : IsOfFile options bytes found) where
   -- the file's commands are looked at
   pub file_looked : (printed : Vec ℕ Global) → found ≡ file.Lines printed → (text : List ℕ)
-      → text ≡ printed.items → (r : Result Plan AllocError)
+      → text ≡ printed.items → (r : Result RequestPlan AllocError)
       → IfOk r (LooksAt around (codes "/import") text) → IfOk r (PlansFile around options bytes)
   file_looked printed is text same (Ok plan) looks =
       let so : IsOfFile options bytes (file.Lines printed) =
@@ -120,7 +120,7 @@ module _ (around : Around) (options : Options) (bytes : List ℕ) (found : FileL
 
   -- the file gives none
   pub file_refused : (fault : FileFault) (words : Vec ℕ Global) → found ≡ file.Refused fault words
-      → (said : List ℕ) (plan : Plan)
+      → (said : List ℕ) (plan : RequestPlan)
       → ShowsPage shown.Wrong (faults_page around (codes "/import") said) plan
       → PlansFile around options bytes plan
   file_refused fault words is said plan shows =
@@ -129,11 +129,11 @@ module _ (around : Around) (options : Options) (bytes : List ℕ) (found : FileL
       inr (fault, so, said, shows)
 
 -- a form with a file that carries the token
-pub file_carried : (around : Around) (parts : List (List ℕ × List ℕ)) (token : List ℕ)
+pub file_carried : (around : PageContext) (parts : List (List ℕ × List ℕ)) (token : List ℕ)
     → token ≡ content_of (codes "token") parts → (carries : Bool)
     → carries ≡ bytes_eq token around.token.now → carries ≡ true → (options : Options)
     → options ≡ options_of parts → (file : List ℕ) → file ≡ content_of (codes "file") parts
-    → (r : Result Plan AllocError) → IfOk r (PlansFile around options file)
+    → (r : Result RequestPlan AllocError) → IfOk r (PlansFile around options file)
     → IfOk r (PlansParts around parts)
 file_carried around parts token is carries same so options read file content (Ok plan) plans =
     let carried : bytes_eq (content_of (codes "token") parts) around.token.now ≡ true =

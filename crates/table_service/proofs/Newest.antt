@@ -5,7 +5,7 @@ use Rattle.std.proofs.lemmas.List.{at_drop_all, at_drop_more, get_or-reverse, le
 use Rattle.std.proofs.lemmas.Option.{get_or_from_slice_get}
 use Rattle.acceptor.specs.declared.entry.Entry.{Entry}
 use Rattle.outbox.specs.declared.item.Item.{Item}
-use Rattle.outbox.specs.declared.state.State.{State}
+use Rattle.outbox.specs.declared.state.ItemState.{ItemState}
 use Rattle.outbox.specs.Items.{ItemsOf, is_answered}
 use Rattle.outbox.specs.States.{state_of}
 use Rattle.table_service.specs.Recents.{is_shown, left_after, recent_from, shown_if}
@@ -13,7 +13,7 @@ use Rattle.table_service.proofs.Walks.{added, ended}
 
 module _ (log : List Entry) (list : ItemsOf) where
   -- what is shown of the items from the one at a place on, counted from the newest
-  abbrev pub still : ℕ → ℕ → List (Item × State)
+  abbrev pub still : ℕ → ℕ → List (Item × ItemState)
   still left k = recent_from log list left (drop k (reverse list.items))
 
   next_of : (left k id : ℕ) (item : Item) → k < length list.items
@@ -33,8 +33,8 @@ module _ (log : List Entry) (list : ItemsOf) where
       ∙ get_or_from_slice_get list.items (length list.items - 1 - k) (id, item) (id, item)
       (sym is))
 
-  pub shown_more : (left k id : ℕ) (item : Item) (became : State) (answered shows : Bool)
-      (next : ℕ) (old new all : List (Item × State)) → k < length list.items
+  pub shown_more : (left k id : ℕ) (item : Item) (became : ItemState) (answered shows : Bool)
+      (next : ℕ) (old new all : List (Item × ItemState)) → k < length list.items
       → Some (id, item) ≡ slice_get list.items (length list.items - 1 - k)
       → became ≡ state_of log item.entry → answered ≡ is_answered list id
       → shows ≡ is_shown became answered left → next ≡ left_after became left
@@ -52,14 +52,14 @@ module _ (log : List Entry) (list : ItemsOf) where
       shown_if (is_shown became (is_answered list id) left) item became ++ still n (k + 1))
       next_is
       ∙ ap
-      (λ (s : State).
+      (λ (s : ItemState).
       shown_if (is_shown s (is_answered list id) left) item s
       ++ still (left_after s left) (k + 1))
       state_is) in
       added old new (shown_if shows item became) (still next (k + 1)) (still left k) all adds more
       before
 
-  pub shown_all : (left k : ℕ) (new all : List (Item × State)) → length list.items ≤ k
+  pub shown_all : (left k : ℕ) (new all : List (Item × ItemState)) → length list.items ≤ k
       → new ++ still left k ≡ all → new ≡ all
   shown_all left k new all past before =
       let size = length-reverse list.items in

@@ -14,28 +14,28 @@ use Rattle.card_forms.specs.Entries.{card_entry, card_in, command_entries, entry
 use Rattle.card_forms.specs.Pairs.{value_of}
 use Rattle.card_forms.specs.Readings.{IsReadAs}
 use Rattle.card_forms.specs.Remarks.{is_same_but_remark, noted}
-use Rattle.entry_views.specs.declared.notes.Note.{Note}
+use Rattle.table_entry_views.specs.declared.notes.CardNote.{CardNote}
 use Rattle.form_data.specs.Bodies.{parts_of}
 use Rattle.wcif.specs.Lines as printed
 use Rattle.command_lists.specs.Lists.{texts_in}
 use Rattle.outbox.specs.declared.item.Item.{Item}
 use Rattle.outbox.specs.Items.{ItemsOf, item_in}
 use Rattle.outbox.specs.Outboxes.{may_answer}
-use Rattle.table_views.specs.declared.around.Around.{Around}
+use Rattle.table_views.specs.declared.around.PageContext.{PageContext}
 use Rattle.table_views.specs.Editions.{is_latest}
 use Rattle.table_views.specs.Logs.{accepted_in}
 use Rattle.texts.specs.declared.command.CardEntry.{CardEntry}
 use Rattle.texts.specs.Fields.{enters_later, was_of}
 use Rattle.table_service.specs.declared.plan.Effect.{Effect}
 use Rattle.table_service.specs.declared.plan.Effect.TheVariants as effect
-use Rattle.table_service.specs.declared.plan.Plan.{Plan}
+use Rattle.table_service.specs.declared.plan.RequestPlan.{RequestPlan}
 use Rattle.table_service.specs.declared.plan.Problem.{Problem}
 use Rattle.table_service.specs.declared.plan.Problem.TheVariants as problem
-use Rattle.table_service.specs.declared.plan.Reply.{Reply}
-use Rattle.table_service.specs.declared.plan.Reply.TheVariants as reply
-use Rattle.table_service.specs.declared.plan.Shown.{Shown}
-use Rattle.table_service.specs.declared.reading.Asked.{Asked}
-use Rattle.table_service.specs.declared.reading.Asked.TheVariants as asked
+use Rattle.table_service.specs.declared.plan.PageReply.{PageReply}
+use Rattle.table_service.specs.declared.plan.PageReply.TheVariants as reply
+use Rattle.table_service.specs.declared.plan.PageStatus.{PageStatus}
+use Rattle.table_service.specs.declared.reading.Resource.{Resource}
+use Rattle.table_service.specs.declared.reading.Resource.TheVariants as asked
 use Rattle.table_service.specs.Answering.{PlansAgainCard, PlansAgainEntry, PlansAgainId}
 use Rattle.table_service.specs.Answering.{PlansAgainIf, PlansAgainItem, PlansAnsweredId}
 use Rattle.table_service.specs.Answering.{PlansAnsweredItem, PlansLeaving, again_entry, card_over}
@@ -65,7 +65,7 @@ use Rattle.table_service.specs.Taking.{last_id, other_by, other_in, place_after,
 use Rattle.table_service.specs.Taking.{sent_as}
 
 -- the browser is sent on
-abbrev pub GoesOn : Reply → Type 0
+abbrev pub GoesOn : PageReply → Type 0
 GoesOn answer = (location : List ℕ) × GoesTo location answer
 
 -- an id is not known that is known neither with the text of an entry nor with another one
@@ -87,7 +87,8 @@ is_unknown q entry unsent others = unknown_by (item_in q entry.id) entry unsent 
 
 -- entries that are taken are what the pairs at a path ask for, with this remark of a card, the
 -- browser is sent on, and so much holds besides
-abbrev pub FoundBy : Type 0 → List Entry → ItemsOf → List ℕ → List Pair → List ℕ → Reply → Effect
+abbrev pub FoundBy : Type 0 → List Entry → ItemsOf → List ℕ → List Pair → List ℕ → PageReply
+    → Effect
     → Type 0
 FoundBy More log q path pairs remark answer effect.Nothing = Unit {0}
 FoundBy More log q path pairs remark answer effect.Ids = Unit {0}
@@ -98,17 +99,17 @@ FoundBy More log q path pairs remark answer (effect.Again entry of) =
 FoundBy More log q path pairs remark answer (effect.Answer of) = Unit {0}
 
 module _ (More : Type 0) (log : List Entry) (q : ItemsOf) (path : List ℕ) (pairs : List Pair)
-    (remark : List ℕ) (plan : Plan) where
+    (remark : List ℕ) (plan : RequestPlan) where
   abbrev Found : Type 0
   Found = FoundBy More log q path pairs remark plan.reply plan.effect
 
   refused : (why : Problem) → plan ≡ refuses why → Found
   refused why is =
-      subst (λ (p : Plan). FoundBy More log q path pairs remark p.reply p.effect) (sym is) tt
+      subst (λ (p : RequestPlan). FoundBy More log q path pairs remark p.reply p.effect) (sym is) tt
 
-  shown : (answer : Reply) → plan ≡ shows answer → Found
+  shown : (answer : PageReply) → plan ≡ shows answer → Found
   shown answer is =
-      subst (λ (p : Plan). FoundBy More log q path pairs remark p.reply p.effect) (sym is) tt
+      subst (λ (p : RequestPlan). FoundBy More log q path pairs remark p.reply p.effect) (sym is) tt
 
   nothing : plan.effect ≡ effect.Nothing → Found
   nothing is = subst (λ (e : Effect). FoundBy More log q path pairs remark plan.reply e) (sym is) tt
@@ -120,41 +121,41 @@ module _ (More : Type 0) (log : List Entry) (q : ItemsOf) (path : List ℕ) (pai
   answered of is =
       subst (λ (e : Effect). FoundBy More log q path pairs remark plan.reply e) (sym is) tt
 
-  page : (status : Shown) (is : Option (List ℕ)) → ShowsAs status is plan → Found
+  page : (status : PageStatus) (is : Option (List ℕ)) → ShowsAs status is plan → Found
   page status None is = refused problem.NotFound is
   page status (Some text) is = ids is.1
 
-  view : (around : Around) (title : List ℕ) (what : Option Asked)
+  view : (around : PageContext) (title : List ℕ) (what : Option Resource)
       → ShowsView q around title what plan → Found
   view around title None is = refused problem.NotFound is
   view around title (Some asked.Style) is = shown reply.Style is
   view around title (Some asked.Script) is = shown reply.Script is
   view around title (Some (asked.Page what)) is = page _ is.0 is.2
 
-  -- looking at lines, or at a competition's file, takes nothing
-  looked : (around : Around) (back lines : List ℕ) → LooksAt around back lines plan → Found
+  -- looking at lines, or at a competition's file, accepts nothing
+  looked : (around : PageContext) (back lines : List ℕ) → LooksAt around back lines plan → Found
   looked around back lines (inl unfit) = ids unfit.1.1
   looked around back lines (inr is) = ids is.2.shows.1
 
-  file : (around : Around) (parts : List (List ℕ × List ℕ)) (carries : Bool)
+  file : (around : PageContext) (parts : List (List ℕ × List ℕ)) (carries : Bool)
       → PlansCarried around parts carries plan → Found
   file around parts false plans = refused problem.Foreign plans
   file around parts true (inl looks) =
       looked around (codes "/import") (printed.lines looks.0) looks.2
   file around parts true (inr faults) = ids faults.3.1
 
-  parts_if : (around : Around) (parts : Option (List (List ℕ × List ℕ)))
+  parts_if : (around : PageContext) (parts : Option (List (List ℕ × List ℕ)))
       → PlansPartsIf around parts plan → Found
   parts_if around None plans = refused problem.BadForm plans
   parts_if around (Some parts) plans =
       file around parts (bytes_eq (content_of (codes "token") parts) around.token.now) plans
 
-  body : (around : Around) (bytes : List ℕ) (boundary : Option (List ℕ))
+  body : (around : PageContext) (bytes : List ℕ) (boundary : Option (List ℕ))
       → PlansBody around bytes boundary plan → Found
   body around bytes None plans = refused problem.BadForm plans
   body around bytes (Some boundary) plans = parts_if around (parts_of boundary bytes) plans
 
-  module _ (more : More) (around : Around) (same : around.mirror.now ≡ log)
+  module _ (more : More) (around : PageContext) (same : around.mirror.now ≡ log)
       (says : around.remark.now ≡ remark) where
     -- what holds beside the mirror's log holds beside this log
     by_log : (P : List Entry → Type 0) → P around.mirror.now → P log
@@ -193,14 +194,14 @@ module _ (More : Type 0) (log : List Entry) (q : ItemsOf) (path : List ℕ) (pai
 
     -- ---- a card
 
-    held : (form : CardForm) (notes : List Note) (status : Shown)
+    held : (form : CardForm) (notes : List CardNote) (status : PageStatus)
         → HoldsCard q around form notes status plan → Found
     held form notes status holds = page status holds.page holds.shows
 
     module _ (at : path ≡ codes "/card")
         (latest : is_latest (accepted_in around.mirror.now) ≡ true) (form : CardForm)
         (sent : card_form_of pairs ≡ Ok form) where
-      abbrev notes_of : CardEntry → List Note
+      abbrev notes_of : CardEntry → List CardNote
       notes_of card = doubts (accepted_in around.mirror.now) card
 
       module _ (card : CardEntry) (read : IsReadAs form card) (entry : Entry)
@@ -343,7 +344,7 @@ module _ (More : Type 0) (log : List Entry) (q : ItemsOf) (path : List ℕ) (pai
     list at None is plans = refused problem.BadForm plans
     list at (Some id) is plans = lines_asked at id is plans
 
-    -- ---- what was typed, over what stands now
+    -- ---- what was typed, over what counts now
 
     entry_of : (enters : Bool) (id : ℕ) (card : CardEntry) (was : List Value) (entry : Entry)
         → again_entry enters id card around.remark.now was ≡ Some entry
@@ -538,7 +539,7 @@ module _ (More : Type 0) (log : List Entry) (q : ItemsOf) (path : List ℕ) (pai
 
 -- ---- a request
 
-module _ (s : ServiceOf) (request : Request (List ℕ)) (plan : Plan) where
+module _ (s : ServiceOf) (request : Request (List ℕ)) (plan : RequestPlan) where
   abbrev remark : List ℕ
   remark = remark_of s.name s.clock
 
@@ -548,7 +549,7 @@ module _ (s : ServiceOf) (request : Request (List ℕ)) (plan : Plan) where
       (sent_pairs request) remark plan.reply plan.effect
 
   module _ (own : is_own s.hosts request ≡ true) where
-    module _ (set : List ℕ) (around : Around) (is : IsAround s set request around) where
+    module _ (set : List ℕ) (around : PageContext) (is : IsAround s set request around) where
       posted : is_post request ≡ true → (carries : Bool)
           → has_token around.token.now (sent_pairs request) ≡ carries
           → PlansPosted around s.outbox.list (path_of request) (sent_pairs request) carries plan

@@ -208,7 +208,7 @@ module _ (hall : HallOf) where
             c.went.lead;
       }
 
-  -- ---- what stands in the journal
+  -- ---- what is in the journal
 
   -- an item that is in the journal is in the list
   in_list : (q : ItemsOf) (id : ℕ) (item : Item) → item_in (taken_back q) id ≡ Some item

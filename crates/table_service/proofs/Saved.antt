@@ -1,4 +1,4 @@
--- A card that is told to be saved is in the log as it was typed, over what its page showed.
+-- A card that is reported as saved is in the log as it was typed, over what its page showed.
 use Rattle.std.proofs.Common.{◌≡◌, ◌∙◌, ◌+◌, ◌==◌, ◌&&◌, ◌++◌, ◌∷◌, [], Bool, true, false, ℕ, List}
 use Rattle.std.proofs.Common.{ap, cond, eq-eqb, eqb-true, find, map, Option, None, Some, option_map}
 use Rattle.std.proofs.Common.{refl, subst, sym, take, Result, Ok, Err}
@@ -19,8 +19,8 @@ use Rattle.formats.specs.Events.{event_number, same_event}
 use Rattle.outbox.specs.Cards.{AreSeen, SavedCardIsOverWhatWasSeen, SavedIsEntered, Says}
 use Rattle.outbox.specs.Laws.{IsSo, NeverByGuess}
 use Rattle.outbox.specs.States.{state_of}
-use Rattle.outbox.specs.declared.state.State.{State}
-use Rattle.outbox.specs.declared.state.State.TheVariants as state
+use Rattle.outbox.specs.declared.state.ItemState.{ItemState}
+use Rattle.outbox.specs.declared.state.ItemState.TheVariants as state
 use Rattle.rounds.specs.Tables.{Entrant, Table, changed, changed_of, entrant, has_number}
 use Rattle.table_views.specs.Logs.{accepted_in}
 use Rattle.table_views.specs.Standing.{values_of}
@@ -28,7 +28,7 @@ use Rattle.texts.specs.Reading.{command_of}
 use Rattle.texts.specs.declared.command.CardEntry.{CardEntry}
 use Rattle.texts.specs.declared.command.Command.{Command}
 use Rattle.texts.specs.declared.command.Command.TheVariants.{Card}
-use Rattle.texts.specs.declared.command.Remarked.{Remarked}
+use Rattle.texts.specs.declared.command.RemarkedCommand.{RemarkedCommand}
 use Rattle.texts.specs.declared.command.RoundId.{RoundId}
 use Rattle.texts.specs.declared.command.Settings.{Settings}
 use Rattle.texts.specs.declared.reading.CommandFault.{CommandFault}
@@ -146,9 +146,9 @@ module _ (before : List Command) (card : CardEntry) (seen : AreSeen before card)
     are = are;
   }
 
--- ---- what is told
+-- ---- what is reported
 
-says_by : (entry : Entry) (card : CardEntry) (r : Result Remarked CommandFault)
+says_by : (entry : Entry) (card : CardEntry) (r : Result RemarkedCommand CommandFault)
     → command_of entry.text ≡ r → card_told r ≡ Some card → Says entry (Card card)
 says_by entry card (Err why) reads is = absurd (cc)
 says_by entry card (Ok told) reads is =
@@ -164,7 +164,7 @@ stands_at log position entry there =
 pub saved_is_the_card : NeverByGuess → SavedCardIsOverWhatWasSeen → SavedIsTheCard
 saved_is_the_card told seen held log entry card position begins is saved =
     let so : IsSo log entry (state.Saved position) =
-    subst (λ (s : State). IsSo log entry s) saved (told held log entry begins) in (
+    subst (λ (s : ItemState). IsSo log entry s) saved (told held log entry begins) in (
       stands_at log position entry so.there,
       saved_over (accepted_in (take position log)) card
           (seen held log entry position card begins saved

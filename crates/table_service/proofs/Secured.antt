@@ -8,9 +8,9 @@ use Rattle.http_server.specs.declared.response.Response.{Response}
 use Rattle.http_server.specs.Response.{IsResponse}
 use Rattle.table_service.specs.declared.plan.Effect.{Effect}
 use Rattle.table_service.specs.declared.plan.Effect.TheVariants as effect
-use Rattle.table_service.specs.declared.plan.Plan.{Plan}
-use Rattle.table_service.specs.declared.plan.Reply.{Reply}
-use Rattle.table_service.specs.declared.plan.Reply.TheVariants as reply
+use Rattle.table_service.specs.declared.plan.RequestPlan.{RequestPlan}
+use Rattle.table_service.specs.declared.plan.PageReply.{PageReply}
+use Rattle.table_service.specs.declared.plan.PageReply.TheVariants as reply
 use Rattle.table_service.specs.Laws.{IsSecured}
 use Rattle.table_service.specs.Replies.{Writes, fields_with, security}
 use Rattle.table_service.specs.Services.{Answers, DoesAs, ServiceOf, TakesAgain, TakesThem}
@@ -19,7 +19,7 @@ secured_with : (code : ℕ) (field : Header) (content : List ℕ) (r : Response)
     → IsResponse code (fields_with field) content r → IsSecured r
 secured_with code field content r is = (field ∷ [], is.headers)
 
-secured_by : (answer : Reply) (r : Response) → Writes answer r → IsSecured r
+secured_by : (answer : PageReply) (r : Response) → Writes answer r → IsSecured r
 secured_by (reply.Text why) r is = secured_with _ _ _ r is
 secured_by (reply.Html status page) r is = secured_with _ _ _ r is
 secured_by reply.Style r is = secured_with _ _ _ r is
@@ -28,7 +28,7 @@ secured_by (reply.SeeOther location) r (inl is) = secured_with _ _ _ r is
 secured_by (reply.SeeOther location) r (inr is) =
     ([], is.1.headers ∙ sym (append-nil security))
 
-module _ (plan : Plan) (old new : ServiceOf) (r : Response) where
+module _ (plan : RequestPlan) (old new : ServiceOf) (r : Response) where
   taken : (entries : List Entry) → TakesThem entries plan old r new → IsSecured r
   taken entries (inl none) = secured_with _ _ _ r none.1
   taken entries (inr kept) = secured_by plan.reply r kept.3

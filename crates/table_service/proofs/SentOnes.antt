@@ -8,8 +8,8 @@ use Rattle.std.proofs.lemmas.Slice.Eq.{bytes_eq-Decides}
 use Rattle.acceptor.specs.declared.entry.Entry.{Entry}
 use Rattle.card_forms.specs.Remarks.{before_remark, is_same_but_remark}
 use Rattle.outbox.specs.declared.item.Item.{Item}
-use Rattle.outbox.specs.declared.item.Taken.{Taken}
-use Rattle.outbox.specs.declared.item.Taken.TheVariants as taken
+use Rattle.outbox.specs.declared.item.QueueOutcome.{QueueOutcome}
+use Rattle.outbox.specs.declared.item.QueueOutcome.TheVariants as taken
 use Rattle.outbox.specs.Items.{ItemsOf, TakesBy, item_in, queued, taken_at}
 use Rattle.table_service.proofs.FoundOnes.{found_front, found_last}
 use Rattle.table_service.specs.Laws.{IsSentIn}
@@ -36,7 +36,7 @@ module _ (old new : ItemsOf) (entry : Entry) (now : ℕ) where
   same_stays : (e : Entry) → new ≡ old → IsSentIn old e → IsSentIn new e
   same_stays e same is = subst (λ (q : ItemsOf). IsSentIn q e) (sym same) is
 
-  stays_by : (e : Entry) (o : Option Item) (came : Taken) → TakesBy o old entry now came new
+  stays_by : (e : Entry) (o : Option Item) (came : QueueOutcome) → TakesBy o old entry now came new
       → IsSentIn old e → IsSentIn new e
   stays_by e (Some item) came takes is = same_stays e takes.1 is
   stays_by e None taken.New takes is =
@@ -51,7 +51,7 @@ module _ (old new : ItemsOf) (entry : Entry) (now : ℕ) where
   stays there one e is = stays_by e (item_in old entry.id) one.came one.takes is
 
   -- what is queued is in the list
-  comes_by : (o : Option Item) → item_in old entry.id ≡ o → (came : Taken)
+  comes_by : (o : Option Item) → item_in old entry.id ≡ o → (came : QueueOutcome)
       → TakesBy o old entry now came new → (sent_as o entry || is_new came) ≡ true
       → IsSentIn new entry
   comes_by (Some item) found came takes is =
@@ -61,7 +61,7 @@ module _ (old new : ItemsOf) (entry : Entry) (now : ℕ) where
       named true e = absurd cc
       named false e = absurd cc
 
-      known : (t : Taken) (b : Bool) → is_same_but_remark item.entry.text entry.text ≡ b
+      known : (t : QueueOutcome) (b : Bool) → is_same_but_remark item.entry.text entry.text ≡ b
           → t ≡ cond (bytes_eq item.entry.text entry.text) taken.Same taken.Other
           → (b || is_new t) ≡ true → IsSentIn new entry
       known t true same e so =

@@ -9,7 +9,7 @@ use Rattle.outbox.specs.declared.item.Item.{Item}
 use Rattle.outbox.specs.Items.{ItemsOf, all_kept, items_of, taken_back, with_answer}
 use Rattle.outbox.specs.Outboxes.{AnswersIf, OutboxOf, with_list}
 use Rattle.table_service.specs.declared.plan.Effect.{Effect}
-use Rattle.table_service.specs.declared.plan.Plan.{Plan}
+use Rattle.table_service.specs.declared.plan.RequestPlan.{RequestPlan}
 use Rattle.table_service.specs.Replies.{Writes}
 use Rattle.table_service.specs.Services.{Answers, AnswersIt, DoesAs, IsKept, KeepsList, Plans}
 use Rattle.table_service.specs.Services.{ServiceOf, StaysKept, TakesAgain, TakesAgainFor, TakesAll}
@@ -18,7 +18,7 @@ use Rattle.table_service.proofs.TakenOnes.{stays_kept}
 
 -- ---- what is taken, and taken back
 
--- what stood in the journal is there, whatever was taken
+-- what was in the journal is there, whatever was taken
 pub all_stay : (entries : List Entry) (old new : ItemsOf) (now : ℕ)
     → old.kept ≤ length old.items → TakesAll old entries now new → StaysKept old new
 all_stay [] old new now low takes = subst (λ (q : ItemsOf). StaysKept old q) (sym takes) (refl, low)
@@ -103,7 +103,7 @@ again_left entries entry of old before new response done one is takes =
     (subst (λ (es : List Entry). TakesFor false es old before new response) one
     (subst (λ (b : Bool). TakesFor b entries old before new response) is takes))
 
-module _ (plan : Plan) (old : ServiceOf) (before response : Response) (new : ServiceOf)
+module _ (plan : RequestPlan) (old : ServiceOf) (before response : Response) (new : ServiceOf)
     (writes : Writes plan.reply before) where
   pub taken_does : (done : Bool) (entries : List Entry)
       → TakesFor done entries old before new response → TakesThem entries plan old response new
@@ -131,7 +131,8 @@ module _ (plan : Plan) (old : ServiceOf) (before response : Response) (new : Ser
         },
       )
 
-pub answers_as : (plan : Plan) (old : ServiceOf) (request : Request (List ℕ)) (response : Response)
+pub answers_as : (plan : RequestPlan) (old : ServiceOf) (request : Request (List ℕ))
+    (response : Response)
     (new : ServiceOf) (what : Effect) → Plans old request plan → plan.effect ≡ what
     → DoesAs what plan old response new → Answers old request response new
 answers_as plan old request response new what planned is does = record {

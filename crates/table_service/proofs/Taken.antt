@@ -8,9 +8,9 @@ use Rattle.outbox.specs.Items.{ItemsOf}
 use Rattle.outbox.specs.Outboxes.{with_list}
 use Rattle.table_service.specs.declared.plan.Effect.{Effect}
 use Rattle.table_service.specs.declared.plan.Effect.TheVariants as effect
-use Rattle.table_service.specs.declared.plan.Plan.{Plan}
-use Rattle.table_service.specs.declared.plan.Reply.{Reply}
-use Rattle.table_service.specs.declared.plan.Reply.TheVariants as reply
+use Rattle.table_service.specs.declared.plan.RequestPlan.{RequestPlan}
+use Rattle.table_service.specs.declared.plan.PageReply.{PageReply}
+use Rattle.table_service.specs.declared.plan.PageReply.TheVariants as reply
 use Rattle.table_service.specs.Disks.{IsSynced}
 use Rattle.table_service.specs.Laws.{AsksFor, IsForm, IsTaken, TakesNothing}
 use Rattle.table_service.specs.Remarks.{remark_of}
@@ -23,7 +23,7 @@ use Rattle.table_service.proofs.Planned.{FoundBy, GoesOn, found}
 use Rattle.table_service.proofs.SentOnes.{sent_in}
 use Rattle.table_service.proofs.Served.{all_back, kept_all, same_items}
 
-sent_on : (answer : Reply) (r : Response) → GoesOn answer → Writes answer r → r.status ≡ 303
+sent_on : (answer : PageReply) (r : Response) → GoesOn answer → Writes answer r → r.status ≡ 303
 sent_on (reply.SeeOther location) r on (inl is) = is.status
 sent_on (reply.SeeOther location) r on (inr is) = is.1.status
 sent_on (reply.Text why) r on is = absurd on.1
@@ -44,7 +44,7 @@ synced_after of old new synced (inl same) =
 synced_after of old new synced (inr is) = synced_by is.kept is.after.list old new is.keeps
 
 module _ (old new : ServiceOf) (request : Request (List ℕ)) (response : Response)
-    (kept : IsKept old.outbox) (plan : Plan) where
+    (kept : IsKept old.outbox) (plan : RequestPlan) where
   abbrev Comes : Type 0
   Comes = TakesNothing old new ⊎ IsTaken old request response new
 

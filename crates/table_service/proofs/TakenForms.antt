@@ -19,23 +19,23 @@ use Rattle.http.specs.declared.version.TheConstants.Version.{HTTP_11}
 use Rattle.http1.specs.Fields.{Header}
 use Rattle.http_header.specs.FieldValue.{FieldValue, plain_value}
 use Rattle.http_server.specs.declared.response.Response.{Response}
-use Rattle.mirroring.specs.Mirrorings.{new_mirroring}
-use Rattle.outbox.specs.declared.item.Taken.TheVariants as taken
+use Rattle.kept_mirror.specs.Mirrorings.{new_mirroring}
+use Rattle.outbox.specs.declared.item.QueueOutcome.TheVariants as taken
 use Rattle.outbox.specs.Items.{no_items, queued}
 use Rattle.outbox.specs.Outboxes.{OutboxOf, aimed, new_outbox, with_list}
 use Rattle.outbox.specs.Worked.{seven}
 use Rattle.outbox.specs.WorkedRuns.{file_of_five, five, five_since, new_file}
-use Rattle.table_views.specs.declared.around.Around.{Around}
-use Rattle.table_views.specs.declared.desks.Desks.{Desks}
+use Rattle.table_views.specs.declared.around.PageContext.{PageContext}
+use Rattle.table_views.specs.declared.desks.HallStatus.{HallStatus}
 use Rattle.scorecard.specs.Spelling.{trimmed}
 use Rattle.texts.specs.Fields.{cut, number_between}
 use Rattle.texts.specs.Names.{is_clear_name}
 use Rattle.texts.specs.Table.{rows}
 use Rattle.texts.specs.declared.command.Command.TheVariants.{Close}
 use Rattle.table_service.specs.declared.plan.Effect.TheVariants as effect
-use Rattle.table_service.specs.declared.plan.Plan.{Plan}
+use Rattle.table_service.specs.declared.plan.RequestPlan.{RequestPlan}
 use Rattle.table_service.specs.declared.plan.Problem.TheVariants as problem
-use Rattle.table_service.specs.declared.plan.Reply.TheVariants as reply
+use Rattle.table_service.specs.declared.plan.PageReply.TheVariants as reply
 use Rattle.table_service.specs.Disks.{disk, journal}
 use Rattle.table_service.specs.Gate.{has_token}
 use Rattle.table_service.specs.Laws.{AsksForOne, IsTaken}
@@ -75,7 +75,7 @@ nobody = record {
   small = omega arith;
 }
 
-abbrev desks : Desks
+abbrev desks : HallStatus
 desks = record {
   followed = 1;
   silent = None;
@@ -189,12 +189,12 @@ entries = record {
   small = omega arith;
 }
 
-abbrev plan : Plan
+abbrev plan : RequestPlan
 plan = record { reply = reply.SeeOther place; effect = effect.Take entries }
 
 -- ---- the answer
 
-abbrev around : Around
+abbrev around : PageContext
 around = record {
   mirror = record { ref_ptr = (0, 0); now = [] };
   desks = record { ref_ptr = (0, 0); now = desks };

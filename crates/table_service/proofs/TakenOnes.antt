@@ -4,8 +4,8 @@ use Rattle.std.proofs.Common.{length, length-append, refl, subst, sym}
 use Rattle.std.proofs.lemmas.List.{take-append-le}
 use Rattle.acceptor.specs.declared.entry.Entry.{Entry}
 use Rattle.outbox.specs.declared.item.Item.{Item}
-use Rattle.outbox.specs.declared.item.Taken.{Taken}
-use Rattle.outbox.specs.declared.item.Taken.TheVariants as taken
+use Rattle.outbox.specs.declared.item.QueueOutcome.{QueueOutcome}
+use Rattle.outbox.specs.declared.item.QueueOutcome.TheVariants as taken
 use Rattle.outbox.specs.Items.{ItemsOf, Takes, TakesBy, item_in, items_of, queued, taken_at}
 use Rattle.table_service.specs.Services.{StaysKept}
 
@@ -22,7 +22,7 @@ module _ (old new : ItemsOf) (entry : Entry) (now : ℕ) (low : old.kept ≤ len
         omega (arith, size, low),
       )
 
-  takes_by : (item : Option Item) (what : Taken) → TakesBy item old entry now what new
+  takes_by : (item : Option Item) (what : QueueOutcome) → TakesBy item old entry now what new
       → StaysKept old new
   takes_by (Some item) what takes = same_kept takes.1
   takes_by None taken.New takes =
@@ -32,5 +32,5 @@ module _ (old new : ItemsOf) (entry : Entry) (now : ℕ) (low : old.kept ≤ len
   takes_by None taken.Same takes = absurd takes
   takes_by None taken.Other takes = absurd takes
 
-  pub stays_kept : (came : Taken) → Takes old entry now came new → StaysKept old new
+  pub stays_kept : (came : QueueOutcome) → Takes old entry now came new → StaysKept old new
   stays_kept came takes = takes_by (item_in old entry.id) came takes

@@ -9,11 +9,11 @@ use Rattle.card_forms.specs.Pairs.{value_of}
 use Rattle.outbox.specs.declared.item.Item.{Item}
 use Rattle.outbox.specs.Items.{ItemsOf, item_in}
 use Rattle.outbox.specs.Outboxes.{may_answer}
-use Rattle.table_views.specs.declared.around.Around.{Around}
+use Rattle.table_views.specs.declared.around.PageContext.{PageContext}
 use Rattle.texts.specs.declared.command.CardEntry.{CardEntry}
 use Rattle.texts.specs.Fields.{card_entry as over, enters_later, number_between, was_of}
 use Rattle.table_service.specs.declared.plan.Effect.TheVariants as effect
-use Rattle.table_service.specs.declared.plan.Plan.{Plan}
+use Rattle.table_service.specs.declared.plan.RequestPlan.{RequestPlan}
 use Rattle.table_service.specs.declared.plan.Problem.TheVariants as problem
 use Rattle.table_service.specs.Plans.{RefusesWith, cards_place}
 use Rattle.table_service.specs.Replying.{Sends, refuses}
@@ -23,42 +23,43 @@ use Rattle.table_service.specs.Taking.{has_room, place_with}
 abbrev pub id_of : List Pair → Option ℕ
 id_of pairs = number_between 1 (2 ^ 63 - 1) (value_of (codes "id") pairs)
 
--- where to go on: to the cards of the round, where the item is a card
+-- the page to move on to: the cards of the round, where the item is a card
 abbrev pub place_of : Option CardEntry → List ℕ
 place_of None = codes "/"
 place_of (Some card) = cards_place card.id
 
 -- ---- leaving it
 
-abbrev pub PlansLeaving : Bool → ℕ → Item → Plan → Type 0
+abbrev pub PlansLeaving : Bool → ℕ → Item → RequestPlan → Type 0
 PlansLeaving false of item plan = Sends (place_of (card_in item.entry.text)) effect.Nothing plan
 PlansLeaving true of item plan =
     Sends (place_of (card_in item.entry.text)) (effect.Answer of) plan
 
-abbrev pub PlansAnsweredItem : Around → ItemsOf → ℕ → Option Item → Plan → Type 0
+abbrev pub PlansAnsweredItem : PageContext → ItemsOf → ℕ → Option Item → RequestPlan → Type 0
 PlansAnsweredItem around q of None plan = plan ≡ refuses problem.BadForm
 PlansAnsweredItem around q of (Some item) plan =
     PlansLeaving (may_answer around.mirror.now q of) of item plan
 
-abbrev pub PlansAnsweredId : Around → ItemsOf → Option ℕ → Plan → Type 0
+abbrev pub PlansAnsweredId : PageContext → ItemsOf → Option ℕ → RequestPlan → Type 0
 PlansAnsweredId around q None plan = plan ≡ refuses problem.BadForm
 PlansAnsweredId around q (Some of) plan = PlansAnsweredItem around q of (item_in q of) plan
 
--- an item counts as answered of which the log says what became of it; any other stays as it is
-abbrev pub PlansAnswered : Around → ItemsOf → List Pair → Plan → Type 0
+-- an item counts as answered if the log says what became of it; any other stays as it is
+abbrev pub PlansAnswered : PageContext → ItemsOf → List Pair → RequestPlan → Type 0
 PlansAnswered around q pairs plan = PlansAnsweredId around q (id_of pairs) plan
 
--- ---- taking what was typed over what stands now
+-- ---- taking what was typed over what counts now
 
 -- what is said where less counts than a card lets stay
 abbrev pub less_words : List ℕ
-less_words = codes "fewer attempts stand now than this card lets stay: open the card and type it"
+less_words = codes "this card keeps more attempts than are on record: open the card and type it"
 
 -- what was typed, over these values
 abbrev pub card_over : CardEntry → List Value → CardEntry
 card_over card was = over card.id card.number was card.now
 
-abbrev pub PlansAgainEntry : Bool → Around → ItemsOf → ℕ → CardEntry → Option Entry → Plan → Type 0
+abbrev pub PlansAgainEntry : Bool → PageContext → ItemsOf → ℕ → CardEntry → Option Entry
+    → RequestPlan → Type 0
 PlansAgainEntry room around q of card None plan =
     RefusesWith around (cards_place card.id) less_words plan
 PlansAgainEntry false around q of card (Some entry) plan = plan ≡ refuses problem.Busy
@@ -70,7 +71,8 @@ abbrev pub again_entry : Bool → ℕ → CardEntry → List ℕ → List Value 
 again_entry false id card remark was = None
 again_entry true id card remark was = card_entry id (card_over card was) remark
 
-abbrev pub PlansAgainCard : Around → ItemsOf → ℕ → Option (List Value) → Option CardEntry → Plan
+abbrev pub PlansAgainCard : PageContext → ItemsOf → ℕ → Option (List Value) → Option CardEntry
+    → RequestPlan
     → Type 0
 PlansAgainCard around q of None card plan = plan ≡ refuses problem.BadForm
 PlansAgainCard around q of (Some was) None plan = plan ≡ refuses problem.BadForm
@@ -80,23 +82,24 @@ PlansAgainCard around q of (Some was) (Some card) plan =
     around.remark.now was)
     plan
 
-abbrev pub PlansAgainIf : Bool → Around → ItemsOf → List Pair → ℕ → Item → Plan → Type 0
+abbrev pub PlansAgainIf : Bool → PageContext → ItemsOf → List Pair → ℕ → Item → RequestPlan → Type 0
 PlansAgainIf false around q pairs of item plan =
     Sends (place_of (card_in item.entry.text)) effect.Nothing plan
 PlansAgainIf true around q pairs of item plan =
     PlansAgainCard around q of (was_of (value_of (codes "was") pairs)) (card_in item.entry.text)
     plan
 
-abbrev pub PlansAgainItem : Around → ItemsOf → List Pair → ℕ → Option Item → Plan → Type 0
+abbrev pub PlansAgainItem : PageContext → ItemsOf → List Pair → ℕ → Option Item → RequestPlan
+    → Type 0
 PlansAgainItem around q pairs of None plan = plan ≡ refuses problem.BadForm
 PlansAgainItem around q pairs of (Some item) plan =
     PlansAgainIf (may_answer around.mirror.now q of) around q pairs of item plan
 
-abbrev pub PlansAgainId : Around → ItemsOf → List Pair → Option ℕ → Plan → Type 0
+abbrev pub PlansAgainId : PageContext → ItemsOf → List Pair → Option ℕ → RequestPlan → Type 0
 PlansAgainId around q pairs None plan = plan ≡ refuses problem.BadForm
 PlansAgainId around q pairs (Some of) plan = PlansAgainItem around q pairs of (item_in q of) plan
 
--- a card that was not saved, and that nobody has answered, is taken once more over what its page
--- showed that counts now, and counts as answered; any other stays as it is
-abbrev pub PlansAgain : Around → ItemsOf → List Pair → Plan → Type 0
+-- a card that was not saved, and that nobody has answered, is taken once more, over the values that
+-- the page shows as counting now, and counts as answered; any other item stays as it is
+abbrev pub PlansAgain : PageContext → ItemsOf → List Pair → RequestPlan → Type 0
 PlansAgain around q pairs plan = PlansAgainId around q pairs (id_of pairs) plan

@@ -12,20 +12,21 @@ use Rattle.texts.specs.declared.command.Settings.{Settings}
 use Rattle.texts.specs.declared.answer.Code.{Code}
 use Rattle.formats.specs.declared.events.Event.{Event}
 use Rattle.formats.specs.Results.{is_dnf, least}
-use Rattle.commands.specs.Accepted.{card_values, is_solution, is_value, lacks_scramble, refusal}
-use Rattle.commands.specs.Accepted.{round_by, scramble_of, settled}
+use Rattle.commands.specs.Accepted.{card_refusal, card_values, is_solution, is_value, lacks_scramble}
+use Rattle.commands.specs.Accepted.{refusal, round_by, scramble_of, settled}
 use Rattle.cube.specs.declared.moves.Move.{Move}
+use Rattle.rounds.specs.Tables.{Table}
 use Rattle.attempts.specs.declared.Value.{Value}
 use Rattle.attempts.specs.declared.Value.TheVariants as value
 use Rattle.texts.specs.declared.command.Entered.{Entered}
 use Rattle.texts.specs.declared.command.Entered.TheVariants as entered
-use Rattle.scorecard.specs.declared.fault.CardFault.{CardFault as FieldFault}
+use Rattle.scorecard.specs.declared.fault.ScorecardFault.{ScorecardFault as FieldFault}
 use Rattle.card_forms.specs.declared.faults.NumberFault.{NumberFault}
-use Rattle.card_forms.specs.declared.faults.Unread.{Unread}
+use Rattle.card_forms.specs.declared.faults.FieldFaults.{FieldFaults}
 use Rattle.table_views.specs.Standing.{standing}
-use Rattle.entry_views.specs.Bounds.{best_in, floor_of, single_of}
-use Rattle.entry_views.specs.declared.notes.Note.{Note}
-use Rattle.entry_views.specs.declared.notes.Note.TheVariants as note
+use Rattle.table_entry_views.specs.Bounds.{best_in, floor_of, single_of}
+use Rattle.table_entry_views.specs.declared.notes.CardNote.{CardNote}
+use Rattle.table_entry_views.specs.declared.notes.CardNote.TheVariants as note
 use Rattle.table_service.specs.declared.checks.Bounds.{Bounds}
 
 -- ---- times that are unlike the others
@@ -119,8 +120,8 @@ abbrev pub best_elsewhere : List Command → RoundId → ℕ → Option ℕ
 best_elsewhere accepted id number =
     least (filter_map (single_beside accepted id number) (1 ∷ 2 ∷ 3 ∷ 4 ∷ []))
 
--- what the times of a card are compared with: what nobody has ever been below in the event, the
--- best single of the round, and the competitor's in the others
+-- what the times of a card are compared with: a time below which no result of the event has ever
+-- been, the best single of the round, and the competitor's best in the others
 abbrev pub bounds_of : List Command → CardEntry → Bounds
 bounds_of accepted card = record {
   floor = floor_of card.id.event;
@@ -130,25 +131,25 @@ bounds_of accepted card = record {
 
 -- ---- what is asked of times
 
-abbrev pub fast_at : Bounds → List (Option Entered) → ℕ → List Note
+abbrev pub fast_at : Bounds → List (Option Entered) → ℕ → List CardNote
 fast_at bounds fields place =
     if is_fast bounds.floor (get_or fields place None) then note.Fast (place + 1) ∷ [] else []
 
-abbrev pub half_at : Bounds → List (Option Entered) → ℕ → List Note
+abbrev pub half_at : Bounds → List (Option Entered) → ℕ → List CardNote
 half_at bounds fields place =
     if is_half bounds (get_or fields place None) then note.Half (place + 1) ∷ [] else []
 
-abbrev pub unlike_at : List (Option Entered) → ℕ → List Note
+abbrev pub unlike_at : List (Option Entered) → ℕ → List CardNote
 unlike_at fields place = if is_unlike fields place then note.Unlike (place + 1) ∷ [] else []
 
 -- what is asked of the time at a place: whether it is below the floor of the event, less than half
 -- of the singles before it, or unlike the others of the card
-abbrev pub time_at : Bounds → List (Option Entered) → ℕ → List Note
+abbrev pub time_at : Bounds → List (Option Entered) → ℕ → List CardNote
 time_at bounds fields place =
     fast_at bounds fields place ++ half_at bounds fields place ++ unlike_at fields place
 
 -- what is asked of each of the first five times
-abbrev pub time_notes : Bounds → List (Option Entered) → List Note
+abbrev pub time_notes : Bounds → List (Option Entered) → List CardNote
 time_notes bounds fields =
     flat_map (time_at bounds fields) (range_with_len 0 (min (length fields) 5))
 
@@ -173,7 +174,14 @@ left_at accepted card settings at =
     left_by (settled settings (scramble_of accepted card.id.event card.id.round (at + 1)))
     (get_or card.now at None) (slice_get card.was at)
 
-abbrev pub refused_notes : Option Code → List Note
+-- the code with which a card would be refused in its round, which was opened with these settings
+-- and has this table
+abbrev pub opened_refusal : List Command → CardEntry → Settings → Table → Option Code
+opened_refusal accepted card settings table =
+    card_refusal card.id.event (scramble_of accepted card.id.event card.id.round) card
+    (Some (settings, table))
+
+abbrev pub refused_notes : Option Code → List CardNote
 refused_notes None = []
 refused_notes (Some why) = note.Refused why ∷ []
 
@@ -185,13 +193,13 @@ is_left None None = true
 is_left _ _ = false
 
 -- the attempt at a place, counted from 0, would not be what it was
-abbrev pub change_at : List Value → List Value → ℕ → List Note
+abbrev pub change_at : List Value → List Value → ℕ → List CardNote
 change_at was left place =
     if is_left (slice_get was place) (slice_get left place) then []
     else note.Changes (place + 1) ∷ []
 
 -- each attempt that counts and would change
-abbrev pub change_notes : List Value → List Value → List Note
+abbrev pub change_notes : List Value → List Value → List CardNote
 change_notes was left = flat_map (change_at was left) (range_with_len 0 (min (length was) 5))
 
 abbrev pub left_in : List Command → CardEntry → Option Settings → List Value
@@ -218,13 +226,13 @@ is_unsolved scrambles now left at =
     && is_failed (slice_get left at)
 
 abbrev pub unsolved_at : (ℕ → Option (List Move)) → List (Option Entered) → List Value → ℕ
-    → List Note
+    → List CardNote
 unsolved_at scrambles now left at =
     if is_unsolved scrambles now left at then note.Unsolved (at + 1) ∷ [] else []
 
 -- each of the first five solutions that does not solve its scramble; these values are left
 abbrev pub unsolved_notes : (ℕ → Option (List Move)) → List (Option Entered) → List Value
-    → List Note
+    → List CardNote
 unsolved_notes scrambles now left =
     flat_map (unsolved_at scrambles now left) (range_with_len 0 (min (length now) 5))
 
@@ -246,38 +254,38 @@ is_repeat now left =
     && (is_again (slice_get left 0) (slice_get left 3)
     && is_again (slice_get left 1) (slice_get left 4))
 
-abbrev pub repeat_notes : List (Option Entered) → List Value → List Note
+abbrev pub repeat_notes : List (Option Entered) → List Value → List CardNote
 repeat_notes now left = if is_repeat now left then note.Repeats ∷ [] else []
 
 -- what is asked of the values that a card leaves: each solution that does not solve its scramble;
 -- the first two results again; and each attempt that counts and would change
-abbrev pub left_notes : (ℕ → Option (List Move)) → CardEntry → List Value → List Note
+abbrev pub left_notes : (ℕ → Option (List Move)) → CardEntry → List Value → List CardNote
 left_notes scrambles card left =
     unsolved_notes scrambles card.now left ++ repeat_notes card.now left
     ++ change_notes card.was left
 
 -- what is to be confirmed of a card: the code with which it would be refused, if it came next; each
--- time that is too good to be true, or unlike the others; and what it would leave
-abbrev pub doubts : List Command → CardEntry → List Note
+-- time that is below what anybody ever had, or unlike the others; and what it would leave
+abbrev pub doubts : List Command → CardEntry → List CardNote
 doubts accepted card =
     refused_notes (refusal accepted (Card card)) ++ time_notes (bounds_of accepted card) card.now
     ++ left_notes (scramble_of accepted card.id.event card.id.round) card (left_of accepted card)
 
 -- ---- what is wrong
 
-abbrev pub number_notes : Option NumberFault → List Note
+abbrev pub number_notes : Option NumberFault → List CardNote
 number_notes None = []
 number_notes (Some why) = note.Number why ∷ []
 
-abbrev pub field_note : ℕ → Option FieldFault → List Note
+abbrev pub field_note : ℕ → Option FieldFault → List CardNote
 field_note attempt None = []
 field_note attempt (Some why) = note.Field attempt why ∷ []
 
 -- what is wrong with the fields of the attempts, from this one on
-abbrev pub field_notes : ℕ → List (Option FieldFault) → List Note
+abbrev pub field_notes : ℕ → List (Option FieldFault) → List CardNote
 field_notes attempt [] = []
 field_notes attempt (fault ∷ faults) =
     field_note attempt fault ++ field_notes (attempt + 1) faults
 
-abbrev pub unread_notes : Unread → List Note
+abbrev pub unread_notes : FieldFaults → List CardNote
 unread_notes faults = number_notes faults.number ++ field_notes 1 faults.attempts

@@ -1,4 +1,4 @@
--- A file of which is known what a crash leaves, and the journal in it (the project's own).
+-- A file of which it is known what a crash leaves, and the journal in it (the project's own).
 use Rattle.std.specs.Prelude.{ℕ, ◌≡◌, ◌⊎◌, ◌≤◌, ◌<◌, ◌+◌, ◌^◌, ◌++◌, Bool, true, false, List}
 use Rattle.std.specs.Prelude.{Option, None, Some, length, min, option_map, take}
 
@@ -15,7 +15,7 @@ disk bytes synced failures = record { bytes = bytes; synced = synced; failures =
 abbrev pub failed_once : DiskOf → DiskOf
 failed_once d = disk d.bytes d.synced (d.failures + 1)
 
--- where nothing is told of a file, nothing is told of it later
+-- where nothing is known of a file, nothing is known of it later
 abbrev pub Told : (DiskOf → DiskOf → Type 0) → Option DiskOf → Option DiskOf → Type 0
 Told becomes None None = Unit {0}
 Told becomes (Some old) (Some new) = becomes old new
@@ -56,8 +56,8 @@ PutsTo false bytes old new =
 abbrev pub Puts : Bool → List ℕ → Option DiskOf → Option DiskOf → Type 0
 Puts done bytes old new = Told (PutsTo done bytes) old new
 
--- what is after this many bytes is taken away, and a crash leaves the others; or it stays, or is
--- taken away and a crash may bring it back
+-- what follows this many bytes is removed, and a crash leaves these bytes; or it stays; or it is
+-- removed, but a crash may bring it back
 abbrev pub CutsBackTo : Bool → ℕ → DiskOf → DiskOf → Type 0
 CutsBackTo true count old new =
     new ≡ disk (take count old.bytes) (length (take count old.bytes)) old.failures
@@ -97,7 +97,7 @@ IsSyncedIn count (Some d) = count ≤ d.synced
 abbrev pub IsSynced : JournalOf → Type 0
 IsSynced j = IsSyncedIn j.length j.disk
 
--- these bytes are kept after the others; where nothing is told, nothing is told of them either
+-- these bytes are kept after the others; where nothing is known, nothing is known of them either
 abbrev pub with_kept : Option (List ℕ) → List ℕ → Option (List ℕ)
 with_kept None bytes = None
 with_kept (Some before) bytes = Some (before ++ bytes)
@@ -118,8 +118,8 @@ abbrev pub kept_if : Bool → Option (List ℕ) → List ℕ → Option (List �
 kept_if true before lines = with_kept before lines
 kept_if false before lines = before
 
--- where lines are kept they are after the others, and a crash leaves them; else the lines that were
--- there are, and it is told why. Nothing more can be kept only after the file failed
+-- if lines are kept, they follow the others, and a crash leaves them; else the lines are those that
+-- were there, and the answer says why. Nothing more can be kept only after the file failed
 pub record Keeps (kept : Bool) (lines : List ℕ) (old new : JournalOf) : Type 0 where
   pub told : lines_in new ≡ kept_if kept (lines_in old) lines
   pub synced : IsSynced new
@@ -129,8 +129,8 @@ pub record Keeps (kept : Bool) (lines : List ℕ) (old new : JournalOf) : Type 0
 
 -- ---- a journal is opened
 
--- a file begins with this many bytes of whole lines, after which a part of a line may be where it
--- was cut, and nothing where it was not
+-- a file begins with this many bytes of whole lines; after them a part of a line may be, if the
+-- file was cut, and else nothing
 abbrev pub HasLinesTo : Bool → ℕ → DiskOf → Type 0
 HasLinesTo true count d = count ≤ length d.bytes
 HasLinesTo false count d = length d.bytes ≡ count
@@ -140,7 +140,7 @@ HasLines cut count None = Unit {0}
 HasLines cut count (Some d) = HasLinesTo cut count d
 
 -- the file of a journal over a file with this many bytes of whole lines: these are its lines, a
--- crash leaves them, and it goes on after them
+-- crash leaves them, and it continues after them
 pub record OpensOver (count : ℕ) (old : Option DiskOf) (new : JournalOf) : Type 0 where
   pub long : new.length ≡ count
   pub whole : new.broken ≡ false

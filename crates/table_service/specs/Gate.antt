@@ -43,7 +43,7 @@ is_own hosts request =
     && are_hosts hosts (values_in (codes "host") request)
     && are_origins hosts (values_in (codes "origin") request)
 
--- what each form carries so that it is taken: 16 bytes, each as two hexadecimal digits
+-- what each form carries so that it is accepted: 16 bytes, each as two hexadecimal digits
 abbrev pub IsToken : List ℕ → Type 0
 IsToken text = (bytes : List ℕ) × (length bytes ≡ 16) × (text ≡ encode_lower bytes)
 

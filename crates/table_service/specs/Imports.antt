@@ -6,7 +6,7 @@ use Rattle.http_header.specs.FieldValue.{FieldValue}
 use Rattle.form_data.specs.Bodies.{parts_of}
 use Rattle.form_data.specs.Headers.{boundary_of}
 use Rattle.form_data.specs.declared.bodies.Part.{Part}
-use Rattle.hall_views.specs.Refused.{faults_page}
+use Rattle.table_hall_views.specs.Refused.{faults_page}
 use Rattle.texts.specs.declared.command.Command.{Command}
 use Rattle.wcif.specs.declared.file.FileFault.{FileFault}
 use Rattle.wcif.specs.declared.options.Edition.TheVariants.{Four}
@@ -15,10 +15,10 @@ use Rattle.wcif.specs.declared.options.CumulativeLimits.TheVariants as limits
 use Rattle.wcif.specs.declared.options.SameNames.TheVariants as names
 use Rattle.wcif.specs.Files.{FileFails, SetsUp}
 use Rattle.wcif.specs.Lines.{lines}
-use Rattle.table_views.specs.declared.around.Around.{Around}
-use Rattle.table_service.specs.declared.plan.Plan.{Plan}
+use Rattle.table_views.specs.declared.around.PageContext.{PageContext}
+use Rattle.table_service.specs.declared.plan.RequestPlan.{RequestPlan}
 use Rattle.table_service.specs.declared.plan.Problem.TheVariants as problem
-use Rattle.table_service.specs.declared.plan.Shown.TheVariants as shown
+use Rattle.table_service.specs.declared.plan.PageStatus.TheVariants as shown
 use Rattle.table_service.specs.Gate.{values_in}
 use Rattle.table_service.specs.Lists.{LooksAt}
 use Rattle.table_service.specs.Replying.{ShowsPage, refuses}
@@ -47,20 +47,20 @@ options_of parts = record {
 
 -- the commands that set the file's competition up are looked at as lines; or the page says why
 -- there are none
-abbrev pub PlansFile : Around → Options → List ℕ → Plan → Type 0
+abbrev pub PlansFile : PageContext → Options → List ℕ → RequestPlan → Type 0
 PlansFile around options bytes plan =
     ((commands : List Command) × SetsUp options bytes commands
     × LooksAt around (codes "/import") (lines commands) plan)
     ⊎ ((why : FileFault) × FileFails options bytes why × (words : List ℕ)
     × ShowsPage shown.Wrong (faults_page around (codes "/import") words) plan)
 
-abbrev pub PlansCarried : Around → List (List ℕ × List ℕ) → Bool → Plan → Type 0
+abbrev pub PlansCarried : PageContext → List (List ℕ × List ℕ) → Bool → RequestPlan → Type 0
 PlansCarried around parts false plan = plan ≡ refuses problem.Foreign
 PlansCarried around parts true plan =
     PlansFile around (options_of parts) (content_of (codes "file") parts) plan
 
 -- the parts of a form with a file, if it carries the token
-abbrev pub PlansParts : Around → List (List ℕ × List ℕ) → Plan → Type 0
+abbrev pub PlansParts : PageContext → List (List ℕ × List ℕ) → RequestPlan → Type 0
 PlansParts around parts plan =
     PlansCarried around parts (bytes_eq (content_of (codes "token") parts) around.token.now) plan
 
@@ -73,14 +73,14 @@ abbrev pub boundary_in : Request (List ℕ) → Option (List ℕ)
 boundary_in request = boundary_by (slice_get (values_in (codes "content-type") request) 0)
 
 -- by the parts of the body, if it has any
-abbrev pub PlansPartsIf : Around → Option (List (List ℕ × List ℕ)) → Plan → Type 0
+abbrev pub PlansPartsIf : PageContext → Option (List (List ℕ × List ℕ)) → RequestPlan → Type 0
 PlansPartsIf around None plan = plan ≡ refuses problem.BadForm
 PlansPartsIf around (Some parts) plan = PlansParts around parts plan
 
-abbrev pub PlansBody : Around → List ℕ → Option (List ℕ) → Plan → Type 0
+abbrev pub PlansBody : PageContext → List ℕ → Option (List ℕ) → RequestPlan → Type 0
 PlansBody around body None plan = plan ≡ refuses problem.BadForm
 PlansBody around body (Some boundary) plan = PlansPartsIf around (parts_of boundary body) plan
 
 -- a form with a competition's file
-abbrev pub PlansImport : Around → Request (List ℕ) → Plan → Type 0
+abbrev pub PlansImport : PageContext → Request (List ℕ) → RequestPlan → Type 0
 PlansImport around request plan = PlansBody around request.body (boundary_in request) plan

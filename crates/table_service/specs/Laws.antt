@@ -20,7 +20,7 @@ use Rattle.command_lists.specs.Lists.{texts_in}
 use Rattle.commands.specs.Accepted.{are_values, card_values, round_by, scramble_of}
 use Rattle.learner.specs.Laws.{IsPrefix}
 use Rattle.outbox.specs.declared.item.Item.{Item}
-use Rattle.outbox.specs.declared.state.State.TheVariants as state
+use Rattle.outbox.specs.declared.state.ItemState.TheVariants as state
 use Rattle.outbox.specs.Items.{ItemsOf, item_in}
 use Rattle.outbox.specs.Outboxes.{may_answer}
 use Rattle.outbox.specs.States.{state_of}
@@ -111,7 +111,7 @@ pub record AsksAgain (log : List Entry) (q : ItemsOf) (pairs : List Pair) (remar
   pub is : card_entry id (card_over card was) remark ≡ Some entry
   pub alone : entries ≡ entry ∷ []
 
--- what stood before a card that this log saves, over what that card left, by what the log accepts
+-- what counted before a card that this log saves, over what that card left, by what the log accepts
 pub record AsksBack (log : List Entry) (q : ItemsOf) (pairs : List Pair) (remark : List ℕ)
     (entries : List Entry) : Type 0 where
   pub of : ℕ
@@ -144,8 +144,8 @@ TakesNothing old new = new.outbox.list.items ≡ old.outbox.list.items
 abbrev pub IsSentIn : ItemsOf → Entry → Type 0
 IsSentIn q entry = is_sent q entry ≡ true
 
--- the entries that a form asks for are taken, or were before; each is in the list, their lines are
--- kept, a crash leaves them, and the browser is sent on
+-- the entries that a form asks for are taken, or were taken before; each is in the list, their
+-- lines are kept, a crash leaves them, and the browser is sent to the next page
 pub record IsTaken (old : ServiceOf) (request : Request (List ℕ)) (response : Response)
     (new : ServiceOf) : Type 0 where
   pub entries : List Entry
@@ -159,7 +159,7 @@ pub record IsTaken (old : ServiceOf) (request : Request (List ℕ)) (response : 
   pub synced : IsSynced new.file
   pub told : response.status ≡ 303
 
--- nothing is taken but what a form of one of the program's own pages asks for
+-- only what a form of one of the program's own pages asks for is taken
 abbrev pub TakesForForms : Type 0
 TakesForForms =
     (old new : ServiceOf) (request : Request (List ℕ)) (response : Response)
@@ -201,7 +201,7 @@ pub record IsSavedCard (before : List Command) (card : CardEntry) : Type 0 where
 abbrev pub StandsAt : List Entry → ℕ → Entry → Type 0
 StandsAt log position entry = take (position + 1) log ≡ take position log ++ entry ∷ []
 
--- what a mirror's log tells to be saved is so in each log that begins with it
+-- what is saved by a mirror's log is so in each log that begins with it
 abbrev pub SavedIsTheCard : Type 0
 SavedIsTheCard =
     (held log : List Entry) (entry : Entry) (card : CardEntry) (position : ℕ)

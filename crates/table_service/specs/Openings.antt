@@ -25,7 +25,7 @@ abbrev pub HasBytes : List ℕ → Option DiskOf → Type 0
 HasBytes bytes None = Unit {0}
 HasBytes bytes (Some d) = d.bytes ≡ bytes
 
--- it has these bytes after a call, where that is known; and it is told, where it was before
+-- it has these bytes after a call, where that is known; and it is known, where it was before
 abbrev pub HasNow : List ℕ → Option DiskOf → Option DiskOf → Type 0
 HasNow bytes old new = Told (λ old new. new.bytes ≡ bytes) old new
 

@@ -5,28 +5,28 @@ use Rattle.std.specs.Option.{option_copied}
 use Rattle.acceptor.specs.declared.entry.Entry.{Entry}
 use Rattle.card_forms.specs.Readings.{number_of}
 use Rattle.outbox.specs.declared.item.Item.{Item}
-use Rattle.outbox.specs.declared.state.State.{State}
-use Rattle.outbox.specs.declared.state.State.TheVariants as state
+use Rattle.outbox.specs.declared.state.ItemState.{ItemState}
+use Rattle.outbox.specs.declared.state.ItemState.TheVariants as state
 use Rattle.outbox.specs.Items.{ItemsOf, item_in}
 use Rattle.outbox.specs.States.{state_of}
 use Rattle.commands.specs.Accepted.{round_by}
-use Rattle.entry_views.specs.declared.draft.Draft.{Draft}
-use Rattle.entry_views.specs.declared.draft.Draft.TheVariants as draft
-use Rattle.entry_views.specs.declared.origin.Origin.{Origin}
-use Rattle.entry_views.specs.declared.past.Past.{Past}
-use Rattle.entry_views.specs.History.{history_page}
-use Rattle.entry_views.specs.Page.{IsCardPage}
-use Rattle.hall_views.specs.Importing.{import_page}
-use Rattle.hall_views.specs.Overview.{overview}
-use Rattle.hall_views.specs.People.{IsPeoplePage}
-use Rattle.hall_views.specs.Person.{person_page}
-use Rattle.hall_views.specs.Rounds.{rounds_page}
-use Rattle.hall_views.specs.Waiting.{waiting_page}
-use Rattle.origins.specs.Changes.{IsLastChange}
-use Rattle.origins.specs.Entering.{AreLastEntering, places, text_enters}
-use Rattle.entry_views.specs.paper.Scorecards.{IsScorecards}
-use Rattle.entry_views.specs.paper.Wall.{IsWallSheet}
-use Rattle.table_views.specs.declared.around.Around.{Around}
+use Rattle.table_entry_views.specs.declared.draft.Draft.{Draft}
+use Rattle.table_entry_views.specs.declared.draft.Draft.TheVariants as draft
+use Rattle.table_entry_views.specs.declared.origin.Origin.{Origin}
+use Rattle.table_entry_views.specs.declared.past.Past.{Past}
+use Rattle.table_entry_views.specs.History.{history_page}
+use Rattle.table_entry_views.specs.Page.{IsCardPage}
+use Rattle.table_hall_views.specs.Importing.{import_page}
+use Rattle.table_hall_views.specs.Overview.{overview}
+use Rattle.table_hall_views.specs.People.{IsPeoplePage}
+use Rattle.table_hall_views.specs.Person.{person_page}
+use Rattle.table_hall_views.specs.Rounds.{rounds_page}
+use Rattle.table_hall_views.specs.Waiting.{waiting_page}
+use Rattle.last_change.specs.Changes.{IsLastChange}
+use Rattle.last_change.specs.Entering.{AreLastEntering, places, text_enters}
+use Rattle.table_entry_views.specs.paper.Scorecards.{IsScorecards}
+use Rattle.table_entry_views.specs.paper.Wall.{IsWallSheet}
+use Rattle.table_views.specs.declared.around.PageContext.{PageContext}
 use Rattle.table_views.specs.Logs.{accepted_in}
 use Rattle.table_views.specs.Standing.{standing}
 use Rattle.scorecard.specs.Typed.{entered_typed}
@@ -34,8 +34,8 @@ use Rattle.texts.specs.declared.command.Entered.{Entered}
 use Rattle.texts.specs.declared.command.RoundId.{RoundId}
 use Rattle.texts.specs.Fields.{cut_remark}
 use Rattle.table_service.specs.Asked.{number_if}
-use Rattle.table_service.specs.declared.reading.View.{View}
-use Rattle.table_service.specs.declared.reading.View.TheVariants as view
+use Rattle.table_service.specs.declared.reading.TableView.{TableView}
+use Rattle.table_service.specs.declared.reading.TableView.TheVariants as view
 
 -- what a card is filled in with that is asked for
 abbrev pub draft_of : Option ℕ → Draft
@@ -44,7 +44,7 @@ draft_of (Some number) = draft.Number number
 
 -- ---- a card
 
--- what is told of the entry at a position: how many entries there are up to it, whether it was
+-- what is said of the entry at a position: how many entries there are up to it, whether it was
 -- sent from this table, and its remark
 pub record TellsEntry (q : ItemsOf) (at : ℕ) (entry : Entry) (origin : Origin) : Type 0 where
   pub position : origin.position ≡ at + 1
@@ -93,7 +93,7 @@ all_typed_at log round number last =
 abbrev pub stands_of : List Entry → RoundId → ℕ → ℕ
 stands_of log round number = min (length (standing (accepted_in log) round number)) 5
 
--- of each attempt that counts what was entered last for it, as it may be typed
+-- for each attempt that counts, what was entered for it last, as it may be typed
 abbrev pub AreFilled : List Entry → RoundId → ℕ → List (List ℕ) → Type 0
 AreFilled log round number filled =
     (last : List (Option ℕ))
@@ -111,7 +111,7 @@ number_in (draft.Number number) = Some number
 number_in (draft.Typed form notes) = number_if (number_of form.now.number)
 
 -- the page of a card of a round, with this draft
-pub record IsCard (q : ItemsOf) (around : Around) (round : RoundId) (draft : Draft)
+pub record IsCard (q : ItemsOf) (around : PageContext) (round : RoundId) (draft : Draft)
     (page : Option (List ℕ)) : Type 0 where
   pub past : Past
   pub from : IsOriginFor q around.mirror.now round (number_in draft) past.origin
@@ -121,8 +121,8 @@ pub record IsCard (q : ItemsOf) (around : Around) (round : RoundId) (draft : Dra
 
 -- ---- the page after a form
 
--- an item of which this became waits, and was taken less than two seconds ago
-abbrev pub waits_since : State → ℕ → Bool
+-- an item in this state waits, and was taken less than two seconds ago
+abbrev pub waits_since : ItemState → ℕ → Bool
 waits_since state.Waits ago = nat_lt ago 2000
 waits_since (state.Saved position) ago = false
 waits_since (state.Changed position) ago = false
@@ -139,19 +139,19 @@ waits q log now None = false
 waits q log now (Some id) = item_waits log now (item_in q id)
 
 -- the page of a card, or the page that waits for what was sent before it
-abbrev pub IsCardAfter : Bool → ItemsOf → Around → RoundId → Draft → Option (List ℕ) → Type 0
+abbrev pub IsCardAfter : Bool → ItemsOf → PageContext → RoundId → Draft → Option (List ℕ) → Type 0
 IsCardAfter true q around round draft page = page ≡ Some (waiting_page around round)
 IsCardAfter false q around round draft page = IsCard q around round draft page
 
 -- ---- all pages
 
-abbrev pub IsPeople : Around → Option (List ℕ) → Type 0
+abbrev pub IsPeople : PageContext → Option (List ℕ) → Type 0
 IsPeople around None = ⊥
 IsPeople around (Some page) = IsPeoplePage around page
 
 -- this is the page, under the title of the hall; none where its round was not opened, or where
 -- nobody has its number
-abbrev pub IsPage : ItemsOf → Around → List ℕ → View → Option (List ℕ) → Type 0
+abbrev pub IsPage : ItemsOf → PageContext → List ℕ → TableView → Option (List ℕ) → Type 0
 IsPage q around title view.Overview page = page ≡ Some (overview around)
 IsPage q around title view.People page = IsPeople around page
 IsPage q around title (view.Person number) page = page ≡ person_page around number

@@ -20,25 +20,25 @@ use Rattle.card_forms.specs.Pairs.{value_of}
 use Rattle.card_forms.specs.Readings.{IsNotRead, IsReadAs}
 use Rattle.card_forms.specs.Remarks.{noted}
 use Rattle.outbox.specs.Items.{ItemsOf, item_in}
-use Rattle.entry_views.specs.declared.draft.Draft.{Draft}
-use Rattle.entry_views.specs.declared.draft.Draft.TheVariants as draft
-use Rattle.entry_views.specs.declared.notes.Note.{Note}
-use Rattle.entry_views.specs.declared.notes.Note.TheVariants as note
-use Rattle.entry_views.specs.Notes.{note_word}
-use Rattle.hall_views.specs.Refused.{refused_page}
-use Rattle.table_views.specs.declared.around.Around.{Around}
+use Rattle.table_entry_views.specs.declared.draft.Draft.{Draft}
+use Rattle.table_entry_views.specs.declared.draft.Draft.TheVariants as draft
+use Rattle.table_entry_views.specs.declared.notes.CardNote.{CardNote}
+use Rattle.table_entry_views.specs.declared.notes.CardNote.TheVariants as note
+use Rattle.table_entry_views.specs.Notes.{note_word}
+use Rattle.table_hall_views.specs.Refused.{refused_page}
+use Rattle.table_views.specs.declared.around.PageContext.{PageContext}
 use Rattle.table_views.specs.Editions.{is_latest}
 use Rattle.table_views.specs.Logs.{accepted_in}
 use Rattle.texts.specs.declared.command.CardEntry.{CardEntry}
 use Rattle.texts.specs.declared.command.RoundId.{RoundId}
 use Rattle.table_service.specs.declared.plan.Effect.TheVariants as effect
-use Rattle.table_service.specs.declared.plan.Plan.{Plan}
+use Rattle.table_service.specs.declared.plan.RequestPlan.{RequestPlan}
 use Rattle.table_service.specs.declared.plan.Problem.TheVariants as problem
-use Rattle.table_service.specs.declared.plan.Reply.TheVariants as reply
-use Rattle.table_service.specs.declared.plan.Shown.{Shown}
-use Rattle.table_service.specs.declared.plan.Shown.TheVariants as shown
-use Rattle.table_service.specs.declared.reading.Asked.{Asked}
-use Rattle.table_service.specs.declared.reading.Asked.TheVariants as asked
+use Rattle.table_service.specs.declared.plan.PageReply.TheVariants as reply
+use Rattle.table_service.specs.declared.plan.PageStatus.{PageStatus}
+use Rattle.table_service.specs.declared.plan.PageStatus.TheVariants as shown
+use Rattle.table_service.specs.declared.reading.Resource.{Resource}
+use Rattle.table_service.specs.declared.reading.Resource.TheVariants as asked
 use Rattle.table_service.specs.Asked.{asked_at, number_below, round_below}
 use Rattle.table_service.specs.Checks.{doubts, unread_notes}
 use Rattle.table_service.specs.Pages.{IsCard, IsPage}
@@ -49,7 +49,7 @@ use Rattle.table_service.specs.Taking.{PlansEntries, is_sent, place_with}
 
 -- ---- a request that only reads
 
-abbrev pub ShowsView : ItemsOf → Around → List ℕ → Option Asked → Plan → Type 0
+abbrev pub ShowsView : ItemsOf → PageContext → List ℕ → Option Resource → RequestPlan → Type 0
 ShowsView q around title None plan = plan ≡ refuses problem.NotFound
 ShowsView q around title (Some asked.Style) plan = plan ≡ shows reply.Style
 ShowsView q around title (Some asked.Script) plan = plan ≡ shows reply.Script
@@ -57,7 +57,7 @@ ShowsView q around title (Some (asked.Page view)) plan =
     (page : Option (List ℕ)) × IsPage q around title view page × ShowsIf page plan
 
 -- what is at the path
-abbrev pub PlansRead : ItemsOf → Around → List ℕ → Request (List ℕ) → Plan → Type 0
+abbrev pub PlansRead : ItemsOf → PageContext → List ℕ → Request (List ℕ) → RequestPlan → Type 0
 PlansRead q around title request plan =
     ShowsView q around title (asked_at (path_of request) (query_of request)) plan
 
@@ -72,13 +72,13 @@ abbrev pub card_place : CardForm → List ℕ
 card_place form = place_with (cards_place form.round) form.id
 
 -- what was typed, with these notes
-abbrev pub IsTyped : CardForm → List Note → Draft → Type 0
+abbrev pub IsTyped : CardForm → List CardNote → Draft → Type 0
 IsTyped form notes (draft.Typed typed with) = (typed.now ≡ form) × (with.now ≡ notes)
 IsTyped form notes _ = ⊥
 
 -- the card's page, with what was typed and what is said of it
-pub record HoldsCard (q : ItemsOf) (around : Around) (form : CardForm) (notes : List Note)
-    (status : Shown) (plan : Plan) : Type 0 where
+pub record HoldsCard (q : ItemsOf) (around : PageContext) (form : CardForm) (notes : List CardNote)
+    (status : PageStatus) (plan : RequestPlan) : Type 0 where
   pub draft : Draft
   pub page : Option (List ℕ)
   pub typed : IsTyped form notes draft
@@ -90,87 +90,93 @@ abbrev pub has_word : List ℕ → List ℕ → Bool
 has_word word words = list_any (λ part. bytes_eq part word) (slice_split (λ b. b == 32) words)
 
 -- the scoretaker has confirmed a note: its word is among those of the form's `sure`
-abbrev pub is_confirmed : List ℕ → Note → Bool
+abbrev pub is_confirmed : List ℕ → CardNote → Bool
 is_confirmed sure note = has_word (note_word note) sure
 
-abbrev pub are_confirmed : List ℕ → List Note → Bool
+abbrev pub are_confirmed : List ℕ → List CardNote → Bool
 are_confirmed sure notes = list_all (is_confirmed sure) notes
 
 -- a card that was taken already, or all of whose notes are confirmed, is entered
-abbrev pub is_entered : ItemsOf → ℕ → List ℕ → List Note → Bool
+abbrev pub is_entered : ItemsOf → ℕ → List ℕ → List CardNote → Bool
 is_entered q id sure notes = is_some (item_in q id) || are_confirmed sure notes
 
-abbrev pub PlansCardEntry : ItemsOf → Around → CardForm → List Note → Entry → Bool → Plan → Type 0
+abbrev pub PlansCardEntry : ItemsOf → PageContext → CardForm → List CardNote → Entry → Bool
+    → RequestPlan → Type 0
 PlansCardEntry q around form notes entry true plan =
     PlansEntries q around (cards_place form.round) (entry ∷ []) plan
 PlansCardEntry q around form notes entry false plan =
     HoldsCard q around form notes shown.Asked plan
 
 -- with these notes on its card, of which the form confirms some
-abbrev pub PlansNoted : ItemsOf → Around → CardForm → List ℕ → Entry → List Note → Plan → Type 0
+abbrev pub PlansNoted : ItemsOf → PageContext → CardForm → List ℕ → Entry → List CardNote
+    → RequestPlan → Type 0
 PlansNoted q around form sure entry notes plan =
     PlansCardEntry q around form notes entry (is_entered q entry.id sure notes) plan
 
 -- what was sent already is what it was; else what is to be confirmed of this card is asked first
-abbrev pub PlansFit : Bool → ItemsOf → Around → CardForm → List ℕ → Entry → CardEntry → Plan
+abbrev pub PlansFit : Bool → ItemsOf → PageContext → CardForm → List ℕ → Entry → CardEntry
+    → RequestPlan
     → Type 0
 PlansFit true q around form sure entry card plan = Sends (card_place form) effect.Nothing plan
 PlansFit false q around form sure entry card plan =
     PlansNoted q around form sure entry (doubts (accepted_in around.mirror.now) card) plan
 
 -- by the card that its entry spells
-abbrev pub PlansSpelled : ItemsOf → Around → CardForm → List ℕ → Entry → Option CardEntry → Plan
+abbrev pub PlansSpelled : ItemsOf → PageContext → CardForm → List ℕ → Entry → Option CardEntry
+    → RequestPlan
     → Type 0
 PlansSpelled q around form sure entry None plan = plan ≡ refuses problem.BadForm
 PlansSpelled q around form sure entry (Some card) plan =
     PlansFit (is_sent q entry) q around form sure entry card plan
 
 -- by the entry of the card, if its command has one
-abbrev pub PlansCardAs : ItemsOf → Around → CardForm → List ℕ → Option Entry → Plan → Type 0
+abbrev pub PlansCardAs : ItemsOf → PageContext → CardForm → List ℕ → Option Entry → RequestPlan
+    → Type 0
 PlansCardAs q around form sure None plan =
     HoldsCard q around form (note.Card card.TooLong ∷ []) shown.Wrong plan
 PlansCardAs q around form sure (Some entry) plan =
     PlansSpelled q around form sure entry (card_in entry.text) plan
 
 -- the form is read as a card
-pub record PlansReadCard (q : ItemsOf) (around : Around) (form : CardForm) (sure : List ℕ)
-    (plan : Plan) : Type 0 where
+pub record PlansReadCard (q : ItemsOf) (around : PageContext) (form : CardForm) (sure : List ℕ)
+    (plan : RequestPlan) : Type 0 where
   pub entry : CardEntry
   pub read : IsReadAs form entry
   pub plans : PlansCardAs q around form sure (card_entry form.id entry around.remark.now) plan
 
 -- what is said of fields that are no card
-abbrev pub fault_notes : CardReading → List Note
+abbrev pub fault_notes : CardReading → List CardNote
 fault_notes (reading.Unread faults) = unread_notes faults
 fault_notes (reading.Unfit why) = note.Card why ∷ []
 fault_notes reading.NoMemory = []
 
 -- the form is not read, and the page says why
-abbrev pub PlansUnread : ItemsOf → Around → CardForm → Plan → Type 0
+abbrev pub PlansUnread : ItemsOf → PageContext → CardForm → RequestPlan → Type 0
 PlansUnread q around form plan =
     (why : CardReading) × IsNotRead form why
     × HoldsCard q around form (fault_notes why) shown.Wrong plan
 
-abbrev pub PlansForm : ItemsOf → Around → List ℕ → Result CardForm CardFormFault → Plan → Type 0
+abbrev pub PlansForm : ItemsOf → PageContext → List ℕ → Result CardForm CardFormFault → RequestPlan
+    → Type 0
 PlansForm q around sure (Err why) plan = plan ≡ refuses problem.BadForm
 PlansForm q around sure (Ok form) plan =
     PlansReadCard q around form sure plan ⊎ PlansUnread q around form plan
 
 -- the page that says in these words why nothing is sent, with a link back to this page
-abbrev pub RefusesWith : Around → List ℕ → List ℕ → Plan → Type 0
+abbrev pub RefusesWith : PageContext → List ℕ → List ℕ → RequestPlan → Type 0
 RefusesWith around back why plan = ShowsPage shown.Wrong (refused_page around back why) plan
 
 -- what is said of a card in a hall of an earlier edition
 abbrev pub earlier_words : List ℕ
-earlier_words = codes "an earlier edition of the commands holds: this table takes no card under it"
+earlier_words = codes "an earlier edition of the commands holds: this table accepts no cards"
 
-abbrev pub PlansCardIf : Bool → Around → ItemsOf → List Pair → Plan → Type 0
+abbrev pub PlansCardIf : Bool → PageContext → ItemsOf → List Pair → RequestPlan → Type 0
 PlansCardIf false around q pairs plan = RefusesWith around (codes "/") earlier_words plan
 PlansCardIf true around q pairs plan =
     PlansForm q around (value_of (codes "sure") pairs) (card_form_of pairs) plan
 
 -- in a hall of an earlier edition no card is taken
-abbrev pub PlansCard : Around → ItemsOf → List Pair → Plan → Type 0
+abbrev pub PlansCard : PageContext → ItemsOf → List Pair → RequestPlan → Type 0
 PlansCard around q pairs plan =
     PlansCardIf (is_latest (accepted_in around.mirror.now)) around q pairs plan
 
@@ -184,23 +190,23 @@ has_forms path =
     || is_some (round_below (codes "/card/") path)
     || is_some (number_below (codes "/person/") path)
 
--- the page to go on with: the form's `back`, where it is one of the pages that have forms
+-- the page to move on to: the form's `back`, where it is one of the pages that have forms
 abbrev pub page_after : List Pair → List ℕ
 page_after pairs =
     if has_forms (value_of (codes "back") pairs) then value_of (codes "back") pairs else codes "/"
 
 -- the form asks for no command: the page says which of its fields is wrong, and why
-abbrev pub IsWrong : Around → List Pair → Plan → Type 0
+abbrev pub IsWrong : PageContext → List Pair → RequestPlan → Type 0
 IsWrong around pairs plan =
     (it : Said) × AsksNone pairs it
     × RefusesWith around (page_after pairs) (said_words it) plan
 
 -- the remark of a command that is entered now
-abbrev pub remark_in : Around → List ℕ
+abbrev pub remark_in : PageContext → List ℕ
 remark_in around = remark_under around.mirror.now around.remark.now
 
 -- the form asks for a command, which is taken under its id, with its remark
-pub record AsksCommand (q : ItemsOf) (around : Around) (pairs : List Pair) (plan : Plan)
+pub record AsksCommand (q : ItemsOf) (around : PageContext) (pairs : List Pair) (plan : RequestPlan)
     : Type 0 where
   pub id : ℕ
   pub text : List ℕ
@@ -211,10 +217,10 @@ pub record AsksCommand (q : ItemsOf) (around : Around) (pairs : List Pair) (plan
       (entry_with id (noted (remark_in around) text) ∷ []) plan
 
 -- the form has no id
-abbrev pub LacksId : List Pair → Plan → Type 0
+abbrev pub LacksId : List Pair → RequestPlan → Type 0
 LacksId pairs plan =
     (form_id_of (value_of (codes "id") pairs) ≡ None) × (plan ≡ refuses problem.BadForm)
 
-abbrev pub PlansCommand : Around → ItemsOf → List Pair → Plan → Type 0
+abbrev pub PlansCommand : PageContext → ItemsOf → List Pair → RequestPlan → Type 0
 PlansCommand around q pairs plan =
     LacksId pairs plan ⊎ (IsWrong around pairs plan ⊎ AsksCommand q around pairs plan)

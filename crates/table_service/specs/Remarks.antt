@@ -1,4 +1,4 @@
--- What is behind what a table enters: its name, and the time of the machine's clock (the project's
+-- The remark of what a table enters: its name, and the time of the machine's clock (the project's
 -- own).
 use Rattle.std.specs.Prelude.{ℕ, ◌/◌, ◌%◌, ◌++◌, ◌&&◌, Bool, List, Option, None, Some, codes}
 use Rattle.std.specs.Prelude.{[], if◌then◌else◌, length, nat_le}
@@ -18,7 +18,7 @@ time_of_day seconds =
     two_digits (seconds / 3600 % 24) ++ codes ":" ++ two_digits (seconds / 60 % 60) ++ codes ":"
     ++ two_digits (seconds % 60) ++ codes " UTC"
 
--- the name, and the time where the clock tells it
+-- the name, and the time where the clock gives it
 abbrev pub remark_of : List ℕ → Option ℕ → List ℕ
 remark_of name None = name
 remark_of name (Some seconds) = name ++ codes " " ++ time_of_day seconds

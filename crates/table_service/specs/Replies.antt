@@ -7,13 +7,13 @@ use Rattle.http_server.specs.Response.{IsResponse}
 use Rattle.table_views.specs.Looks.{style, script}
 use Rattle.table_service.specs.declared.plan.Problem.{Problem}
 use Rattle.table_service.specs.declared.plan.Problem.TheVariants as problem
-use Rattle.table_service.specs.declared.plan.Reply.{Reply}
-use Rattle.table_service.specs.declared.plan.Reply.TheVariants as reply
-use Rattle.table_service.specs.declared.plan.Shown.{Shown}
-use Rattle.table_service.specs.declared.plan.Shown.TheVariants as shown
+use Rattle.table_service.specs.declared.plan.PageReply.{PageReply}
+use Rattle.table_service.specs.declared.plan.PageReply.TheVariants as reply
+use Rattle.table_service.specs.declared.plan.PageStatus.{PageStatus}
+use Rattle.table_service.specs.declared.plan.PageStatus.TheVariants as shown
 
 -- the fields that each answer has: pages may load what the program serves and nothing else, their
--- forms go to it alone, no other page may frame them, and nothing of them is kept
+-- forms go to it alone, no other page may frame them, and no browser keeps them
 abbrev pub security : List Header
 security = (
   codes "content-security-policy",
@@ -71,7 +71,7 @@ line_of problem.Method = codes "405 Method Not Allowed\n"
 line_of problem.Busy =
     codes "Not taken: there is no room now. Go back, and send it again in a while.\n"
 
-abbrev pub shown_status : Shown → ℕ
+abbrev pub shown_status : PageStatus → ℕ
 shown_status shown.Asked = 200
 shown_status shown.Wrong = 422
 
@@ -85,7 +85,7 @@ Sees location r =
     IsResponse 303 (fields_with (codes "location", location)) [] r
     ⊎ (¬ (IsFieldValue location) × IsResponse 303 security [] r)
 
-abbrev pub Writes : Reply → Response → Type 0
+abbrev pub Writes : PageReply → Response → Type 0
 Writes (reply.Text why) r = IsProblem why r
 Writes (reply.Html status page) r =
     IsResponse (shown_status status) (fields_with (kind html_kind)) page.items r

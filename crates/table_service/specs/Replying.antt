@@ -2,41 +2,41 @@
 use Rattle.std.specs.Prelude.{◌≡◌, ℕ, List, Option, None, Some}
 use Rattle.table_service.specs.declared.plan.Effect.{Effect}
 use Rattle.table_service.specs.declared.plan.Effect.TheVariants as effect
-use Rattle.table_service.specs.declared.plan.Plan.{Plan}
+use Rattle.table_service.specs.declared.plan.RequestPlan.{RequestPlan}
 use Rattle.table_service.specs.declared.plan.Problem.{Problem}
 use Rattle.table_service.specs.declared.plan.Problem.TheVariants as problem
-use Rattle.table_service.specs.declared.plan.Reply.{Reply}
-use Rattle.table_service.specs.declared.plan.Reply.TheVariants as reply
-use Rattle.table_service.specs.declared.plan.Shown.{Shown}
-use Rattle.table_service.specs.declared.plan.Shown.TheVariants as shown
+use Rattle.table_service.specs.declared.plan.PageReply.{PageReply}
+use Rattle.table_service.specs.declared.plan.PageReply.TheVariants as reply
+use Rattle.table_service.specs.declared.plan.PageStatus.{PageStatus}
+use Rattle.table_service.specs.declared.plan.PageStatus.TheVariants as shown
 
 -- no page, and why
-abbrev pub refuses : Problem → Plan
+abbrev pub refuses : Problem → RequestPlan
 refuses why = record { reply = reply.Text why; effect = effect.Nothing }
 
-abbrev pub shows : Reply → Plan
+abbrev pub shows : PageReply → RequestPlan
 shows answer = record { reply = answer; effect = effect.Nothing }
 
-abbrev pub IsHtml : Shown → List ℕ → Reply → Type 0
+abbrev pub IsHtml : PageStatus → List ℕ → PageReply → Type 0
 IsHtml status text (reply.Html sent page) = (sent ≡ status) × (page.items ≡ text)
 IsHtml status text _ = ⊥
 
 -- a page with this text, which uses the ids of its forms
-abbrev pub ShowsPage : Shown → List ℕ → Plan → Type 0
+abbrev pub ShowsPage : PageStatus → List ℕ → RequestPlan → Type 0
 ShowsPage status text plan = IsHtml status text plan.reply × (plan.effect ≡ effect.Ids)
 
-abbrev pub ShowsAs : Shown → Option (List ℕ) → Plan → Type 0
+abbrev pub ShowsAs : PageStatus → Option (List ℕ) → RequestPlan → Type 0
 ShowsAs status None plan = plan ≡ refuses problem.NotFound
 ShowsAs status (Some text) plan = ShowsPage status text plan
 
 -- a page, if there is one
-abbrev pub ShowsIf : Option (List ℕ) → Plan → Type 0
+abbrev pub ShowsIf : Option (List ℕ) → RequestPlan → Type 0
 ShowsIf page plan = ShowsAs shown.Asked page plan
 
-abbrev pub GoesTo : List ℕ → Reply → Type 0
+abbrev pub GoesTo : List ℕ → PageReply → Type 0
 GoesTo location (reply.SeeOther at) = at.items ≡ location
 GoesTo location _ = ⊥
 
 -- the browser is sent on to another page
-abbrev pub Sends : List ℕ → Effect → Plan → Type 0
+abbrev pub Sends : List ℕ → Effect → RequestPlan → Type 0
 Sends location what plan = GoesTo location plan.reply × (plan.effect ≡ what)

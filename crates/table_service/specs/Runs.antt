@@ -15,7 +15,7 @@ use Rattle.table_service.specs.Services.{Answers, IsKept, ServiceOf}
 use Rattle.table_service.specs.Steps.{IsKeptUp}
 
 -- a request is answered; the loop keeps a service up with the desks; ids, the time or the clock are
--- told it; or the program, or its machine, ends, and is started again
+-- given to it; or the program, or its machine, ends, and is started again
 pub data Turn : Type 0 where
   Asked : Request (List ℕ) → Response → Turn
   KeptUp : Turn

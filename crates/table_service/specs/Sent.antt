@@ -4,8 +4,8 @@ use Rattle.http.specs.declared.request.Request.{Request}
 use Rattle.card_forms.specs.declared.pairs.Pair.{Pair}
 use Rattle.card_forms.specs.Pairs.{value_of}
 use Rattle.outbox.specs.Items.{ItemsOf}
-use Rattle.table_views.specs.declared.around.Around.{Around}
-use Rattle.table_service.specs.declared.plan.Plan.{Plan}
+use Rattle.table_views.specs.declared.around.PageContext.{PageContext}
+use Rattle.table_service.specs.declared.plan.RequestPlan.{RequestPlan}
 use Rattle.table_service.specs.declared.plan.Problem.TheVariants as problem
 use Rattle.table_service.specs.Answering.{PlansAgain, PlansAnswered}
 use Rattle.table_service.specs.Gate.{has_token}
@@ -17,74 +17,76 @@ use Rattle.table_service.specs.Requests.{is_post, is_read, path_of, sent_pairs}
 use Rattle.table_service.specs.Undoing.{PlansUndo}
 
 -- by whether the path is that of leaving an item as it is, and that of taking a card back
-abbrev pub PlansAtLast : Around → ItemsOf → List Pair → Bool → Bool → Plan → Type 0
+abbrev pub PlansAtLast : PageContext → ItemsOf → List Pair → Bool → Bool → RequestPlan → Type 0
 PlansAtLast around q pairs true undoes plan = PlansAnswered around q pairs plan
 PlansAtLast around q pairs false true plan = PlansUndo around q pairs plan
 PlansAtLast around q pairs false false plan = plan ≡ refuses problem.Method
 
 -- by whether the path is that of taking what was typed over what counts now
-abbrev pub PlansAtAnswers : Around → ItemsOf → List ℕ → List Pair → Bool → Plan → Type 0
+abbrev pub PlansAtAnswers : PageContext → ItemsOf → List ℕ → List Pair → Bool → RequestPlan → Type 0
 PlansAtAnswers around q path pairs true plan = PlansAgain around q pairs plan
 PlansAtAnswers around q path pairs false plan =
     PlansAtLast around q pairs (bytes_eq path (codes "/answered")) (bytes_eq path (codes "/undo"))
     plan
 
 -- the pairs of an answer that are sent to a path
-abbrev pub PlansSentAnswers : Around → ItemsOf → List ℕ → List Pair → Plan → Type 0
+abbrev pub PlansSentAnswers : PageContext → ItemsOf → List ℕ → List Pair → RequestPlan → Type 0
 PlansSentAnswers around q path pairs plan =
     PlansAtAnswers around q path pairs (bytes_eq path (codes "/again")) plan
 
 -- by whether the path is that of several commands, and that of lines to be looked at
-abbrev pub PlansAtLines : Around → ItemsOf → List ℕ → List Pair → Bool → Bool → Plan → Type 0
+abbrev pub PlansAtLines : PageContext → ItemsOf → List ℕ → List Pair → Bool → Bool → RequestPlan
+    → Type 0
 PlansAtLines around q path pairs true lines plan = PlansList around q pairs plan
 PlansAtLines around q path pairs false true plan =
     LooksAt around (page_after pairs) (value_of (codes "lines") pairs) plan
 PlansAtLines around q path pairs false false plan = PlansSentAnswers around q path pairs plan
 
 -- the pairs of lines that are sent to a path
-abbrev pub PlansSentLines : Around → ItemsOf → List ℕ → List Pair → Plan → Type 0
+abbrev pub PlansSentLines : PageContext → ItemsOf → List ℕ → List Pair → RequestPlan → Type 0
 PlansSentLines around q path pairs plan =
     PlansAtLines around q path pairs (bytes_eq path (codes "/commands"))
     (bytes_eq path (codes "/lines")) plan
 
 -- by whether the path is that of a card's form, and that of a command's
-abbrev pub PlansAt : Around → ItemsOf → List ℕ → List Pair → Bool → Bool → Plan → Type 0
+abbrev pub PlansAt : PageContext → ItemsOf → List ℕ → List Pair → Bool → Bool → RequestPlan → Type 0
 PlansAt around q path pairs true command plan = PlansCard around q pairs plan
 PlansAt around q path pairs false true plan = PlansCommand around q pairs plan
 PlansAt around q path pairs false false plan = PlansSentLines around q path pairs plan
 
 -- the pairs that are sent to a path
-abbrev pub PlansSent : Around → ItemsOf → List ℕ → List Pair → Plan → Type 0
+abbrev pub PlansSent : PageContext → ItemsOf → List ℕ → List Pair → RequestPlan → Type 0
 PlansSent around q path pairs plan =
     PlansAt around q path pairs (bytes_eq path (codes "/card"))
     (bytes_eq path (codes "/command")) plan
 
-abbrev pub PlansPosted : Around → ItemsOf → List ℕ → List Pair → Bool → Plan → Type 0
+abbrev pub PlansPosted : PageContext → ItemsOf → List ℕ → List Pair → Bool → RequestPlan → Type 0
 PlansPosted around q path pairs false plan = plan ≡ refuses problem.Foreign
 PlansPosted around q path pairs true plan = PlansSent around q path pairs plan
 
 -- a form of pairs that is sent, if it carries the token
-abbrev pub PlansPairs : Around → ItemsOf → Request (List ℕ) → Plan → Type 0
+abbrev pub PlansPairs : PageContext → ItemsOf → Request (List ℕ) → RequestPlan → Type 0
 PlansPairs around q request plan =
     PlansPosted around q (path_of request) (sent_pairs request)
     (has_token around.token.now (sent_pairs request)) plan
 
 -- by whether the path is that of a competition's file
-abbrev pub PlansFormAt : Around → ItemsOf → Request (List ℕ) → Bool → Plan → Type 0
+abbrev pub PlansFormAt : PageContext → ItemsOf → Request (List ℕ) → Bool → RequestPlan → Type 0
 PlansFormAt around q request true plan = PlansImport around request plan
 PlansFormAt around q request false plan = PlansPairs around q request plan
 
 -- a form that is sent
-abbrev pub PlansPost : Around → ItemsOf → Request (List ℕ) → Plan → Type 0
+abbrev pub PlansPost : PageContext → ItemsOf → Request (List ℕ) → RequestPlan → Type 0
 PlansPost around q request plan =
     PlansFormAt around q request (bytes_eq (path_of request) (codes "/import")) plan
 
 -- by whether the method only reads, and whether it sends a form
-abbrev pub PlansBy : Around → List ℕ → ItemsOf → Request (List ℕ) → Bool → Bool → Plan → Type 0
+abbrev pub PlansBy : PageContext → List ℕ → ItemsOf → Request (List ℕ) → Bool → Bool → RequestPlan
+    → Type 0
 PlansBy around title q request true post plan = PlansRead q around title request plan
 PlansBy around title q request false true plan = PlansPost around q request plan
 PlansBy around title q request false false plan = plan ≡ refuses problem.Method
 
-abbrev pub PlansOwn : Around → List ℕ → ItemsOf → Request (List ℕ) → Plan → Type 0
+abbrev pub PlansOwn : PageContext → List ℕ → ItemsOf → Request (List ℕ) → RequestPlan → Type 0
 PlansOwn around title q request plan =
     PlansBy around title q request (is_read request) (is_post request) plan

@@ -1,21 +1,21 @@
--- What the score table answers, and what it takes (the project's own).
+-- What the score table answers, and what it accepts (the project's own).
 use Rattle.std.specs.Prelude.{◌≡◌, ◌⊎◌, ◌||◌, ◌≤◌, ℕ, ◌∷◌, [], Bool, true, false, List, drop}
 use Rattle.std.specs.Prelude.{length}
 use Rattle.std.specs.Prelude.{slice_get, Option, None, Some}
 use Rattle.acceptor.specs.declared.entry.Entry.{Entry}
 use Rattle.http.specs.declared.request.Request.{Request}
 use Rattle.http_server.specs.declared.response.Response.{Response}
-use Rattle.mirroring.specs.Mirrorings.{MirroringOf}
-use Rattle.outbox.specs.declared.item.Taken.{Taken}
-use Rattle.outbox.specs.declared.item.Taken.TheVariants as taken
+use Rattle.kept_mirror.specs.Mirrorings.{MirroringOf}
+use Rattle.outbox.specs.declared.item.QueueOutcome.{QueueOutcome}
+use Rattle.outbox.specs.declared.item.QueueOutcome.TheVariants as taken
 use Rattle.outbox.specs.Items.{ItemsOf, Takes, all_kept, taken_back}
 use Rattle.outbox.specs.Outboxes.{Answers as AnswersItem, OutboxOf, with_list}
 use Rattle.wire.specs.Entries.{IsEntry}
-use Rattle.table_views.specs.declared.around.Around.{Around}
-use Rattle.table_views.specs.declared.desks.Desks.{Desks}
+use Rattle.table_views.specs.declared.around.PageContext.{PageContext}
+use Rattle.table_views.specs.declared.desks.HallStatus.{HallStatus}
 use Rattle.table_service.specs.declared.plan.Effect.{Effect}
 use Rattle.table_service.specs.declared.plan.Effect.TheVariants as effect
-use Rattle.table_service.specs.declared.plan.Plan.{Plan}
+use Rattle.table_service.specs.declared.plan.RequestPlan.{RequestPlan}
 use Rattle.table_service.specs.declared.plan.Problem.TheVariants as problem
 use Rattle.table_service.specs.Disks.{JournalOf, Keeps}
 use Rattle.table_service.specs.Gate.{is_own}
@@ -39,14 +39,14 @@ pub record ServiceOf : Type 0 where
   pub token : List ℕ
   pub proposals : List ℕ
   pub mirroring : MirroringOf
-  pub desks : Desks
+  pub desks : HallStatus
   pub outbox : OutboxOf
   pub ids : List (List ℕ)
   pub time : ℕ
   pub clock : Option ℕ
   pub file : JournalOf
 
-abbrev pub service : List ℕ → List ℕ → List (List ℕ) → List ℕ → List ℕ → MirroringOf → Desks
+abbrev pub service : List ℕ → List ℕ → List (List ℕ) → List ℕ → List ℕ → MirroringOf → HallStatus
     → OutboxOf → List (List ℕ) → ℕ → Option ℕ → JournalOf → ServiceOf
 service title name hosts token proposals mirroring desks outbox ids time clock file = record {
   title = title;
@@ -76,7 +76,8 @@ with_ids_used s = record s { ids = drop 1 s.ids }
 -- ---- what is to be done for a request
 
 -- a page is made of the mirror, the items and the desks as they are, with this set of ids
-pub record IsAround (s : ServiceOf) (set : List ℕ) (request : Request (List ℕ)) (around : Around)
+pub record IsAround (s : ServiceOf) (set : List ℕ) (request : Request (List ℕ))
+    (around : PageContext)
     : Type 0 where
   pub mirror : around.mirror.now ≡ s.mirroring.entries
   pub desks : around.desks.now ≡ s.desks
@@ -89,23 +90,24 @@ pub record IsAround (s : ServiceOf) (set : List ℕ) (request : Request (List �
   pub waits : around.waits
       ≡ waits s.outbox.list s.mirroring.entries s.time (sent_before request)
 
-pub record PlansAround (s : ServiceOf) (set : List ℕ) (request : Request (List ℕ)) (plan : Plan)
+pub record PlansAround (s : ServiceOf) (set : List ℕ) (request : Request (List ℕ))
+    (plan : RequestPlan)
     : Type 0 where
-  pub around : Around
+  pub around : PageContext
   pub is : IsAround s set request around
   pub plans : PlansOwn around s.title s.outbox.list request plan
 
 -- a page needs ids for its forms
-abbrev pub PlansWith : ServiceOf → Request (List ℕ) → Option (List ℕ) → Plan → Type 0
+abbrev pub PlansWith : ServiceOf → Request (List ℕ) → Option (List ℕ) → RequestPlan → Type 0
 PlansWith s request None plan = plan ≡ refuses problem.Busy
 PlansWith s request (Some set) plan = PlansAround s set request plan
 
-abbrev pub PlansIf : ServiceOf → Request (List ℕ) → Bool → Plan → Type 0
+abbrev pub PlansIf : ServiceOf → Request (List ℕ) → Bool → RequestPlan → Type 0
 PlansIf s request false plan = plan ≡ refuses problem.Foreign
 PlansIf s request true plan = PlansWith s request (slice_get s.ids 0) plan
 
 -- what is to be done for a request: nothing, where it is not from a page of the program's own
-abbrev pub Plans : ServiceOf → Request (List ℕ) → Plan → Type 0
+abbrev pub Plans : ServiceOf → Request (List ℕ) → RequestPlan → Type 0
 Plans s request plan = PlansIf s request (is_own s.hosts request) plan
 
 -- ---- what is done
@@ -114,19 +116,19 @@ Plans s request plan = PlansIf s request (is_own s.hosts request) plan
 abbrev pub StaysKept : ItemsOf → ItemsOf → Type 0
 StaysKept old new = (taken_back new ≡ taken_back old) × (new.kept ≤ length new.items)
 
-abbrev pub is_new : Taken → Bool
+abbrev pub is_new : QueueOutcome → Bool
 is_new taken.New = true
 is_new taken.Same = false
 is_new taken.Other = false
 is_new taken.Unfit = false
 is_new taken.Full = false
 
--- an entry, whose id and text are in their ranges, is tried to be taken: whether it is queued, or
+-- what taking an entry comes to, whose id and text are in their ranges: whether it is queued, or
 -- was known with its text, whatever the remarks are
 pub record TakesAs (there : Bool) (old : ItemsOf) (entry : Entry) (now : ℕ) (new : ItemsOf)
     : Type 0 where
   pub fit : IsEntry entry
-  pub came : Taken
+  pub came : QueueOutcome
   pub takes : Takes old entry now came new
   pub is : there ≡ (is_sent old entry || is_new came)
 
@@ -161,8 +163,8 @@ KeepsList kept list old new =
     (file : JournalOf) × Keeps kept list.lines old.file file
     × (new ≡ record old { outbox = with_list old.outbox (list_if kept list); file = file })
 
--- one of the entries can't be taken, and nothing changes; or they could not be kept, and are taken
--- back
+-- one of the entries can't be taken, and nothing changes; or the entries could not be kept, and are
+-- taken back
 abbrev pub LeavesAll : List Entry → ServiceOf → ServiceOf → Type 0
 LeavesAll entries old new =
     (CannotTake old.outbox.list entries old.time × (new ≡ old))
@@ -180,8 +182,8 @@ TakesFor true entries old before new response =
     × KeepsList true list old new × (response ≡ before)
 TakesFor false entries old before new response = TakesNone entries old response new
 
--- the entries are taken and kept, and the browser is sent on; or none is
-abbrev pub TakesThem : List Entry → Plan → ServiceOf → Response → ServiceOf → Type 0
+-- the entries are taken and kept, and the browser is sent to the next page; or none is taken
+abbrev pub TakesThem : List Entry → RequestPlan → ServiceOf → Response → ServiceOf → Type 0
 TakesThem entries plan old response new =
     TakesNone entries old response new
     ⊎ ((list : ItemsOf) × TakesAll old.outbox.list entries old.time list
@@ -201,7 +203,7 @@ AnswersIt of old new = (new ≡ old) ⊎ AnswersKept of old new
 
 -- an entry is taken and kept, the ids of the page are used, and the item of an id counts as
 -- answered
-pub record IsTakenAgain (list : ItemsOf) (of : ℕ) (plan : Plan) (old : ServiceOf)
+pub record IsTakenAgain (list : ItemsOf) (of : ℕ) (plan : RequestPlan) (old : ServiceOf)
     (response : Response) (new : ServiceOf) : Type 0 where
   pub kept : ServiceOf
   pub keeps : KeepsList true list old kept
@@ -215,13 +217,13 @@ TakesAgainFor entry of old before new response =
     ⊎ ((kept : ServiceOf) × TakesFor true (entry ∷ []) old before kept response
     × AnswersIt of (with_ids_used kept) new)
 
-abbrev pub TakesAgain : Entry → ℕ → Plan → ServiceOf → Response → ServiceOf → Type 0
+abbrev pub TakesAgain : Entry → ℕ → RequestPlan → ServiceOf → Response → ServiceOf → Type 0
 TakesAgain entry of plan old response new =
     TakesNone (entry ∷ []) old response new
     ⊎ ((list : ItemsOf) × TakesAll old.outbox.list (entry ∷ []) old.time list
     × IsTakenAgain list of plan old response new)
 
-abbrev pub DoesAs : Effect → Plan → ServiceOf → Response → ServiceOf → Type 0
+abbrev pub DoesAs : Effect → RequestPlan → ServiceOf → Response → ServiceOf → Type 0
 DoesAs effect.Nothing plan old response new = (new ≡ old) × Writes plan.reply response
 DoesAs effect.Ids plan old response new = (new ≡ with_ids_used old) × Writes plan.reply response
 DoesAs (effect.Take entries) plan old response new = TakesThem entries.items plan old response new
@@ -229,22 +231,22 @@ DoesAs (effect.Again entry of) plan old response new = TakesAgain entry of plan 
 DoesAs (effect.Answer of) plan old response new =
     AnswersIt of old new × Writes plan.reply response
 
-abbrev pub Does : Plan → ServiceOf → Response → ServiceOf → Type 0
+abbrev pub Does : RequestPlan → ServiceOf → Response → ServiceOf → Type 0
 Does plan old response new = DoesAs plan.effect plan old response new
 
 -- what is planned for the request is done, and nothing else changes
 pub record Answers (old : ServiceOf) (request : Request (List ℕ)) (response : Response)
     (new : ServiceOf) : Type 0 where
-  pub plan : Plan
+  pub plan : RequestPlan
   pub planned : Plans old request plan
   pub does : Does plan old response new
 
 -- ---- what the other calls change
 
--- no ids are given, and no time is said; what is in no journal is no item
+-- no ids are given, and no time is known; what is in no journal is no item
 pub record IsNew (title name : List ℕ) (hosts : List (List ℕ)) (token proposals : List ℕ)
     (mirroring : MirroringOf) (outbox : OutboxOf) (file : JournalOf) (s : ServiceOf) : Type 0 where
-  pub desks : Desks
+  pub desks : HallStatus
   pub is : s ≡ service title name hosts token proposals mirroring desks
       (with_list outbox (taken_back outbox.list)) [] 0 None file
 

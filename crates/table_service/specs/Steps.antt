@@ -2,15 +2,15 @@
 use Rattle.std.specs.Prelude.{◌≡◌, ℕ, take, Some, Bool, true, false}
 use Rattle.desk_sockets.specs.Asking.{AsksNow}
 use Rattle.desk_talks.specs.Dialogues.{Reaches}
-use Rattle.following.specs.declared.stages.Stage.{Stage}
-use Rattle.following.specs.declared.stages.Stage.TheVariants as stage
-use Rattle.mirroring.specs.Mirrorings.{DialogueLeads as MirrorLeads, awaiting, hurried}
+use Rattle.log_follower.specs.declared.stages.FollowStage.{FollowStage}
+use Rattle.log_follower.specs.declared.stages.FollowStage.TheVariants as stage
+use Rattle.kept_mirror.specs.Mirrorings.{DialogueLeads as MirrorLeads, awaiting, hurried}
 use Rattle.outbox.specs.Outboxes.{DialogueLeads, aimed, looked}
-use Rattle.table_views.specs.declared.desks.Desks.{Desks}
+use Rattle.table_views.specs.declared.desks.HallStatus.{HallStatus}
 use Rattle.table_service.specs.Services.{IsKeptBut, IsSentBut, ServiceOf}
 
 -- a call of a service: the mirror is kept up over a connection, or asks at once; this many entries
--- of its log are looked through; a desk is aimed at; what is under way goes on over a connection;
+-- of its log are looked through; a desk is aimed at; what is under way continues over a connection;
 -- or it is said how the desks are doing
 pub data Step : Type 0 where
   Mirrors : Step
@@ -19,10 +19,10 @@ pub data Step : Type 0 where
   Looks : (count : ℕ) → Step
   Aims : (desk : ℕ) → Step
   Submits : (now : ℕ) → Step
-  Tells : Desks → Step
+  Tells : HallStatus → Step
 
--- what the contract of each of them says: the outbox is asked what is to be done at this time, and
--- what it hands out goes over the connection
+-- what each call's contract says: the outbox is asked what is to be done at this time, and what it
+-- hands out goes over the connection
 abbrev pub StepLeads : Step → ServiceOf → ServiceOf → Type 0
 StepLeads Mirrors old new =
     IsKeptBut old new × Reaches MirrorLeads old.mirroring new.mirroring
@@ -39,13 +39,13 @@ StepLeads (Tells desks) old new = new ≡ record old { desks = desks }
 abbrev pub IsKeptUp : ServiceOf → ServiceOf → Type 0
 IsKeptUp old new = Reaches StepLeads old new
 
--- the mirror has all that the log of the desk had that answered last: the next question waits
-abbrev pub has_all : Stage → Bool
+-- the mirror has all that was in the log of the desk that answered last: the next question waits
+abbrev pub has_all : FollowStage → Bool
 has_all (stage.Answered (Some last)) = true
 has_all _ = false
 
--- in between, what is under way goes on over its connection: what the outbox hands out at this time
--- is given to the submission
+-- in between, what is under way continues over its connection: what the outbox hands out at this
+-- time is given to the submission
 abbrev pub HandsOut : (now : ℕ) → ServiceOf → ServiceOf → Type 0
 HandsOut now old new =
     (before : ServiceOf) × (after : ServiceOf) × IsKeptUp old before

@@ -5,17 +5,17 @@ use Rattle.std.specs.Prelude.{Option, None, Some, option_map}
 use Rattle.std.specs.List.{list_any}
 use Rattle.acceptor.specs.declared.entry.Entry.{Entry}
 use Rattle.card_forms.specs.Remarks.{is_same_but_remark}
-use Rattle.hall_views.specs.Refused.{faults_page}
+use Rattle.table_hall_views.specs.Refused.{faults_page}
 use Rattle.outbox.specs.declared.item.Item.{Item}
 use Rattle.outbox.specs.Items.{ItemsOf, item_in}
-use Rattle.table_views.specs.declared.around.Around.{Around}
+use Rattle.table_views.specs.declared.around.PageContext.{PageContext}
 use Rattle.texts.specs.declared.command.CardEntry.{CardEntry}
 use Rattle.texts.specs.Spelling.{IsEntered}
 use Rattle.table_service.specs.declared.plan.Effect.{Effect}
 use Rattle.table_service.specs.declared.plan.Effect.TheVariants as effect
-use Rattle.table_service.specs.declared.plan.Plan.{Plan}
+use Rattle.table_service.specs.declared.plan.RequestPlan.{RequestPlan}
 use Rattle.table_service.specs.declared.plan.Problem.TheVariants as problem
-use Rattle.table_service.specs.declared.plan.Shown.TheVariants as shown
+use Rattle.table_service.specs.declared.plan.PageStatus.TheVariants as shown
 use Rattle.table_service.specs.Replying.{GoesTo, ShowsPage, refuses}
 
 -- the attempts that a card enters are few, and in their ranges
@@ -66,7 +66,7 @@ AreTaken entries (effect.Take them) = them.items ≡ entries
 AreTaken entries _ = ⊥
 
 -- the browser is sent to a place, and these entries are taken
-pub record TakesThem (place : List ℕ) (entries : List Entry) (plan : Plan) : Type 0 where
+pub record TakesThem (place : List ℕ) (entries : List Entry) (plan : RequestPlan) : Type 0 where
   pub goes : GoesTo place plan.reply
   pub takes : AreTaken entries plan.effect
 
@@ -83,21 +83,22 @@ place_after back (Some id) = place_with back id
 abbrev pub last_id : List Entry → Option ℕ
 last_id entries = option_map (λ entry. entry.id) (slice_get entries (length entries - 1))
 
-abbrev pub PlansRoom : Bool → List ℕ → List Entry → Plan → Type 0
+abbrev pub PlansRoom : Bool → List ℕ → List Entry → RequestPlan → Type 0
 PlansRoom false back entries plan = plan ≡ refuses problem.Busy
 PlansRoom true back entries plan =
     TakesThem (place_after back (last_id entries)) entries plan
 
-abbrev pub PlansOther : Option (List ℕ × List ℕ) → ItemsOf → Around → List ℕ → List Entry → Plan
+abbrev pub PlansOther : Option (List ℕ × List ℕ) → ItemsOf → PageContext → List ℕ → List Entry
+    → RequestPlan
     → Type 0
 PlansOther (Some both) q around back entries plan =
     ShowsPage shown.Wrong (faults_page around back (both_words both.0 both.1)) plan
 PlansOther None q around back entries plan =
     PlansRoom (has_room q (length entries)) back entries plan
 
--- entries are taken, and the browser goes on to a page that waits for the last of them; but where
+-- entries are taken, and the browser moves on to a page that waits for the last of them; but where
 -- the id of one of them is known with another text, or there is no room. What was taken before
 -- stays as it is
-abbrev pub PlansEntries : ItemsOf → Around → List ℕ → List Entry → Plan → Type 0
+abbrev pub PlansEntries : ItemsOf → PageContext → List ℕ → List Entry → RequestPlan → Type 0
 PlansEntries q around back entries plan =
     PlansOther (other_in q entries) q around back entries plan

@@ -14,11 +14,11 @@ use Rattle.card_forms.specs.Entries.{card_entry, card_in}
 use Rattle.commands.specs.Accepted.{card_values, round_by, scramble_of}
 use Rattle.formats.specs.Events.{unit_of}
 use Rattle.outbox.specs.declared.item.Item.{Item}
-use Rattle.outbox.specs.declared.state.State.{State}
-use Rattle.outbox.specs.declared.state.State.TheVariants as state
+use Rattle.outbox.specs.declared.state.ItemState.{ItemState}
+use Rattle.outbox.specs.declared.state.ItemState.TheVariants as state
 use Rattle.outbox.specs.Items.{ItemsOf, is_answered, item_in}
 use Rattle.outbox.specs.Outboxes.{state_in}
-use Rattle.table_views.specs.declared.around.Around.{Around}
+use Rattle.table_views.specs.declared.around.PageContext.{PageContext}
 use Rattle.table_views.specs.Logs.{accepted_in}
 use Rattle.texts.specs.declared.command.CardEntry.{CardEntry}
 use Rattle.texts.specs.declared.command.Command.{Command}
@@ -28,7 +28,7 @@ use Rattle.texts.specs.declared.command.RoundId.{RoundId}
 use Rattle.texts.specs.declared.command.Settings.{Settings}
 use Rattle.texts.specs.Fields.{all_of, card_entry as over}
 use Rattle.table_service.specs.declared.plan.Effect.TheVariants as effect
-use Rattle.table_service.specs.declared.plan.Plan.{Plan}
+use Rattle.table_service.specs.declared.plan.RequestPlan.{RequestPlan}
 use Rattle.table_service.specs.declared.plan.Problem.TheVariants as problem
 use Rattle.table_service.specs.Answering.{id_of, place_of}
 use Rattle.table_service.specs.Checks.{is_left}
@@ -36,7 +36,7 @@ use Rattle.table_service.specs.Plans.{RefusesWith, cards_place}
 use Rattle.table_service.specs.Replying.{Sends, refuses}
 use Rattle.table_service.specs.Taking.{has_room, place_with}
 
--- ---- what is to stand again
+-- ---- what is to count again
 
 abbrev pub is_below : Option ℕ → ℕ → Bool
 is_below None time = true
@@ -60,13 +60,13 @@ abbrev pub back_if : Bool → Measure → Option ℕ → Option Value → Option
 back_if true unit limit stood = Some None
 back_if false unit limit stood = option_map Some (option_and_then (typed_for unit limit) stood)
 
--- what is to count again at a place, counted from 0, where a card left these and those stood: what
--- counts now stays where it is the same
+-- what is to count again at a place, counted from 0, where a card left these values in place of
+-- those: a value that is the same in both stays as it is
 abbrev pub back_at : Measure → Option ℕ → List Value → List Value → ℕ → Option (Option Entered)
 back_at unit limit left was place =
     back_if (is_left (slice_get was place) (slice_get left place)) unit limit (slice_get was place)
 
--- the same at each place where something stood; none where that cannot be typed
+-- the same at each place where something counted before; none where that cannot be typed
 abbrev pub back_of : Measure → Option ℕ → List Value → List Value → Option (List (Option Entered))
 back_of unit limit left was =
     all_of (map (back_at unit limit left was) (range_with_len 0 (length was)))
@@ -90,14 +90,14 @@ undone_in accepted id card remark (Some settings) =
     (card_values (scramble_of accepted card.id.event card.id.round) card settings)
 
 -- the entry of the card that takes this one back, under an id, with a remark: it is over what this
--- card leaves, and enters what stood before it
+-- card leaves, and enters what counted before it
 abbrev pub undone_entry : List Command → ℕ → CardEntry → List ℕ → Option Entry
 undone_entry accepted id card remark =
     undone_in accepted id card remark (option_map (λ round. round.0) (round_by accepted card.id))
 
 -- ---- taking it back
 
-abbrev pub is_saved : Option State → Bool
+abbrev pub is_saved : Option ItemState → Bool
 is_saved (Some (state.Saved position)) = true
 is_saved _ = false
 
@@ -105,18 +105,18 @@ is_saved _ = false
 abbrev pub may_undo : List Entry → ItemsOf → ℕ → Bool
 may_undo log list id = not (is_answered list id) && is_saved (state_in log list id)
 
--- what is said where what stood cannot be typed
+-- what is said where what counted before cannot be typed
 abbrev pub untyped_words : List ℕ
-untyped_words = codes "what stood before cannot be entered by itself: open the card and type it"
+untyped_words = codes "what was there before cannot be entered: open the card and type it"
 
-abbrev pub PlansUndoEntry : Bool → Around → ℕ → RoundId → Option Entry → Plan → Type 0
+abbrev pub PlansUndoEntry : Bool → PageContext → ℕ → RoundId → Option Entry → RequestPlan → Type 0
 PlansUndoEntry room around of id None plan =
     RefusesWith around (cards_place id) untyped_words plan
 PlansUndoEntry false around of id (Some entry) plan = plan ≡ refuses problem.Busy
 PlansUndoEntry true around of id (Some entry) plan =
     Sends (place_with (cards_place id) entry.id) (effect.Again entry of) plan
 
-abbrev pub PlansUndoCard : Around → ItemsOf → ℕ → Option CardEntry → Plan → Type 0
+abbrev pub PlansUndoCard : PageContext → ItemsOf → ℕ → Option CardEntry → RequestPlan → Type 0
 PlansUndoCard around q of None plan = plan ≡ refuses problem.BadForm
 PlansUndoCard around q of (Some card) plan =
     PlansUndoEntry (has_room q 1) around of card.id
@@ -124,22 +124,22 @@ PlansUndoCard around q of (Some card) plan =
     around.remark.now)
     plan
 
-abbrev pub PlansUndoIf : Bool → Around → ItemsOf → ℕ → Item → Plan → Type 0
+abbrev pub PlansUndoIf : Bool → PageContext → ItemsOf → ℕ → Item → RequestPlan → Type 0
 PlansUndoIf false around q of item plan =
     Sends (place_of (card_in item.entry.text)) effect.Nothing plan
 PlansUndoIf true around q of item plan =
     PlansUndoCard around q of (card_in item.entry.text) plan
 
-abbrev pub PlansUndoItem : Around → ItemsOf → ℕ → Option Item → Plan → Type 0
+abbrev pub PlansUndoItem : PageContext → ItemsOf → ℕ → Option Item → RequestPlan → Type 0
 PlansUndoItem around q of None plan = plan ≡ refuses problem.BadForm
 PlansUndoItem around q of (Some item) plan =
     PlansUndoIf (may_undo around.mirror.now q of) around q of item plan
 
-abbrev pub PlansUndoId : Around → ItemsOf → Option ℕ → Plan → Type 0
+abbrev pub PlansUndoId : PageContext → ItemsOf → Option ℕ → RequestPlan → Type 0
 PlansUndoId around q None plan = plan ≡ refuses problem.BadForm
 PlansUndoId around q (Some of) plan = PlansUndoItem around q of (item_in q of) plan
 
 -- a card that is saved, and that nobody has answered, is taken back by a new one, and counts as
 -- answered; any other item stays as it is
-abbrev pub PlansUndo : Around → ItemsOf → List Pair → Plan → Type 0
+abbrev pub PlansUndo : PageContext → ItemsOf → List Pair → RequestPlan → Type 0
 PlansUndo around q pairs plan = PlansUndoId around q (id_of pairs) plan

@@ -15,8 +15,8 @@ use Rattle.table_service.specs.Services.{Answers, IsKept, ServiceOf}
 abbrev pub turns : List Turn
 turns = KeptUp ∷ Restarted (codes "item 6 CL") 2 8 ∷ []
 
--- A table of a hall with an empty log is sent one command, which it takes; then come these turns.
--- It refuses a request that names another host.
+-- A table of a hall with an empty log is sent one command, which it accepts; then come these turns.
+-- The table refuses a request that names another host.
 pub record WorksTaking : Type 0 where
   pub before : ServiceOf
   pub after : ServiceOf

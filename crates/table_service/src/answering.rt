@@ -12,20 +12,20 @@ use crate::commanding::refuse;
 use crate::entering::cards_place;
 use crate::entries::{has_room, place_with};
 use crate::looking::first_id;
-use crate::plan::{Effect, Plan, Problem};
+use crate::plan::{Effect, Problem, RequestPlan};
 use acceptor::entry::Entry;
 use card_forms::{FormId, Pairs, card_entry, card_in};
 use mirror::Mirror;
-use outbox::{Item, Outbox, State};
+use outbox::{Item, ItemState, Outbox};
 use std::alloc::{AllocError, Global};
-use table_views::Around;
-use texts::{CardEntry, Entered, Was, number_between, was_of};
+use table_views::PageContext;
+use texts::{CardEntry, Entered, SeenValues, number_between, was_of};
 
 /// The greatest id of an entry, 2^63 - 1.
 const MOST_ID: u64 = 9_223_372_036_854_775_807;
 
 /// What is said where less counts than a card lets stay.
-const LESS: &[u8] = b"fewer attempts stand now than this card lets stay: open the card and type it";
+const LESS: &[u8] = b"this card keeps more attempts than are on record: open the card and type it";
 
 /// The id of an item.
 pub(crate) fn id_of(pairs: &Pairs) -> Option<u64>
@@ -42,12 +42,12 @@ fn may_answer(outbox: &Outbox, mirror: &Mirror, of: u64) -> bool
         return false;
     }
     match outbox.state(mirror, of) {
-        None | Some(State::Waits) => false,
+        None | Some(ItemState::Waits) => false,
         Some(_) => true,
     }
 }
 
-/// Where to go on: to the cards of the round, where the item is a card.
+/// The page to move on to: the cards of the round, where the item is a card.
 fn place_of(alloc: Global, card: Option<&CardEntry>) -> Result<Vec<u8>, AllocError>
     ensures { IfOk result (λ place. place.items ≡ place_of (option_copied card.entry)) }
 {
@@ -63,15 +63,15 @@ pub(crate) fn plan_leaving(
     item: &Item,
     of: u64,
     may: bool,
-) -> Result<Plan, AllocError>
+) -> Result<RequestPlan, AllocError>
     ensures { IfOk result (PlansLeaving may of item.now) }
 {
     let card = card_in(alloc, item.entry.text())?;
     let place = place_of(alloc, card.as_ref())?;
     if may {
-        Ok(Plan::see(place, Effect::Answer { of }))
+        Ok(RequestPlan::see(place, Effect::Answer { of }))
     } else {
-        Ok(Plan::see(place, Effect::Nothing))
+        Ok(RequestPlan::see(place, Effect::Nothing))
     }
 }
 
@@ -79,17 +79,17 @@ pub(crate) fn plan_leaving(
 pub(crate) fn plan_answered(
     alloc: Global,
     outbox: &Outbox,
-    around: &Around<'_>,
+    around: &PageContext<'_>,
     pairs: &Pairs,
-) -> Result<Plan, AllocError>
+) -> Result<RequestPlan, AllocError>
     ensures { IfOk result (PlansAnswered around.entry.now outbox.now.list pairs.now) }
 {
     let Some(of) = id_of(pairs) else {
-        return Ok(Plan::problem(Problem::BadForm));
+        return Ok(RequestPlan::problem(Problem::BadForm));
     };
     match outbox.find(of) {
         Some(item) => plan_leaving(alloc, item, of, may_answer(outbox, around.mirror, of)),
-        None => Ok(Plan::problem(Problem::BadForm)),
+        None => Ok(RequestPlan::problem(Problem::BadForm)),
     }
 }
 
@@ -100,14 +100,14 @@ fn enters_later(stands: usize, now: &[Option<Entered>]) -> bool
     now.iter().skip(stands).all(|outcome| outcome.is_some())
 }
 
-/// The entry of a card over these values, under an id, with a remark; none where less counts than
-/// it lets stay.
+/// The entry of a card over these values, under an id, with a remark; none where the card leaves an
+/// attempt as it is that has no value now.
 fn again_entry(
     alloc: Global,
     id: FormId,
     card: CardEntry,
     remark: &[u8],
-    was: Was,
+    was: SeenValues,
 ) -> Result<Option<Entry>, AllocError>
     ensures { IfOk result (λ entry. entry
         ≡ again_entry (enters_later (length was) card.now) id card remark.now was) }
@@ -134,11 +134,11 @@ fn again_entry(
 fn plan_again_card(
     alloc: Global,
     outbox: &Outbox,
-    around: &Around<'_>,
+    around: &PageContext<'_>,
     of: u64,
     card: CardEntry,
-    was: Was,
-) -> Result<Plan, AllocError>
+    was: SeenValues,
+) -> Result<RequestPlan, AllocError>
     ensures { IfOk result (PlansAgainCard around.entry.now outbox.now.list of (Some was)
         (Some card)) }
 {
@@ -148,47 +148,47 @@ fn plan_again_card(
         return refuse(alloc, around, &place, LESS);
     };
     if !has_room(outbox, 1) {
-        return Ok(Plan::problem(Problem::Busy));
+        return Ok(RequestPlan::problem(Problem::Busy));
     }
     let after = place_with(alloc, &place, entry.id())?;
-    Ok(Plan::see(after, Effect::Again { entry, of }))
+    Ok(RequestPlan::see(after, Effect::Again { entry, of }))
 }
 
-/// What is to be done for an item that may be answered, and of which a card is to be taken.
+/// What is to be done for an item that may be answered, of which a card is to be entered.
 fn plan_again_item(
     alloc: Global,
     outbox: &Outbox,
-    around: &Around<'_>,
+    around: &PageContext<'_>,
     pairs: &Pairs,
     of: u64,
     item: &Item,
-) -> Result<Plan, AllocError>
+) -> Result<RequestPlan, AllocError>
     ensures { IfOk result (PlansAgainIf true around.entry.now outbox.now.list pairs.now of
         item.now) }
 {
     let Some(was) = was_of(alloc, pairs.value("was"))? else {
-        return Ok(Plan::problem(Problem::BadForm));
+        return Ok(RequestPlan::problem(Problem::BadForm));
     };
     match card_in(alloc, item.entry.text())? {
         Some(card) => plan_again_card(alloc, outbox, around, of, card, was),
-        None => Ok(Plan::problem(Problem::BadForm)),
+        None => Ok(RequestPlan::problem(Problem::BadForm)),
     }
 }
 
-/// What is to be done for the form that takes what was typed over what counts now.
+/// What is to be done for the form that enters what was typed over what counts now.
 pub(crate) fn plan_again(
     alloc: Global,
     outbox: &Outbox,
-    around: &Around<'_>,
+    around: &PageContext<'_>,
     pairs: &Pairs,
-) -> Result<Plan, AllocError>
+) -> Result<RequestPlan, AllocError>
     ensures { IfOk result (PlansAgain around.entry.now outbox.now.list pairs.now) }
 {
     let Some(of) = id_of(pairs) else {
-        return Ok(Plan::problem(Problem::BadForm));
+        return Ok(RequestPlan::problem(Problem::BadForm));
     };
     match outbox.find(of) {
-        None => Ok(Plan::problem(Problem::BadForm)),
+        None => Ok(RequestPlan::problem(Problem::BadForm)),
         Some(item) if may_answer(outbox, around.mirror, of) => {
             plan_again_item(alloc, outbox, around, pairs, of, item)
         }

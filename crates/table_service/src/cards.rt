@@ -1,22 +1,22 @@
-//! The page of a card, with what its attempts come from that count.
+//! The page of a card, with where its attempts that count come from.
 
 ghost use Rattle.std.specs.Prelude.{◌≡◌, ◌<◌, ◌≤◌, IfOk, length};
 ghost use Rattle.std.specs.Option.{option_copied, option_map};
-ghost use Rattle.origins.specs.Entering.{entered_told};
+ghost use Rattle.last_change.specs.Entering.{entered_told};
 ghost use Rattle.texts.specs.Reading.{command_of};
 ghost use Rattle.table_service.specs.Pages.{AreFilled, AreFilledFor, IsCard, IsOrigin};
 ghost use Rattle.table_service.specs.Pages.{IsOriginFor, TellsEntryAt, all_typed_at, number_in};
 ghost use Rattle.table_service.specs.Pages.{stands_of, typed_at, typed_if};
 
 use acceptor::entry::Entry;
-use card_forms::{Fields, Typed, number_of};
-use entry_views::{Draft, Origin, Past, card_page};
+use card_forms::{Fields, TypedText, number_of};
+use last_change::{entered_at, last_change, last_entering};
 use learner::log::Log;
 use mirror::Mirror;
-use origins::{entered_at, last_change, last_entering};
 use outbox::Outbox;
 use std::alloc::{AllocError, Global};
-use table_views::{Around, push_entered, standing};
+use table_entry_views::{Draft, Origin, Past, card_page};
+use table_views::{PageContext, push_entered, standing};
 use texts::{CommandFault, Entered, RoundId, cut_remark, read};
 
 /// What an entry at a position of the log says of where it comes from.
@@ -82,14 +82,14 @@ fn number_in(draft: Draft<'_>) -> Option<u16>
 }
 
 /// What was entered, as it may be typed; empty where nothing was.
-fn typed_of(alloc: Global, entered: Option<&Entered>) -> Result<Typed, AllocError>
+fn typed_of(alloc: Global, entered: Option<&Entered>) -> Result<TypedText, AllocError>
     ensures { IfOk result (λ text. text ≡ typed_if (option_copied entered.entry)) }
 {
     let mut text = Vec::new(alloc);
     if let Some(entered) = entered {
         push_entered(&mut text, entered)?;
     }
-    Ok(Typed::new(text))
+    Ok(TypedText::new(text))
 }
 
 /// What a text enters for the attempt at a place, counted from 0, as it may be typed.
@@ -99,7 +99,7 @@ fn typed_in(
     number: u16,
     place: usize,
     text: &[u8],
-) -> Result<Typed, AllocError>
+) -> Result<TypedText, AllocError>
     requires { place < 5 }
     ensures { IfOk result (λ typed.
         typed ≡ typed_if (entered_told round number place (command_of text.now))) }
@@ -120,7 +120,7 @@ fn typed_at(
     number: u16,
     place: usize,
     position: Option<u32>,
-) -> Result<Typed, AllocError>
+) -> Result<TypedText, AllocError>
     requires { place < 5 }
     ensures { IfOk result (λ typed.
         typed ≡ typed_at log.now.entries round number place position) }
@@ -203,7 +203,7 @@ fn filled_for(
 pub(crate) fn card(
     alloc: Global,
     outbox: &Outbox,
-    around: &Around<'_>,
+    around: &PageContext<'_>,
     round: RoundId,
     draft: Draft<'_>,
 ) -> Result<Option<Vec<u8>>, AllocError>

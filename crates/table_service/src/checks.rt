@@ -17,11 +17,11 @@ ghost use Rattle.table_service.specs.Checks.{unsolved_at, unsolved_notes};
 
 use crate::refusing::{refusal_of, value_at, values_left};
 use attempts::Value;
-use card_forms::{NumberFault, Unread};
+use card_forms::{FieldFaults, NumberFault};
 use commands::Meet;
-use entry_views::{Note, best_in, floor_of, single_of};
 use round_counts::round_opened;
 use std::alloc::{AllocError, Global};
+use table_entry_views::{CardNote, best_in, floor_of, single_of};
 use table_views::standing;
 use texts::{CardEntry, Code, Entered, RoundId};
 
@@ -29,7 +29,7 @@ use texts::{CardEntry, Code, Entered, RoundId};
 const ROUNDS: &[u8] = &[1, 2, 3, 4];
 
 /// Puts a note after the others.
-fn put(notes: &mut Vec<Note>, note: Note) -> Result<(), AllocError>
+fn put(notes: &mut Vec<CardNote>, note: CardNote) -> Result<(), AllocError>
     ensures { OnOk result (notes.new.items ≡ notes.old.items ++ note ∷ []) }
 {
     notes.push(note)?;
@@ -129,7 +129,7 @@ fn is_unlike(fields: &[Option<Entered>], place: usize) -> bool
 /// What the times of a card are compared with, in hundredths of a second.
 #[derive(Clone, Copy)]
 pub(crate) struct Bounds {
-    /// What nobody has ever been below in the event; 0 for none.
+    /// No result of the event has ever been below this; 0 where it is not known.
     floor: u32,
     /// The best single of the round.
     here: Option<u32>,
@@ -171,7 +171,7 @@ fn is_half(bounds: Bounds, field: &Option<Entered>) -> bool
 
 /// Notes a time that nobody has ever been below.
 fn note_if_fast(
-    notes: &mut Vec<Note>,
+    notes: &mut Vec<CardNote>,
     bounds: Bounds,
     fields: &[Option<Entered>],
     place: usize,
@@ -182,7 +182,7 @@ fn note_if_fast(
 {
     if is_fast(bounds.floor, &fields[place]) {
         let attempt = place as u8 + 1;
-        put(notes, Note::Fast { attempt })
+        put(notes, CardNote::Fast { attempt })
     } else {
         Ok(())
     }
@@ -190,7 +190,7 @@ fn note_if_fast(
 
 /// Notes a time that is less than half of the singles before it.
 fn note_if_half(
-    notes: &mut Vec<Note>,
+    notes: &mut Vec<CardNote>,
     bounds: Bounds,
     fields: &[Option<Entered>],
     place: usize,
@@ -201,7 +201,7 @@ fn note_if_half(
 {
     if is_half(bounds, &fields[place]) {
         let attempt = place as u8 + 1;
-        put(notes, Note::Half { attempt })
+        put(notes, CardNote::Half { attempt })
     } else {
         Ok(())
     }
@@ -209,7 +209,7 @@ fn note_if_half(
 
 /// Notes a time that is unlike the others.
 fn note_if_unlike(
-    notes: &mut Vec<Note>,
+    notes: &mut Vec<CardNote>,
     fields: &[Option<Entered>],
     place: usize,
 ) -> Result<(), AllocError>
@@ -219,7 +219,7 @@ fn note_if_unlike(
 {
     if is_unlike(fields, place) {
         let attempt = place as u8 + 1;
-        put(notes, Note::Unlike { attempt })
+        put(notes, CardNote::Unlike { attempt })
     } else {
         Ok(())
     }
@@ -227,7 +227,7 @@ fn note_if_unlike(
 
 /// Notes what is asked of the time at a place.
 fn note_time(
-    notes: &mut Vec<Note>,
+    notes: &mut Vec<CardNote>,
     bounds: Bounds,
     fields: &[Option<Entered>],
     place: usize,
@@ -244,7 +244,7 @@ fn note_time(
 
 /// Notes what is asked of the times.
 fn note_times(
-    notes: &mut Vec<Note>,
+    notes: &mut Vec<CardNote>,
     bounds: Bounds,
     fields: &[Option<Entered>],
 ) -> Result<(), AllocError>
@@ -302,11 +302,11 @@ fn bounds_of(meet: &Meet, card: &CardEntry) -> Result<Bounds, AllocError>
 }
 
 /// Notes that a card would be refused with a code.
-fn note_refusal(notes: &mut Vec<Note>, code: Option<Code>) -> Result<(), AllocError>
+fn note_refusal(notes: &mut Vec<CardNote>, code: Option<Code>) -> Result<(), AllocError>
     ensures { OnOk result (notes.new.items ≡ notes.old.items ++ refused_notes code) }
 {
     match code {
-        Some(code) => put(notes, Note::Refused(code)),
+        Some(code) => put(notes, CardNote::Refused(code)),
         None => Ok(()),
     }
 }
@@ -324,7 +324,7 @@ pub(crate) fn is_left(was: Option<Value>, left: Option<Value>) -> bool
 
 /// Notes an attempt that counts and would change, by its place, counted from 0.
 fn note_change(
-    notes: &mut Vec<Note>,
+    notes: &mut Vec<CardNote>,
     was: &[Value],
     left: &[Value],
     place: usize,
@@ -337,11 +337,11 @@ fn note_change(
         return Ok(());
     }
     let attempt = place as u8 + 1;
-    put(notes, Note::Changes { attempt })
+    put(notes, CardNote::Changes { attempt })
 }
 
 /// Notes each attempt that counts and would change: these count, and the card leaves those.
-fn note_changes(notes: &mut Vec<Note>, was: &[Value], left: &[Value]) -> Result<(), AllocError>
+fn note_changes(notes: &mut Vec<CardNote>, was: &[Value], left: &[Value]) -> Result<(), AllocError>
     ensures { OnOk result (notes.new.items
         ≡ notes.old.items ++ change_notes was.now left.now) }
 {
@@ -370,7 +370,7 @@ fn is_failed(value: Option<Value>) -> bool
 
 /// Notes a solution, at a place, that counts DNF under the scramble of its attempt.
 fn note_if_unsolved(
-    notes: &mut Vec<Note>,
+    notes: &mut Vec<CardNote>,
     meet: &Meet,
     id: RoundId,
     now: &[Option<Entered>],
@@ -387,7 +387,7 @@ fn note_if_unsolved(
         && meet.scramble(id.event, id.round, attempt).is_some()
         && is_failed(value_at(left, at))
     {
-        put(notes, Note::Unsolved { attempt })
+        put(notes, CardNote::Unsolved { attempt })
     } else {
         Ok(())
     }
@@ -395,7 +395,7 @@ fn note_if_unsolved(
 
 /// Notes the solutions that do not solve their scrambles, where a card leaves these values.
 fn note_unsolved(
-    notes: &mut Vec<Note>,
+    notes: &mut Vec<CardNote>,
     meet: &Meet,
     id: RoundId,
     now: &[Option<Entered>],
@@ -445,7 +445,7 @@ fn is_repeat(now: &[Option<Entered>], left: &[Value]) -> bool
 
 /// Notes that the first two results come again.
 fn note_repeats(
-    notes: &mut Vec<Note>,
+    notes: &mut Vec<CardNote>,
     now: &[Option<Entered>],
     left: &[Value],
 ) -> Result<(), AllocError>
@@ -453,7 +453,7 @@ fn note_repeats(
         ≡ notes.old.items ++ repeat_notes now.now left.now) }
 {
     if is_repeat(now, left) {
-        put(notes, Note::Repeats)
+        put(notes, CardNote::Repeats)
     } else {
         Ok(())
     }
@@ -461,7 +461,7 @@ fn note_repeats(
 
 /// Notes what is asked of the values that a card leaves.
 fn note_left(
-    notes: &mut Vec<Note>,
+    notes: &mut Vec<CardNote>,
     meet: &Meet,
     card: &CardEntry,
     left: &[Value],
@@ -489,15 +489,15 @@ fn left_of(alloc: Global, meet: &Meet, card: &CardEntry) -> Result<Vec<Value>, A
 }
 
 /// What is to be confirmed of a card, where the commands so far come to this meet: with which code
-/// it would be refused; each time that nobody has ever been below, that is less than half of the
-/// best single of the round or of the competitor's in another, or that is unlike the others; each
-/// solution that does not solve its scramble; the first two results again; and each attempt that
-/// counts and would change.
+/// it would be refused; each time that is below every result that the event ever had, that is less
+/// than half of the best single of the round or of the competitor's in another, or that is unlike
+/// the others; each solution that does not solve its scramble; the first two results again; and
+/// each attempt that counts and would change.
 pub(crate) fn doubts_of(
     alloc: Global,
     card: &CardEntry,
     meet: &Meet,
-) -> Result<Vec<Note>, AllocError>
+) -> Result<Vec<CardNote>, AllocError>
     requires few { length card.now.now < 256 }
     requires entered { All (λ o. IfSome o IsEntered) card.now.now }
     ensures { IfOk result (λ notes. notes.items ≡ doubts meet.now.accepted card.entry.now) }
@@ -511,7 +511,7 @@ pub(crate) fn doubts_of(
 }
 
 /// A note alone.
-pub(crate) fn only(alloc: Global, note: Note) -> Result<Vec<Note>, AllocError>
+pub(crate) fn only(alloc: Global, note: CardNote) -> Result<Vec<CardNote>, AllocError>
     ensures { IfOk result (λ notes. notes.items ≡ note ∷ []) }
 {
     let mut notes = Vec::new(alloc);
@@ -520,33 +520,33 @@ pub(crate) fn only(alloc: Global, note: Note) -> Result<Vec<Note>, AllocError>
 }
 
 /// Notes what is wrong with the competitor's number.
-fn note_number(notes: &mut Vec<Note>, fault: Option<NumberFault>) -> Result<(), AllocError>
+fn note_number(notes: &mut Vec<CardNote>, fault: Option<NumberFault>) -> Result<(), AllocError>
     ensures { OnOk result (notes.new.items ≡ notes.old.items ++ number_notes fault) }
 {
     match fault {
-        Some(fault) => put(notes, Note::Number(fault)),
+        Some(fault) => put(notes, CardNote::Number(fault)),
         None => Ok(()),
     }
 }
 
 /// Notes what is wrong with the field of an attempt.
 fn note_field(
-    notes: &mut Vec<Note>,
+    notes: &mut Vec<CardNote>,
     attempt: u8,
-    fault: Option<scorecard::CardFault>,
+    fault: Option<scorecard::ScorecardFault>,
 ) -> Result<(), AllocError>
     ensures { OnOk result (notes.new.items ≡ notes.old.items ++ field_note attempt fault) }
 {
     match fault {
-        Some(fault) => put(notes, Note::Field { attempt, fault }),
+        Some(fault) => put(notes, CardNote::Field { attempt, fault }),
         None => Ok(()),
     }
 }
 
 /// Notes what is wrong with the fields of the attempts.
 fn note_fields(
-    notes: &mut Vec<Note>,
-    faults: &[Option<scorecard::CardFault>],
+    notes: &mut Vec<CardNote>,
+    faults: &[Option<scorecard::ScorecardFault>],
 ) -> Result<(), AllocError>
     requires { length faults.now ≤ 5 }
     ensures { OnOk result (notes.new.items ≡ notes.old.items ++ field_notes 1 faults.now) }
@@ -558,7 +558,7 @@ fn note_fields(
 }
 
 /// What is said of a card that was not read.
-pub(crate) fn unread(alloc: Global, faults: &Unread) -> Result<Vec<Note>, AllocError>
+pub(crate) fn unread(alloc: Global, faults: &FieldFaults) -> Result<Vec<CardNote>, AllocError>
     ensures { IfOk result (λ notes. notes.items ≡ unread_notes faults.now) }
 {
     let mut notes = Vec::new(alloc);

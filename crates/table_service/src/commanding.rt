@@ -4,23 +4,23 @@ ghost use Rattle.std.specs.Prelude.{◌≡◌, ◌∷◌, [], IfOk};
 ghost use Rattle.card_forms.specs.Entries.{entry_with};
 ghost use Rattle.card_forms.specs.Remarks.{noted as noted_with};
 ghost use Rattle.card_forms.specs.Faults.{IsWrong as AsksNone};
-ghost use Rattle.hall_views.specs.Refused.{faults_page};
+ghost use Rattle.table_hall_views.specs.Refused.{faults_page};
 ghost use Rattle.table_service.specs.Plans.{IsWrong, PlansCommand, RefusesWith, has_forms};
 ghost use Rattle.table_service.specs.Plans.{page_after, remark_in};
 ghost use Rattle.table_service.specs.Replying.{ShowsPage};
 ghost use Rattle.table_service.specs.Taking.{PlansEntries};
 
 use crate::entries::plan_entries;
-use crate::plan::{Plan, Problem, Shown};
+use crate::plan::{PageStatus, Problem, RequestPlan};
 use crate::reading::{number_below, round_below};
 use card_forms::{
-    CommandForm, CommandFormFault, CommandTexts, Field, Pairs, Wrong, command_entries,
+    CommandForm, CommandFormFault, CommandTexts, Field, FieldError, Pairs, command_entries,
     command_form, noted,
 };
-use hall_views::{faults_page, refused_page};
 use outbox::Outbox;
 use std::alloc::{AllocError, Global};
-use table_views::{Around, is_latest};
+use table_hall_views::{faults_page, refused_page};
+use table_views::{PageContext, is_latest};
 
 /// Whether a path is that of a page that has forms of commands.
 fn has_forms(path: &[u8]) -> bool
@@ -34,7 +34,7 @@ fn has_forms(path: &[u8]) -> bool
         || number_below(path, b"/person/").is_some()
 }
 
-/// The page to go on with: the form's `back`, where it is one of the pages that have forms.
+/// The page to move on to: the form's `back`, where it is one of the pages that have forms.
 pub(crate) fn page_after(pairs: &Pairs) -> &[u8]
     ensures { result.now ≡ page_after pairs.now }
 {
@@ -45,38 +45,38 @@ pub(crate) fn page_after(pairs: &Pairs) -> &[u8]
 /// The page that says in these words why nothing is sent, with a link back to this page.
 pub(crate) fn refuse(
     alloc: Global,
-    around: &Around<'_>,
+    around: &PageContext<'_>,
     back: &[u8],
     why: &[u8],
-) -> Result<Plan, AllocError>
+) -> Result<RequestPlan, AllocError>
     ensures { IfOk result (RefusesWith around.entry.now back.now why.now) }
 {
     let page = refused_page(alloc, around, back, why)?;
-    Ok(Plan::with_ids(Shown::Wrong, page))
+    Ok(RequestPlan::with_ids(PageStatus::Wrong, page))
 }
 
 /// The page that says in these lines why nothing is entered, with a link back to this page.
 pub(crate) fn tell(
     alloc: Global,
-    around: &Around<'_>,
+    around: &PageContext<'_>,
     back: &[u8],
     lines: &[u8],
-) -> Result<Plan, AllocError>
+) -> Result<RequestPlan, AllocError>
     ensures { IfOk result
-        (ShowsPage Shown.Wrong (faults_page around.entry.now back.now lines.now)) }
+        (ShowsPage PageStatus.Wrong (faults_page around.entry.now back.now lines.now)) }
 {
     let page = faults_page(alloc, around, back, lines)?;
-    Ok(Plan::with_ids(Shown::Wrong, page))
+    Ok(RequestPlan::with_ids(PageStatus::Wrong, page))
 }
 
 /// The page that says which field of a form is wrong, and why.
 fn wrong(
     alloc: Global,
-    around: &Around<'_>,
+    around: &PageContext<'_>,
     pairs: &Pairs,
     field: Field,
-    why: Wrong,
-) -> Result<Plan, AllocError>
+    why: FieldError,
+) -> Result<RequestPlan, AllocError>
     requires { AsksNone pairs.now (field, why) }
     ensures { IfOk result (IsWrong around.entry.now pairs.now) }
 {
@@ -85,7 +85,7 @@ fn wrong(
 }
 
 /// The remark of a command that is entered now: none in a hall of an earlier edition.
-pub(crate) fn remark_in<'a>(around: &Around<'a>) -> &'a [u8]
+pub(crate) fn remark_in<'a>(around: &PageContext<'a>) -> &'a [u8]
     ensures { result.now ≡ remark_in around.entry.now }
 {
     if is_latest(around.mirror.meet()) {
@@ -99,10 +99,10 @@ pub(crate) fn remark_in<'a>(around: &Around<'a>) -> &'a [u8]
 fn plan_text(
     alloc: Global,
     outbox: &Outbox,
-    around: &Around<'_>,
+    around: &PageContext<'_>,
     form: CommandForm,
     back: &[u8],
-) -> Result<Plan, AllocError>
+) -> Result<RequestPlan, AllocError>
     ensures { IfOk result (PlansEntries outbox.now.list around.entry.now back.now
         (entry_with form.id (noted_with (remark_in around.entry.now) form.text) ∷ [])) }
 {
@@ -117,15 +117,15 @@ fn plan_text(
 pub(crate) fn plan_command(
     alloc: Global,
     outbox: &Outbox,
-    around: &Around<'_>,
+    around: &PageContext<'_>,
     pairs: &Pairs,
-) -> Result<Plan, AllocError>
+) -> Result<RequestPlan, AllocError>
     ensures { IfOk result (PlansCommand around.entry.now outbox.now.list pairs.now) }
 {
     match command_form(alloc, pairs) {
         Ok(form) => plan_text(alloc, outbox, around, form, page_after(pairs)),
         Err(CommandFormFault::NoMemory) => Err(AllocError),
-        Err(CommandFormFault::BadId) => Ok(Plan::problem(Problem::BadForm)),
+        Err(CommandFormFault::BadId) => Ok(RequestPlan::problem(Problem::BadForm)),
         Err(CommandFormFault::Wrong { field, why }) => wrong(alloc, around, pairs, field, why),
     }
 }

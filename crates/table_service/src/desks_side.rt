@@ -6,10 +6,10 @@ ghost use Rattle.table_service.specs.Steps.{HandsOut, IsKeptUp, has_all};
 
 use crate::disk::Disk;
 use crate::service::TableService;
-use desk_sockets::{DeskStream, Kept};
-use hall_standings::{AskedDesks, Hall, count_desks, lent_stream};
-use mirroring::Stage;
-use outbox::{State, state_of};
+use desk_sockets::{DeskStream, DialogueChange};
+use hall_survey::{AskedDesks, Hall, count_desks, lent_stream};
+use kept_mirror::FollowStage;
+use outbox::{ItemState, state_of};
 use page_sockets::BrowserSockets;
 use pages::Browsers;
 use std::alloc::Global;
@@ -18,7 +18,7 @@ use std::io::Write;
 use std::net::Net;
 use std::random::RandomSource;
 use std::time::Clock;
-use table_views::Desks;
+use table_views::HallStatus;
 use wire::ClientRefusal;
 
 /// The name of the program.
@@ -60,16 +60,16 @@ pub(crate) struct DesksSide<'a, R> {
     /// The place of the first item that waits, and when the one before it was decided.
     front: usize,
     moved_at: u64,
-    /// Whether it was said that a desk takes nothing for want of the key.
+    /// Whether it was said that a desk accepts nothing for want of the key.
     said_refused: bool,
     /// What was said last of how the desks are doing.
-    said: Said,
+    said: HallWarning,
     ghost in_range: { IsDesk desks × IsDesk aim },
 }
 
 /// What is said of how the desks are doing.
 #[derive(Clone, Copy, PartialEq, Eq)]
-pub(crate) enum Said {
+pub(crate) enum HallWarning {
     Nothing,
     /// This desk is of another hall.
     OtherHall(u8),
@@ -78,28 +78,28 @@ pub(crate) enum Said {
 }
 
 /// What is to be said of how the desks are doing.
-fn said_of(desks: &Desks) -> Said {
+fn said_of(desks: &HallStatus) -> HallWarning {
     if let Some(desk) = desks.of_other_hall {
-        Said::OtherHall(desk)
+        HallWarning::OtherHall(desk)
     } else if desks.too_few() {
-        Said::Few
+        HallWarning::Few
     } else {
-        Said::Nothing
+        HallWarning::Nothing
     }
 }
 
 /// Says it on a line, where something else was said before. A line that can't be written is left
 /// out.
-fn say<F: Write>(before: Said, said: Said, faults: &mut F) -> Said {
+fn say<F: Write>(before: HallWarning, said: HallWarning, faults: &mut F) -> HallWarning {
     if said == before {
         return said;
     }
     match said {
-        Said::Nothing => {}
-        Said::OtherHall(desk) => {
+        HallWarning::Nothing => {}
+        HallWarning::OtherHall(desk) => {
             let _ = writeln!(faults, "{PROGRAM}: desk {desk} is of another hall");
         }
-        Said::Few => {
+        HallWarning::Few => {
             let _ = writeln!(faults, "{PROGRAM}: no majority of the hall's desks answers");
         }
     }
@@ -121,17 +121,17 @@ fn keep_asked<R: Net + RandomSource, F: Write>(
     }
 }
 
-/// Whether the mirror has all that the log of the desk had that answered last.
-fn has_all(stage: Stage) -> bool
+/// Whether the mirror has all that was in the log of the desk that answered last.
+fn has_all(stage: FollowStage) -> bool
     ensures { result ≡ has_all stage }
 {
-    matches!(stage, Stage::Answered { last: Some(_) })
+    matches!(stage, FollowStage::Answered { last: Some(_) })
 }
 
 /// Whether the item at a place waits; none where there is no such item.
 fn waits_at<D: Disk>(service: &TableService<D>, place: usize) -> Option<bool> {
     let (_, item) = service.outbox().at(place)?;
-    Some(state_of(service.mirroring().mirror(), &item.entry) == State::Waits)
+    Some(state_of(service.mirroring().mirror(), &item.entry) == ItemState::Waits)
 }
 
 /// The place of the first item from this one on that waits, or after the last one.
@@ -176,11 +176,11 @@ impl<'a, R: Net + RandomSource + Clock + Drop> DesksSide<'a, R> {
             front: 0,
             moved_at: 0,
             said_refused: false,
-            said: Said::Nothing,
+            said: HallWarning::Nothing,
         })
     }
 
-    /// Goes on to the first item that waits, once the mirror had all that a desk's log had.
+    /// Moves on to the first item that waits, once the mirror had all that a desk's log had.
     fn pass<D: Disk>(&mut self, service: &TableService<D>, now: u64)
         ensures { self.new.caught_up ≡ self.old.caught_up }
     {
@@ -198,11 +198,11 @@ impl<'a, R: Net + RandomSource + Clock + Drop> DesksSide<'a, R> {
         ensures catches_up { IfOk result (λ goes_on. goes_on ≡ true
             → has_all service.new.mirroring.follower.stage ≡ true → self.new.caught_up ≡ true) }
     {
-        if service.keep(self.stream, now) == Kept::Broken {
+        if service.keep(self.stream, now) == DialogueChange::Broken {
             return Ok(false);
         }
         let stage = service.mirroring().stage();
-        if let Stage::Answered { .. } = stage {
+        if let FollowStage::Answered { .. } = stage {
             self.answered_at = now;
         }
         self.caught_up = self.caught_up || has_all(stage);
@@ -228,8 +228,8 @@ impl<'a, R: Net + RandomSource + Clock + Drop> DesksSide<'a, R> {
         service.aim(desk);
     }
 
-    /// Goes on to the desk that the mirror follows, where it is another one than before; and to the
-    /// next desk, where a majority answers and nothing was decided for five seconds.
+    /// Moves on to the desk that the mirror follows, where it is another one than before; and to
+    /// the next desk, where a majority answers and nothing was decided for five seconds.
     fn follow<D: Disk>(&mut self, service: &mut TableService<D>, now: u64)
         ensures keeps { IsKeptUp service.old service.new }
         ensures caught_up { self.new.caught_up ≡ self.old.caught_up }
@@ -239,7 +239,7 @@ impl<'a, R: Net + RandomSource + Clock + Drop> DesksSide<'a, R> {
             self.followed = desk;
             return self.aim_at(service, desk, now);
         }
-        if self.said == Said::Few {
+        if self.said == HallWarning::Few {
             // Without a majority nothing is decided at any desk: the five seconds begin when one
             // answers.
             self.aimed_at = now;
@@ -277,9 +277,9 @@ impl<'a, R: Net + RandomSource + Clock + Drop> DesksSide<'a, R> {
     }
 
     /// Asks the desk at once for what comes next, where what it has taken waits to be decided: one
-    /// that knows version 5 of the wire says as soon as its log has it. Not as soon as it was
-    /// taken: a desk takes few questions on one connection, and one that comes too early may be its
-    /// last.
+    /// that knows version 5 of the wire answers as soon as its log has it. The question is not
+    /// asked as soon as the item was taken: a desk answers few questions on one connection, and one
+    /// that comes too early may be its last.
     fn hurry<D: Disk>(&mut self, service: &mut TableService<D>, now: u64)
         ensures keeps { IsKeptUp service.old service.new }
         ensures caught_up { self.new.caught_up ≡ self.old.caught_up }
@@ -329,7 +329,7 @@ impl<'a, R: Net + RandomSource + Clock + Drop> DesksSide<'a, R> {
             Some(since) => Some(now.saturating_sub(since)),
             None => None,
         };
-        let desks = Desks {
+        let desks = HallStatus {
             followed: service.mirroring().desk(),
             silent: Some(now.saturating_sub(self.answered_at)),
             undecided,
@@ -345,10 +345,9 @@ impl<'a, R: Net + RandomSource + Clock + Drop> DesksSide<'a, R> {
         Ok(())
     }
 
-    /// Does all that can be done now, and says what is wrong with the desks' keys. What was taken
-    /// is submitted by each call from the one on before which the mirror had all that a desk's log
-    /// had, so that nothing is submitted after a start that was decided before it. False: the hall
-    /// is broken.
+    /// Does all that can be done now, and says what is wrong with the desks' keys. Each call
+    /// submits what was taken, once the mirror had all that a desk's log had before the call: so
+    /// after a start nothing is submitted that was decided before it. False: the hall is broken.
     pub(crate) fn keep<D: Disk, F: Write>(
         &mut self,
         service: &mut TableService<D>,
@@ -376,8 +375,8 @@ impl<'a, R: Net + RandomSource + Clock + Drop> DesksSide<'a, R> {
         Ok(true)
     }
 
-    /// Says on a line, once, that a desk takes nothing for want of the key, where one refused to. A
-    /// line that can't be written is left out.
+    /// Says on a line, once, that a desk accepts nothing for want of the key, where one refused to.
+    /// A line that can't be written is left out.
     fn tell_refused<D: Disk, F: Write>(&mut self, service: &TableService<D>, faults: &mut F)
         ensures { self.new.caught_up ≡ self.old.caught_up }
     {
@@ -386,7 +385,7 @@ impl<'a, R: Net + RandomSource + Clock + Drop> DesksSide<'a, R> {
             return;
         }
         let desk = outbox.desk();
-        let why = "takes nothing: this table has no key, or another one";
+        let why = "accepts nothing: this table has no key, or another one";
         let _ = writeln!(faults, "{PROGRAM}: desk {desk} {why}");
         self.said_refused = true;
     }

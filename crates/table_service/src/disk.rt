@@ -4,7 +4,7 @@ ghost use Rattle.std.specs.Prelude.{IfOk, Option};
 ghost use Rattle.table_service.specs.Disks.{Appends, Cuts, DiskOf, Syncs};
 ghost use Rattle.table_service.specs.Openings.{HasBytes};
 
-use crate::journal_file::{FileFault, fault_of};
+use crate::journal_file::{JournalFileFault, fault_of};
 use std::alloc::Global;
 use std::fs::File;
 use std::io::{Read, Write};
@@ -19,7 +19,7 @@ pub trait Disk {
     ghost holds: { Self → Option DiskOf };
 
     /// All its bytes, at most 67,108,864.
-    fn read(&self, alloc: Global) -> Result<Vec<u8>, FileFault>
+    fn read(&self, alloc: Global) -> Result<Vec<u8>, JournalFileFault>
         ensures { IfOk result (λ bytes. HasBytes bytes.items (holds self.now)) };
 
     /// Puts bytes after the others. False where that fails; then a front part of them may be there.
@@ -30,8 +30,7 @@ pub trait Disk {
     fn sync(&mut self) -> bool
         ensures { Syncs result (holds self.old) (holds self.new) };
 
-    /// Takes away what is after this many bytes. False where that fails; then nothing is taken
-    /// away.
+    /// Removes what follows this many bytes. False where that fails; then nothing is removed.
     fn cut(&mut self, length: u64) -> bool
         ensures { Cuts result length (holds self.old) (holds self.new) };
 }
@@ -45,10 +44,10 @@ pub struct SystemFile {
 impl Disk for SystemFile {
     ghost use Rattle.std.specs.Prelude.{None};
 
-    // What is in a file of the system no contract can say.
+    // No contract can say what is in a file of the system.
     ghost holds = { λ _. None };
 
-    fn read(&self, alloc: Global) -> Result<Vec<u8>, FileFault> {
+    fn read(&self, alloc: Global) -> Result<Vec<u8>, JournalFileFault> {
         let mut bytes = Vec::new(alloc);
         let file = &self.file;
         let mut reader = file.take(MOST_BYTES + 1);
@@ -57,7 +56,7 @@ impl Disk for SystemFile {
             Err(error) => return Err(fault_of(&error)),
         }
         if bytes.len() as u64 > MOST_BYTES {
-            return Err(FileFault::TooLong);
+            return Err(JournalFileFault::TooLong);
         }
         Ok(bytes)
     }

@@ -13,21 +13,20 @@ use crate::cards::card;
 use crate::checks::{doubts_of, only, unread};
 use crate::commanding::refuse;
 use crate::entries::{fit_card, is_sent, place_with, plan_entries};
-use crate::plan::{Effect, Plan, Problem, Shown};
+use crate::plan::{Effect, PageStatus, Problem, RequestPlan};
 use acceptor::entry::Entry;
 use card_forms::{
     CardFault, CardForm, CardFormFault, CardReading, Pairs, card_entry, card_form, card_of,
 };
-use entry_views::{Draft, Note, note_word};
 use itoa::Buffer;
 use outbox::Outbox;
 use std::alloc::{AllocError, Global};
-use table_views::{Around, is_latest};
+use table_entry_views::{CardNote, Draft, note_word};
+use table_views::{PageContext, is_latest};
 use texts::{CardEntry, RoundId};
 
 /// What is said of a card in a hall of an earlier edition.
-const EARLIER: &[u8] =
-    b"an earlier edition of the commands holds: this table takes no card under it";
+const EARLIER: &[u8] = b"an earlier edition of the commands holds: this table accepts no cards";
 
 /// Where the page of a round's cards is.
 pub(crate) fn cards_place(alloc: Global, id: RoundId) -> Result<Vec<u8>, AllocError>
@@ -56,7 +55,7 @@ fn has_word(words: &[u8], word: &[u8]) -> bool
 }
 
 /// Whether the scoretaker has confirmed a note: its word is among these, with a space between two.
-fn is_confirmed(alloc: Global, sure: &[u8], note: Note) -> Result<bool, AllocError>
+fn is_confirmed(alloc: Global, sure: &[u8], note: CardNote) -> Result<bool, AllocError>
     ensures { IfOk result (λ is. is ≡ is_confirmed sure.now note) }
 {
     let word = note_word(alloc, note)?;
@@ -64,7 +63,7 @@ fn is_confirmed(alloc: Global, sure: &[u8], note: Note) -> Result<bool, AllocErr
 }
 
 /// Whether the scoretaker has confirmed all notes.
-fn are_confirmed(alloc: Global, sure: &[u8], notes: &[Note]) -> Result<bool, AllocError>
+fn are_confirmed(alloc: Global, sure: &[u8], notes: &[CardNote]) -> Result<bool, AllocError>
     ensures { IfOk result (λ are. are ≡ are_confirmed sure.now notes.now) }
 {
     for note in notes {
@@ -81,7 +80,7 @@ fn is_entered(
     outbox: &Outbox,
     id: u64,
     sure: &[u8],
-    notes: &[Note],
+    notes: &[CardNote],
 ) -> Result<bool, AllocError>
     ensures { IfOk result (λ is. is ≡ is_entered outbox.now.list id sure.now notes.now) }
 {
@@ -95,17 +94,17 @@ fn is_entered(
 fn hold(
     alloc: Global,
     outbox: &Outbox,
-    around: &Around<'_>,
+    around: &PageContext<'_>,
     form: &CardForm,
-    notes: &[Note],
-    status: Shown,
-) -> Result<Plan, AllocError>
+    notes: &[CardNote],
+    status: PageStatus,
+) -> Result<RequestPlan, AllocError>
     ensures { IfOk result (HoldsCard outbox.now.list around.entry.now form.now notes.now status) }
 {
     let draft = Draft::Typed { form, notes };
     match card(alloc, outbox, around, form.round, draft)? {
-        Some(page) => Ok(Plan::with_ids(status, page)),
-        None => Ok(Plan::problem(Problem::NotFound)),
+        Some(page) => Ok(RequestPlan::with_ids(status, page)),
+        None => Ok(RequestPlan::problem(Problem::NotFound)),
     }
 }
 
@@ -113,17 +112,17 @@ fn hold(
 fn plan_entry(
     alloc: Global,
     outbox: &Outbox,
-    around: &Around<'_>,
+    around: &PageContext<'_>,
     form: &CardForm,
-    notes: &[Note],
+    notes: &[CardNote],
     entry: Entry,
     enters: bool,
-) -> Result<Plan, AllocError>
+) -> Result<RequestPlan, AllocError>
     ensures { IfOk result
         (PlansCardEntry outbox.now.list around.entry.now form.now notes.now entry enters) }
 {
     if !enters {
-        return hold(alloc, outbox, around, form, notes, Shown::Asked);
+        return hold(alloc, outbox, around, form, notes, PageStatus::Asked);
     }
     let cards = cards_place(alloc, form.round)?;
     let mut entries = Vec::new(alloc);
@@ -135,12 +134,12 @@ fn plan_entry(
 fn plan_noted(
     alloc: Global,
     outbox: &Outbox,
-    around: &Around<'_>,
+    around: &PageContext<'_>,
     form: &CardForm,
     sure: &[u8],
     entry: Entry,
-    notes: &[Note],
-) -> Result<Plan, AllocError>
+    notes: &[CardNote],
+) -> Result<RequestPlan, AllocError>
     ensures { IfOk result
         (PlansNoted outbox.now.list around.entry.now form.now sure.now entry notes.now) }
 {
@@ -153,19 +152,19 @@ fn plan_noted(
 fn plan_fit(
     alloc: Global,
     outbox: &Outbox,
-    around: &Around<'_>,
+    around: &PageContext<'_>,
     form: &CardForm,
     sure: &[u8],
     entry: Entry,
     card: &CardEntry,
-) -> Result<Plan, AllocError>
+) -> Result<RequestPlan, AllocError>
     requires { IsFitCard card.now }
     ensures { IfOk result (PlansSpelled outbox.now.list around.entry.now form.now sure.now entry
         (Some card.entry.now)) }
 {
     if is_sent(outbox, &entry) {
         let place = place_of(alloc, form)?;
-        return Ok(Plan::see(place, Effect::Nothing));
+        return Ok(RequestPlan::see(place, Effect::Nothing));
     }
     let notes = doubts_of(alloc, card, around.mirror.meet())?;
     plan_noted(alloc, outbox, around, form, sure, entry, &notes)
@@ -175,17 +174,17 @@ fn plan_fit(
 fn plan_spelled(
     alloc: Global,
     outbox: &Outbox,
-    around: &Around<'_>,
+    around: &PageContext<'_>,
     form: &CardForm,
     sure: &[u8],
     entry: Entry,
-) -> Result<Plan, AllocError>
+) -> Result<RequestPlan, AllocError>
     ensures { IfOk result
         (PlansCardAs outbox.now.list around.entry.now form.now sure.now (Some entry)) }
 {
     match fit_card(alloc, entry.text())? {
         Some(card) => plan_fit(alloc, outbox, around, form, sure, entry, &card),
-        None => Ok(Plan::problem(Problem::BadForm)),
+        None => Ok(RequestPlan::problem(Problem::BadForm)),
     }
 }
 
@@ -193,11 +192,11 @@ fn plan_spelled(
 fn plan_read(
     alloc: Global,
     outbox: &Outbox,
-    around: &Around<'_>,
+    around: &PageContext<'_>,
     form: &CardForm,
     sure: &[u8],
     read: CardEntry,
-) -> Result<Plan, AllocError>
+) -> Result<RequestPlan, AllocError>
     requires { IsReadAs form.now read }
     ensures { IfOk result
         (PlansReadCard outbox.now.list around.entry.now form.now sure.now) }
@@ -205,8 +204,8 @@ fn plan_read(
     match card_entry(alloc, form.id, read, around.remark)? {
         Some(entry) => plan_spelled(alloc, outbox, around, form, sure, entry),
         None => {
-            let notes = only(alloc, Note::Card(CardFault::TooLong))?;
-            hold(alloc, outbox, around, form, &notes, Shown::Wrong)
+            let notes = only(alloc, CardNote::Card(CardFault::TooLong))?;
+            hold(alloc, outbox, around, form, &notes, PageStatus::Wrong)
         }
     }
 }
@@ -215,10 +214,10 @@ fn plan_read(
 fn plan_form(
     alloc: Global,
     outbox: &Outbox,
-    around: &Around<'_>,
+    around: &PageContext<'_>,
     form: &CardForm,
     sure: &[u8],
-) -> Result<Plan, AllocError>
+) -> Result<RequestPlan, AllocError>
     ensures { IfOk result (PlansForm outbox.now.list around.entry.now sure.now (Ok form.now)) }
 {
     match card_of(alloc, form) {
@@ -226,11 +225,11 @@ fn plan_form(
         Err(CardReading::NoMemory) => Err(AllocError),
         Err(CardReading::Unread(faults)) => {
             let notes = unread(alloc, &faults)?;
-            hold(alloc, outbox, around, form, &notes, Shown::Wrong)
+            hold(alloc, outbox, around, form, &notes, PageStatus::Wrong)
         }
         Err(CardReading::Unfit(fault)) => {
-            let notes = only(alloc, Note::Card(fault))?;
-            hold(alloc, outbox, around, form, &notes, Shown::Wrong)
+            let notes = only(alloc, CardNote::Card(fault))?;
+            hold(alloc, outbox, around, form, &notes, PageStatus::Wrong)
         }
     }
 }
@@ -239,9 +238,9 @@ fn plan_form(
 pub(crate) fn plan_card(
     alloc: Global,
     outbox: &Outbox,
-    around: &Around<'_>,
+    around: &PageContext<'_>,
     pairs: &Pairs,
-) -> Result<Plan, AllocError>
+) -> Result<RequestPlan, AllocError>
     ensures { IfOk result (PlansCard around.entry.now outbox.now.list pairs.now) }
 {
     if !is_latest(around.mirror.meet()) {
@@ -251,7 +250,7 @@ pub(crate) fn plan_card(
         Ok(form) => plan_form(alloc, outbox, around, &form, pairs.value("sure")),
         Err(CardFormFault::NoMemory) => Err(AllocError),
         Err(CardFormFault::BadId | CardFormFault::BadRound | CardFormFault::BadWas) => {
-            Ok(Plan::problem(Problem::BadForm))
+            Ok(RequestPlan::problem(Problem::BadForm))
         }
     }
 }

@@ -8,13 +8,13 @@ ghost use Rattle.table_service.specs.Taking.{is_sent, last_id, other_in, other_o
 ghost use Rattle.table_service.specs.Taking.{place_with};
 
 use crate::commanding::tell;
-use crate::plan::{Effect, Plan, Problem};
+use crate::plan::{Effect, Problem, RequestPlan};
 use acceptor::entry::Entry;
 use card_forms::is_same_but_remark;
 use itoa::Buffer;
 use outbox::Outbox;
 use std::alloc::{AllocError, Global};
-use table_views::Around;
+use table_views::PageContext;
 use texts::{CardEntry, Command, CommandFault, read};
 
 /// The most items that are known: as many as a log has entries.
@@ -142,17 +142,17 @@ fn place_after(alloc: Global, back: &[u8], id: Option<u64>) -> Result<Vec<u8>, A
     }
 }
 
-/// What is to be done for entries that a form asks for: they are taken, and the browser goes on to
+/// What is to be done for entries that a form asks for: they are taken, and the browser moves on to
 /// this page, which waits for the last of them. Those that were taken before stay as they are;
 /// where the id of one of them is known with another text, whatever the remarks are, the page says
 /// both, and none is taken.
 pub(crate) fn plan_entries(
     alloc: Global,
     outbox: &Outbox,
-    around: &Around<'_>,
+    around: &PageContext<'_>,
     back: Vec<u8>,
     entries: Vec<Entry>,
-) -> Result<Plan, AllocError>
+) -> Result<RequestPlan, AllocError>
     ensures { IfOk result
         (PlansEntries outbox.now.list around.entry.now back.items entries.items) }
 {
@@ -161,8 +161,8 @@ pub(crate) fn plan_entries(
         return tell(alloc, around, &back, &words);
     }
     if !has_room(outbox, entries.len()) {
-        return Ok(Plan::problem(Problem::Busy));
+        return Ok(RequestPlan::problem(Problem::Busy));
     }
     let place = place_after(alloc, &back, last_id(&entries))?;
-    Ok(Plan::see(place, Effect::Take(entries)))
+    Ok(RequestPlan::see(place, Effect::Take(entries)))
 }

@@ -19,7 +19,7 @@ const FIRST_DESK: u8 = 1;
 
 /// Why a journal can't be used.
 #[derive(Clone, Copy, Debug, PartialEq, Eq, Error)]
-pub enum FileFault {
+pub enum JournalFileFault {
     /// It can't be opened, read, or written.
     #[error("cannot be read and written")]
     System,
@@ -34,22 +34,22 @@ pub enum FileFault {
     Unread(JournalFault),
 }
 
-impl From<JournalFault> for FileFault {
+impl From<JournalFault> for JournalFileFault {
     ghost use Rattle.std.specs.Prelude.{◌≡◌};
-    ghost use Rattle.table_service.specs.declared.journal_file.FileFault.TheVariants.{Unread};
+    ghost use Rattle.table_service.specs.declared.journal_file.JournalFileFault.TheVariants.{Unread};
 
     ghost from_gives = { λ from fault. fault ≡ Unread from };
 
-    fn from(fault: JournalFault) -> FileFault {
-        FileFault::Unread(fault)
+    fn from(fault: JournalFault) -> JournalFileFault {
+        JournalFileFault::Unread(fault)
     }
 }
 
 /// A fault of the system.
-pub(crate) fn fault_of(error: &io::Error) -> FileFault {
+pub(crate) fn fault_of(error: &io::Error) -> JournalFileFault {
     match error.kind() {
-        ErrorKind::OutOfMemory => FileFault::Unread(JournalFault::NoMemory),
-        _ => FileFault::System,
+        ErrorKind::OutOfMemory => JournalFileFault::Unread(JournalFault::NoMemory),
+        _ => JournalFileFault::System,
     }
 }
 
@@ -87,8 +87,8 @@ fn put<D: Disk>(disk: &mut D, bytes: &[u8]) -> bool
     disk.sync()
 }
 
-/// Takes away what is after this many bytes, so that it is not there after a crash. False where
-/// that fails.
+/// Removes what follows this many bytes, so that it is not there after a crash. False where that
+/// fails.
 fn cut_back<D: Disk>(disk: &mut D, length: u64) -> bool
     ensures { CutsBack result length (D.holds disk.old) (D.holds disk.new) }
 {
@@ -122,13 +122,13 @@ impl<D: Disk> JournalFile<D> {
 
 /// What is in a journal's file, and the file.
 #[derive(Drop)]
-pub struct Opened<D: Disk> {
+pub struct OpenedJournal<D: Disk> {
     pub journal: Journal,
     pub file: JournalFile<D>,
 }
 
 /// The file at a path, which is made where there is none, and which nobody else uses.
-fn opened_file(rt: &HostRuntime, path: &str) -> Result<File, FileFault> {
+fn opened_file(rt: &HostRuntime, path: &str) -> Result<File, JournalFileFault> {
     let opened = OpenOptions::new()
         .read(true)
         .append(true)
@@ -140,7 +140,7 @@ fn opened_file(rt: &HostRuntime, path: &str) -> Result<File, FileFault> {
     };
     match file.try_lock() {
         Ok(()) => Ok(file),
-        Err(TryLockError::WouldBlock) => Err(FileFault::InUse),
+        Err(TryLockError::WouldBlock) => Err(JournalFileFault::InUse),
         Err(TryLockError::Error(error)) => Err(fault_of(&error)),
     }
 }
@@ -161,13 +161,17 @@ fn make_whole<D: Disk>(disk: &mut D, length: u64, cut: bool) -> bool
 
 /// The file of a journal over a file that has this many bytes of whole lines, after which a part of
 /// a line is where it was cut.
-fn opened_over<D: Disk + Drop>(disk: D, length: u64, cut: bool) -> Result<JournalFile<D>, FileFault>
+fn opened_over<D: Disk + Drop>(
+    disk: D,
+    length: u64,
+    cut: bool,
+) -> Result<JournalFile<D>, JournalFileFault>
     requires { HasLines cut length (D.holds disk) }
     ensures { IfOk result (OpensOver length (D.holds disk)) }
 {
     let mut disk = disk;
     if !make_whole(&mut disk, length, cut) {
-        return Err(FileFault::System);
+        return Err(JournalFileFault::System);
     }
     Ok(JournalFile {
         disk,
@@ -193,7 +197,7 @@ fn begun<D: Disk>(
     disk: &mut D,
     hall: &HallName,
     bytes: Vec<u8>,
-) -> Result<Vec<u8>, FileFault>
+) -> Result<Vec<u8>, JournalFileFault>
     requires { HasBytes bytes.items (D.holds disk.old) }
     ensures are { IfOk result (λ all. all.items ≡ journal_bytes hall.now bytes.items) }
     ensures there { IfOk result (λ all.
@@ -203,10 +207,10 @@ fn begun<D: Disk>(
         return Ok(bytes);
     }
     let Ok(line) = hall.first_line(alloc) else {
-        return Err(FileFault::Unread(JournalFault::NoMemory));
+        return Err(JournalFileFault::Unread(JournalFault::NoMemory));
     };
     if !write_first(disk, &line) {
-        return Err(FileFault::System);
+        return Err(JournalFileFault::System);
     }
     Ok(line)
 }
@@ -219,14 +223,14 @@ fn read_over<D: Disk + Drop>(
     hall: &HallName,
     bytes: &[u8],
     now: u64,
-) -> Result<Opened<D>, FileFault>
+) -> Result<OpenedJournal<D>, JournalFileFault>
     requires { HasBytes bytes.now (D.holds disk) }
     ensures { IfOk result (λ opened. IsOverIn hall.now now bytes.now (D.holds disk)
         opened.journal.outbox opened.file) }
 {
     let journal = read_journal(alloc, hall, FIRST_DESK, bytes, now)?;
     let file = opened_over(disk, journal.whole as u64, journal.cut)?;
-    Ok(Opened { journal, file })
+    Ok(OpenedJournal { journal, file })
 }
 
 /// Opens the journal of a hall in a file, or begins it there, and reads what it says. A line that
@@ -237,7 +241,7 @@ fn open_in<D: Disk + Drop>(
     disk: D,
     hall: &HallName,
     now: u64,
-) -> Result<Opened<D>, FileFault>
+) -> Result<OpenedJournal<D>, JournalFileFault>
     ensures { IfOk result (λ opened. OpensIn hall.now now (D.holds disk) opened.journal.outbox
         opened.file) }
 {
@@ -253,7 +257,7 @@ pub fn open_journal(
     path: &str,
     hall: &HallName,
     now: u64,
-) -> Result<Opened<SystemFile>, FileFault> {
+) -> Result<OpenedJournal<SystemFile>, JournalFileFault> {
     let file = opened_file(rt, path)?;
     open_in(rt.alloc(), SystemFile { file }, hall, now)
 }

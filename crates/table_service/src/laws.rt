@@ -7,10 +7,10 @@ ghost use Rattle.table_service.specs.WorkedTaking.{WorksTaking};
 
 use outbox::laws::{loses_nothing, saved_is_entered, submits_what_is_kept, told_by_the_log};
 
-/// A law: nothing is taken but what a form asks for that names no foreign host or origin, comes by
-/// POST and carries the token: a card is the one command that its form is read as, under the id of
-/// that form, which confirms all that the mirror's log of that moment asks of the card. It is
-/// answered that it is taken only where it is in the list, and its line is kept.
+/// A law: only what a form asks for is taken, and only if the form names no foreign host or origin,
+/// comes by POST and carries the token. A card is the one command that its form is read as, under
+/// the id of that form, which confirms all that the mirror's log of that moment asks of the card.
+/// The answer says that it is taken only if it is in the list and its line is kept.
 pub fn forms_alone_are_taken()
     ensures { TakesForForms }
 {}

@@ -8,36 +8,37 @@ ghost use Rattle.table_service.specs.Lists.{would_be_done};
 
 use crate::commanding::{page_after, refuse, remark_in};
 use crate::entries::plan_entries;
-use crate::plan::{Plan, Problem};
+use crate::plan::{Problem, RequestPlan};
 use card_forms::{CommandTexts, FormId, Pairs, command_entries, form_id_of};
 use command_lists::{all_done, answers_to, first_refusal, texts_in};
 use outbox::Outbox;
 use std::alloc::{AllocError, Global};
-use table_views::Around;
+use table_views::PageContext;
 use texts::Answer;
 
 /// What is said of lines that have no commands which can be sent together.
 pub(crate) const UNFIT: &[u8] =
     b"1 to 16,384 commands are sent together, each of at most 600 bytes";
 
-/// Whether commands go on that would be answered so: all would be accepted, or their form was sent
-/// before.
+/// Whether commands may be sent that would be answered so: all would be accepted, or their form was
+/// sent before.
 fn goes_on(outbox: &Outbox, id: FormId, answers: &[Answer]) -> bool
     ensures { result ≡ (is_known outbox.now.list id || list_all is_done answers.now) }
 {
     outbox.find(id.number()).is_some() || all_done(answers)
 }
 
-/// Goes on where all commands would be accepted; else says which would not. The second time that a
-/// form is sent its commands are known, and nobody is asked.
+/// What is to be done for these commands: they are entered if all would be accepted; else the
+/// answer says which would not. Where a form is sent a second time, its commands are known and are
+/// not judged again.
 fn plan_texts(
     alloc: Global,
     outbox: &Outbox,
-    around: &Around<'_>,
+    around: &PageContext<'_>,
     pairs: &Pairs,
     id: FormId,
     texts: &CommandTexts,
-) -> Result<Plan, AllocError>
+) -> Result<RequestPlan, AllocError>
     ensures { IfOk result (PlansAsked around.entry.now outbox.now.list pairs.now id texts.now
         (is_known outbox.now.list id || would_be_done around.entry.now.mirror.now id texts.now)) }
 {
@@ -57,10 +58,10 @@ fn plan_texts(
 fn plan_form(
     alloc: Global,
     outbox: &Outbox,
-    around: &Around<'_>,
+    around: &PageContext<'_>,
     pairs: &Pairs,
     id: FormId,
-) -> Result<Plan, AllocError>
+) -> Result<RequestPlan, AllocError>
     ensures { IfOk result (PlansLines around.entry.now outbox.now.list pairs.now id) }
 {
     match texts_in(alloc, pairs.value("lines"))? {
@@ -73,13 +74,13 @@ fn plan_form(
 pub(crate) fn plan_list(
     alloc: Global,
     outbox: &Outbox,
-    around: &Around<'_>,
+    around: &PageContext<'_>,
     pairs: &Pairs,
-) -> Result<Plan, AllocError>
+) -> Result<RequestPlan, AllocError>
     ensures { IfOk result (PlansList around.entry.now outbox.now.list pairs.now) }
 {
     match form_id_of(pairs.value("id")) {
         Some(id) => plan_form(alloc, outbox, around, pairs, id),
-        None => Ok(Plan::problem(Problem::BadForm)),
+        None => Ok(RequestPlan::problem(Problem::BadForm)),
     }
 }

@@ -8,15 +8,15 @@ ghost use Rattle.table_service.specs.Imports.{content_of, named, options_of};
 
 use crate::commanding::refuse;
 use crate::listing::UNFIT;
-use crate::plan::{Plan, Problem, Shown};
+use crate::plan::{PageStatus, Problem, RequestPlan};
 use bytes::Bytes;
 use card_forms::{CommandText, CommandTexts, FormId};
 use command_lists::{FileLines, answers_to, lines_of_file, texts_in};
 use form_data::{Part, boundary_of, parts};
-use hall_views::{Tried, faults_page, preview_page};
 use http::{Request, header};
 use std::alloc::{AllocError, Global};
-use table_views::Around;
+use table_hall_views::{PreviewedCommand, faults_page, preview_page};
+use table_views::PageContext;
 use texts::Answer;
 use wcif::{CumulativeLimits, Edition, Options, SameNames};
 
@@ -28,13 +28,13 @@ fn tried_of<'a>(
     alloc: Global,
     texts: &'a [CommandText],
     answers: &[Answer],
-) -> Result<Vec<Tried<'a>>, AllocError>
+) -> Result<Vec<PreviewedCommand<'a>>, AllocError>
     requires { length answers.now ≡ length texts.now }
     ensures { IfOk result (λ tried. map tried_as tried.items ≡ paired texts.now answers.now) }
 {
     let mut tried = Vec::new(alloc);
     for (place, text) in texts.iter().enumerate() {
-        tried.push(Tried {
+        tried.push(PreviewedCommand {
             text: text.as_bytes(),
             answer: answers[place],
         })?;
@@ -53,26 +53,26 @@ pub(crate) fn first_id(ids: &[FormId; 32]) -> FormId
 /// path.
 fn preview(
     alloc: Global,
-    around: &Around<'_>,
+    around: &PageContext<'_>,
     back: &[u8],
     texts: &CommandTexts,
-) -> Result<Plan, AllocError>
+) -> Result<RequestPlan, AllocError>
     ensures { IfOk result (Previews around.entry.now back.now texts.now) }
 {
     let id = first_id(around.ids);
     let answers = answers_to(alloc, around.mirror.log(), id, texts)?;
     let tried = tried_of(alloc, texts.as_slice(), &answers)?;
     let page = preview_page(alloc, around, back, &tried)?;
-    Ok(Plan::with_ids(Shown::Asked, page))
+    Ok(RequestPlan::with_ids(PageStatus::Asked, page))
 }
 
 /// What is to be done for lines that are to be looked at, from the page at this path.
 pub(crate) fn look(
     alloc: Global,
-    around: &Around<'_>,
+    around: &PageContext<'_>,
     back: &[u8],
     lines: &[u8],
-) -> Result<Plan, AllocError>
+) -> Result<RequestPlan, AllocError>
     ensures { IfOk result (LooksAt around.entry.now back.now lines.now) }
 {
     match texts_in(alloc, lines)? {
@@ -84,10 +84,10 @@ pub(crate) fn look(
 /// What is to be done for a competition's file.
 fn look_at_file(
     alloc: Global,
-    around: &Around<'_>,
+    around: &PageContext<'_>,
     options: Options,
     bytes: &[u8],
-) -> Result<Plan, AllocError>
+) -> Result<RequestPlan, AllocError>
     ensures { IfOk result (PlansFile around.entry.now options bytes.now) }
 {
     match lines_of_file(alloc, bytes, options)? {
@@ -95,7 +95,7 @@ fn look_at_file(
         FileLines::Refused { fault, words } => {
             let _fault = fault;
             let page = faults_page(alloc, around, PLACE, &words)?;
-            Ok(Plan::with_ids(Shown::Wrong, page))
+            Ok(RequestPlan::with_ids(PageStatus::Wrong, page))
         }
     }
 }
@@ -132,13 +132,17 @@ fn options_of(parts: &[Part<'_>]) -> Options
 }
 
 /// What is to be done for the parts of a form with a file, if it carries the token.
-fn look_at_parts(alloc: Global, around: &Around<'_>, parts: &[Part<'_>]) -> Result<Plan, AllocError>
+fn look_at_parts(
+    alloc: Global,
+    around: &PageContext<'_>,
+    parts: &[Part<'_>],
+) -> Result<RequestPlan, AllocError>
     ensures { IfOk result (PlansParts around.entry.now (map named parts.now)) }
 {
     if content_of(parts, b"token") == around.token {
         look_at_file(alloc, around, options_of(parts), content_of(parts, b"file"))
     } else {
-        Ok(Plan::problem(Problem::Foreign))
+        Ok(RequestPlan::problem(Problem::Foreign))
     }
 }
 
@@ -153,16 +157,16 @@ fn boundary_in(request: &Request<Bytes>) -> Option<&[u8]>
 /// What is to be done for a form with a competition's file.
 pub(crate) fn plan_import(
     alloc: Global,
-    around: &Around<'_>,
+    around: &PageContext<'_>,
     request: &Request<Bytes>,
-) -> Result<Plan, AllocError>
+) -> Result<RequestPlan, AllocError>
     ensures { IfOk result (PlansImport around.entry.now request.now) }
 {
     let Some(boundary) = boundary_in(request) else {
-        return Ok(Plan::problem(Problem::BadForm));
+        return Ok(RequestPlan::problem(Problem::BadForm));
     };
     match parts(alloc, boundary, request.body())? {
         Some(parts) => look_at_parts(alloc, around, &parts),
-        None => Ok(Plan::problem(Problem::BadForm)),
+        None => Ok(RequestPlan::problem(Problem::BadForm)),
     }
 }

@@ -4,11 +4,11 @@ use acceptor::entry::Entry;
 
 /// What is answered.
 #[derive(Drop)]
-pub(crate) enum Reply {
+pub(crate) enum PageReply {
     /// A line of text, with this status.
     Text(Problem),
     /// A page, with this status.
-    Html { status: Shown, page: Vec<u8> },
+    Html { status: PageStatus, page: Vec<u8> },
     /// The style of the pages.
     Style,
     /// The script of the pages.
@@ -20,7 +20,7 @@ pub(crate) enum Reply {
 /// Why there is no page.
 #[derive(Clone, Copy)]
 pub(crate) enum Problem {
-    /// The form is none of a page's: 400.
+    /// No page has such a form: 400.
     BadForm,
     /// The request is not from a page of the program's own: 403.
     Foreign,
@@ -34,7 +34,7 @@ pub(crate) enum Problem {
 
 /// What a page is sent as.
 #[derive(Clone, Copy)]
-pub(crate) enum Shown {
+pub(crate) enum PageStatus {
     /// As what was asked for, or to be confirmed: 200.
     Asked,
     /// As what was sent, with what is wrong with it: 422.
@@ -59,50 +59,50 @@ pub(crate) enum Effect {
 
 /// What is to be done for a request.
 #[derive(Drop)]
-pub(crate) struct Plan {
-    pub(crate) reply: Reply,
+pub(crate) struct RequestPlan {
+    pub(crate) reply: PageReply,
     pub(crate) effect: Effect,
 }
 
-impl Plan {
+impl RequestPlan {
     ghost use Rattle.std.specs.Prelude.{◌≡◌};
 
     /// No page, and why.
-    pub(crate) fn problem(problem: Problem) -> Plan
-        ensures { result ≡ record { reply = Reply.Text problem; effect = Effect.Nothing } }
+    pub(crate) fn problem(problem: Problem) -> RequestPlan
+        ensures { result ≡ record { reply = PageReply.Text problem; effect = Effect.Nothing } }
     {
-        Plan {
-            reply: Reply::Text(problem),
+        RequestPlan {
+            reply: PageReply::Text(problem),
             effect: Effect::Nothing,
         }
     }
 
     /// A page that has forms.
-    pub(crate) fn with_ids(status: Shown, page: Vec<u8>) -> Plan
-        ensures { result ≡ record { reply = Reply.Html status page; effect = Effect.Ids } }
+    pub(crate) fn with_ids(status: PageStatus, page: Vec<u8>) -> RequestPlan
+        ensures { result ≡ record { reply = PageReply.Html status page; effect = Effect.Ids } }
     {
-        Plan {
-            reply: Reply::Html { status, page },
+        RequestPlan {
+            reply: PageReply::Html { status, page },
             effect: Effect::Ids,
         }
     }
 
     /// What is at a path.
-    pub(crate) fn shown(reply: Reply) -> Plan
+    pub(crate) fn shown(reply: PageReply) -> RequestPlan
         ensures { result ≡ record { reply = reply; effect = Effect.Nothing } }
     {
-        Plan {
+        RequestPlan {
             reply,
             effect: Effect::Nothing,
         }
     }
 
     /// Another page is to be asked for.
-    pub(crate) fn see(location: Vec<u8>, effect: Effect) -> Plan
-        ensures { result ≡ record { reply = Reply.SeeOther location; effect = effect } }
+    pub(crate) fn see(location: Vec<u8>, effect: Effect) -> RequestPlan
+        ensures { result ≡ record { reply = PageReply.SeeOther location; effect = effect } }
     {
-        Plan {
-            reply: Reply::SeeOther { location },
+        RequestPlan {
+            reply: PageReply::SeeOther { location },
             effect,
         }
     }

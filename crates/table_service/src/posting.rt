@@ -12,7 +12,7 @@ use crate::commanding::{page_after, plan_command};
 use crate::entering::plan_card;
 use crate::listing::plan_list;
 use crate::looking::{look, plan_import};
-use crate::plan::{Plan, Problem};
+use crate::plan::{Problem, RequestPlan};
 use crate::showing::plan_read;
 use crate::undoing::plan_undo;
 use bytes::Bytes;
@@ -20,7 +20,7 @@ use card_forms::Pairs;
 use http::Request;
 use outbox::Outbox;
 use std::alloc::{AllocError, Global};
-use table_views::Around;
+use table_views::PageContext;
 
 /// Whether a request only reads.
 fn is_read(request: &Request<Bytes>) -> bool
@@ -36,8 +36,13 @@ fn is_post(request: &Request<Bytes>) -> bool
     request.method().as_str() == "POST"
 }
 
-/// What is to be done for lines that are to be looked at: the browser goes on to the form's `back`.
-fn look_back(alloc: Global, around: &Around<'_>, pairs: &Pairs) -> Result<Plan, AllocError>
+/// What is to be done for lines that are to be looked at: the browser moves on to the form's
+/// `back`.
+fn look_back(
+    alloc: Global,
+    around: &PageContext<'_>,
+    pairs: &Pairs,
+) -> Result<RequestPlan, AllocError>
     ensures { IfOk result (LooksAt around.entry.now (page_after pairs.now)
         (value_of (codes "lines") pairs.now)) }
 {
@@ -48,10 +53,10 @@ fn look_back(alloc: Global, around: &Around<'_>, pairs: &Pairs) -> Result<Plan, 
 fn plan_sent(
     alloc: Global,
     outbox: &Outbox,
-    around: &Around<'_>,
+    around: &PageContext<'_>,
     path: &str,
     pairs: &Pairs,
-) -> Result<Plan, AllocError>
+) -> Result<RequestPlan, AllocError>
     ensures { IfOk result (PlansSent around.entry.now outbox.now.list path.now pairs.now) }
 {
     if path == "/card" {
@@ -69,7 +74,7 @@ fn plan_sent(
     } else if path == "/undo" {
         plan_undo(alloc, outbox, around, pairs)
     } else {
-        Ok(Plan::problem(Problem::Method))
+        Ok(RequestPlan::problem(Problem::Method))
     }
 }
 
@@ -77,9 +82,9 @@ fn plan_sent(
 fn plan_post(
     alloc: Global,
     outbox: &Outbox,
-    around: &Around<'_>,
+    around: &PageContext<'_>,
     request: &Request<Bytes>,
-) -> Result<Plan, AllocError>
+) -> Result<RequestPlan, AllocError>
     ensures { IfOk result (PlansPost around.entry.now outbox.now.list request.now) }
 {
     let path = request.uri().path();
@@ -90,7 +95,7 @@ fn plan_post(
     if pairs.value("token") == around.token {
         plan_sent(alloc, outbox, around, path, &pairs)
     } else {
-        Ok(Plan::problem(Problem::Foreign))
+        Ok(RequestPlan::problem(Problem::Foreign))
     }
 }
 
@@ -99,9 +104,9 @@ pub(crate) fn plan_own(
     alloc: Global,
     outbox: &Outbox,
     title: &[u8],
-    around: &Around<'_>,
+    around: &PageContext<'_>,
     request: &Request<Bytes>,
-) -> Result<Plan, AllocError>
+) -> Result<RequestPlan, AllocError>
     ensures { IfOk result (PlansOwn around.entry.now title.now outbox.now.list request.now) }
 {
     if is_read(request) {
@@ -109,6 +114,6 @@ pub(crate) fn plan_own(
     } else if is_post(request) {
         plan_post(alloc, outbox, around, request)
     } else {
-        Ok(Plan::problem(Problem::Method))
+        Ok(RequestPlan::problem(Problem::Method))
     }
 }

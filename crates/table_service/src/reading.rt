@@ -13,7 +13,7 @@ const LAST_NUMBER: u64 = 9_999;
 
 /// A page that is made of the mirror.
 #[derive(Clone, Copy)]
-pub(crate) enum View {
+pub(crate) enum TableView {
     /// `/`: all rounds.
     Overview,
     /// `/card/333-1`: a card, with what counts of a competitor where `?number=17` names one.
@@ -36,8 +36,8 @@ pub(crate) enum View {
 
 /// What a path and a query ask for.
 #[derive(Clone, Copy)]
-pub(crate) enum Asked {
-    Page(View),
+pub(crate) enum Resource {
+    Page(TableView),
     /// `/table.css`.
     Style,
     /// `/table.js`.
@@ -65,26 +65,26 @@ pub(crate) fn number_below(path: &[u8], folder: &[u8]) -> Option<u16>
 }
 
 /// What is at a path that names no round and no competitor, and has no query.
-fn fixed(path: &[u8]) -> Option<Asked>
+fn fixed(path: &[u8]) -> Option<Resource>
     ensures { result ≡ fixed path.now }
 {
     if path == b"/".as_slice() {
-        Some(Asked::Page(View::Overview))
+        Some(Resource::Page(TableView::Overview))
     } else if path == b"/people".as_slice() {
-        Some(Asked::Page(View::People))
+        Some(Resource::Page(TableView::People))
     } else if path == b"/import".as_slice() {
-        Some(Asked::Page(View::Import))
+        Some(Resource::Page(TableView::Import))
     } else if path == b"/table.css".as_slice() {
-        Some(Asked::Style)
+        Some(Resource::Style)
     } else if path == b"/table.js".as_slice() {
-        Some(Asked::Script)
+        Some(Resource::Script)
     } else {
         None
     }
 }
 
 /// The page of a card of a round, for a query.
-fn card_asked(alloc: Global, query: &[u8], round: RoundId) -> Result<Asked, AllocError>
+fn card_asked(alloc: Global, query: &[u8], round: RoundId) -> Result<Resource, AllocError>
     ensures { IfOk result (λ asked. asked ≡ card_asked query.now round) }
 {
     let pairs = Pairs::read(alloc, query)?;
@@ -92,22 +92,26 @@ fn card_asked(alloc: Global, query: &[u8], round: RoundId) -> Result<Asked, Allo
         Ok(number) => Some(number),
         Err(_) => None,
     };
-    Ok(Asked::Page(View::Card { round, number }))
+    Ok(Resource::Page(TableView::Card { round, number }))
 }
 
 /// The page of what was entered for a competitor in a round, for a query that has the number.
-fn history_asked(alloc: Global, query: &[u8], round: RoundId) -> Result<Option<Asked>, AllocError>
+fn history_asked(
+    alloc: Global,
+    query: &[u8],
+    round: RoundId,
+) -> Result<Option<Resource>, AllocError>
     ensures { IfOk result (λ asked. asked ≡ history_asked query.now round) }
 {
     let pairs = Pairs::read(alloc, query)?;
     match number_of(pairs.value("number")) {
-        Ok(number) => Ok(Some(Asked::Page(View::History { round, number }))),
+        Ok(number) => Ok(Some(Resource::Page(TableView::History { round, number }))),
         Err(_) => Ok(None),
     }
 }
 
 /// What is at the path of a round or of a competitor.
-fn in_folder(alloc: Global, path: &[u8], query: &[u8]) -> Result<Option<Asked>, AllocError>
+fn in_folder(alloc: Global, path: &[u8], query: &[u8]) -> Result<Option<Resource>, AllocError>
     ensures { IfOk result (λ asked. asked ≡ in_folder path.now query.now) }
 {
     if let Some(round) = round_below(path, b"/card/") {
@@ -115,16 +119,16 @@ fn in_folder(alloc: Global, path: &[u8], query: &[u8]) -> Result<Option<Asked>, 
         return Ok(Some(asked));
     }
     if let Some(round) = round_below(path, b"/wall/") {
-        return Ok(Some(Asked::Page(View::Wall(round))));
+        return Ok(Some(Resource::Page(TableView::Wall(round))));
     }
     if let Some(round) = round_below(path, b"/scorecards/") {
-        return Ok(Some(Asked::Page(View::Scorecards(round))));
+        return Ok(Some(Resource::Page(TableView::Scorecards(round))));
     }
     if let Some(round) = round_below(path, b"/history/") {
         return history_asked(alloc, query, round);
     }
     match number_below(path, b"/person/") {
-        Some(number) => Ok(Some(Asked::Page(View::Person(number)))),
+        Some(number) => Ok(Some(Resource::Page(TableView::Person(number)))),
         None => Ok(None),
     }
 }
@@ -134,7 +138,7 @@ pub(crate) fn asked_at(
     alloc: Global,
     path: &[u8],
     query: &[u8],
-) -> Result<Option<Asked>, AllocError>
+) -> Result<Option<Resource>, AllocError>
     ensures { IfOk result (λ asked. asked ≡ asked_at path.now query.now) }
 {
     if let Some(asked) = fixed(path) {
@@ -143,7 +147,7 @@ pub(crate) fn asked_at(
     if path == b"/rounds".as_slice() {
         let pairs = Pairs::read(alloc, query)?;
         let round = round_of(pairs.value("round"));
-        return Ok(Some(Asked::Page(View::Rounds(round))));
+        return Ok(Some(Resource::Page(TableView::Rounds(round))));
     }
     in_folder(alloc, path, query)
 }

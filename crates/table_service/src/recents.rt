@@ -6,16 +6,16 @@ ghost use Rattle.table_service.specs.Recents.{left_after, shown, shown_if};
 
 use acceptor::entry::Entry;
 use card_forms::card_in;
+use last_change::last_change;
 use mirror::Mirror;
-use origins::last_change;
-use outbox::{Item, Outbox, State, state_of};
+use outbox::{Item, ItemState, Outbox, state_of};
 use std::alloc::{AllocError, Global};
 use table_views::Recent;
 
 /// How many of the items that are saved are shown.
 const MOST_SAVED: u8 = 10;
 
-/// By which entry the attempts of the competitor of a card count as they do, if the text is one.
+/// By which entry the attempts of a card's competitor count as they do, if the text is a card.
 fn by_of(alloc: Global, mirror: &Mirror, entry: &Entry) -> Result<Option<u32>, AllocError>
     ensures { IfOk result (IsByOf mirror.now entry.now.text) }
 {
@@ -30,32 +30,32 @@ fn by(
     alloc: Global,
     mirror: &Mirror,
     entry: &Entry,
-    state: State,
+    state: ItemState,
 ) -> Result<Option<u32>, AllocError>
     ensures { IfOk result (IsBy mirror.now entry.now.text state) }
 {
     match state {
-        State::Changed { .. } => by_of(alloc, mirror, entry),
+        ItemState::Changed { .. } => by_of(alloc, mirror, entry),
         _ => Ok(None),
     }
 }
 
-/// Whether an item is shown of which this became, where this many more of those that are saved are.
-fn is_shown(state: State, is_answered: bool, left: u8) -> bool
+/// Whether an item in this state is shown, where this many more saved items may be shown.
+fn is_shown(state: ItemState, is_answered: bool, left: u8) -> bool
     ensures { result ≡ is_shown state is_answered left }
 {
     match state {
-        State::Saved { .. } => left > 0,
+        ItemState::Saved { .. } => left > 0,
         _ => !is_answered,
     }
 }
 
-/// How many more of the items that are saved are shown after one of which this became.
-fn left_after(state: State, left: u8) -> u8
+/// How many more saved items may be shown after an item in this state.
+fn left_after(state: ItemState, left: u8) -> u8
     ensures { result ≡ left_after state left }
 {
     match state {
-        State::Saved { .. } => left.saturating_sub(1),
+        ItemState::Saved { .. } => left.saturating_sub(1),
         _ => left,
     }
 }
@@ -66,7 +66,7 @@ fn push_recent<'a>(
     recents: &mut Vec<Recent<'a>>,
     mirror: &Mirror,
     item: &'a Item,
-    state: State,
+    state: ItemState,
 ) -> Result<(), AllocError>
     ensures shown { OnOk result (map shown recents.new.items
         ≡ map shown recents.old.items ++ (item.now, state) ∷ []) }
@@ -84,7 +84,7 @@ fn push_if<'a>(
     recents: &mut Vec<Recent<'a>>,
     mirror: &Mirror,
     item: &'a Item,
-    state: State,
+    state: ItemState,
     shows: bool,
 ) -> Result<(), AllocError>
     ensures shown { OnOk result (map shown recents.new.items

@@ -3,18 +3,18 @@
 ghost use Rattle.std.specs.Prelude.{◌≡◌, ◌++◌, ◌<◌, IfOk, IfSome, OnOk, Some, length, not};
 ghost use Rattle.std.specs.Prelude.{All, slice_get};
 ghost use Rattle.std.specs.List.{list_any};
-ghost use Rattle.commands.specs.Accepted.{are_values, card_refusal, card_values, has_outcome};
-ghost use Rattle.commands.specs.Accepted.{is_wrong, lacks_scramble, refusal, round_by};
-ghost use Rattle.commands.specs.Accepted.{scramble_of, seen_refusal, unfit_card_refusal};
+ghost use Rattle.commands.specs.Accepted.{are_values, card_values, has_outcome, is_wrong};
+ghost use Rattle.commands.specs.Accepted.{lacks_scramble, refusal, round_by, scramble_of};
+ghost use Rattle.commands.specs.Accepted.{seen_refusal, unfit_card_refusal};
 ghost use Rattle.rounds.specs.Tables.{entrant, fits};
 ghost use Rattle.texts.specs.declared.command.Command.TheVariants as command;
 ghost use Rattle.texts.specs.Spelling.{IsEntered};
-ghost use Rattle.table_service.specs.Checks.{enters, left_at, lacks_at};
+ghost use Rattle.table_service.specs.Checks.{enters, left_at, lacks_at, opened_refusal};
 
 use attempts::{Unit, Value};
 use commands::{Meet, is_wrong, lacks_scramble, settled};
 use formats::{Format, unit_of};
-use round_counts::{Opened, allotted, round_opened};
+use round_counts::{OpenedRound, allotted, round_opened};
 use rounds::RoundTable;
 use std::alloc::{AllocError, Global};
 use texts::{CardEntry, Code, Entered, RoundId, Settings};
@@ -169,15 +169,14 @@ fn refusal_in(
     alloc: Global,
     meet: &Meet,
     card: &CardEntry,
-    round: Opened<'_>,
+    round: OpenedRound<'_>,
 ) -> Result<Option<Code>, AllocError>
     requires few { length card.now.now < 256 }
     requires entered { All (λ o. IfSome o IsEntered) card.now.now }
     requires opened { round_by meet.now.accepted card.now.id
         ≡ Some (round.settings, round.table.now) }
-    ensures { IfOk result (λ code. code ≡ card_refusal card.entry.now.id.event
-        (scramble_of meet.now.accepted card.entry.now.id.event card.entry.now.id.round)
-        card.entry.now (Some (round.entry.settings, round.entry.table.now))) }
+    ensures { IfOk result (λ code. code ≡ opened_refusal meet.now.accepted card.entry.now
+        round.entry.settings round.entry.table.now) }
 {
     if let Some(code) = unfit(meet, card.id, card.now.as_slice()) {
         return Ok(Some(code));

@@ -1,4 +1,4 @@
-//! What is behind what a table enters: its name, and the time of the machine's clock.
+//! The remark of what a table enters: its name, and the time of the machine's clock.
 
 ghost use Rattle.std.specs.Prelude.{◌≡◌, ◌++◌, IfOk, OnOk};
 ghost use Rattle.table_service.specs.Remarks.{is_table_name, remark_of, time_of_day};
@@ -31,7 +31,7 @@ fn push_time(text: &mut Vec<u8>, seconds: u64) -> Result<(), AllocError>
 }
 
 /// The remark of what a table of this name enters, this many seconds after 1970: `A 14:05:33 UTC`.
-/// Without the time where the clock does not tell it.
+/// It has no time where the clock gives none.
 pub(crate) fn remark_of(
     alloc: Global,
     name: &[u8],

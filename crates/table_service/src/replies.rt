@@ -6,7 +6,7 @@ ghost use Rattle.http_server.specs.Response.{IsBlank, fields_of};
 ghost use Rattle.table_service.specs.Replies.{IsProblem, Writes, kind, kind_of, line_of, security};
 ghost use Rattle.table_service.specs.Replies.{status_of};
 
-use crate::plan::{Problem, Reply, Shown};
+use crate::plan::{PageReply, PageStatus, Problem};
 use bytes::Bytes;
 use http::header::HeaderValueError;
 use http::{HeaderName, HeaderValue, StatusCode, header};
@@ -111,30 +111,30 @@ pub(crate) fn tell_problem(response: &mut Response, problem: Problem) -> Result<
 }
 
 /// Fills a response.
-pub(crate) fn write(response: &mut Response, reply: Reply) -> Result<(), AllocError>
+pub(crate) fn write(response: &mut Response, reply: PageReply) -> Result<(), AllocError>
     requires { IsBlank response.old }
     ensures { OnOk result (Writes reply response.new) }
 {
     match reply {
-        Reply::Text(problem) => tell_problem(response, problem),
-        Reply::Html { status, page } => {
+        PageReply::Text(problem) => tell_problem(response, problem),
+        PageReply::Html { status, page } => {
             response.status = match status {
-                Shown::Asked => StatusCode::OK,
-                Shown::Wrong => StatusCode::UNPROCESSABLE_ENTITY,
+                PageStatus::Asked => StatusCode::OK,
+                PageStatus::Wrong => StatusCode::UNPROCESSABLE_ENTITY,
             };
             tell(response, "text/html; charset=utf-8", Bytes::from_vec(page)?)
         }
-        Reply::Style => tell(
+        PageReply::Style => tell(
             response,
             "text/css; charset=utf-8",
             Bytes::from_static(style().as_bytes()),
         ),
-        Reply::Script => tell(
+        PageReply::Script => tell(
             response,
             "text/javascript; charset=utf-8",
             Bytes::from_static(script().as_bytes()),
         ),
-        Reply::SeeOther { location } => {
+        PageReply::SeeOther { location } => {
             response.status = StatusCode::SEE_OTHER;
             secure(response)?;
             match HeaderValue::from_vec(location) {

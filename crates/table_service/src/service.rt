@@ -11,7 +11,7 @@ use crate::disk::Disk;
 use crate::entries::is_sent;
 use crate::gate::is_own;
 use crate::journal_file::JournalFile;
-use crate::plan::{Effect, Plan, Problem};
+use crate::plan::{Effect, Problem, RequestPlan};
 use crate::posting::plan_own;
 use crate::recents::recents_of;
 use crate::remarks::remark_of;
@@ -22,35 +22,35 @@ use acceptor::NoMemory;
 use acceptor::entry::Entry;
 use bytes::Bytes;
 use card_forms::FormId;
-use desk_sockets::{DeskStream, Kept};
+use desk_sockets::{DeskStream, DialogueChange};
 use http::Request;
 use http_server::{Response, Service};
-use mirroring::Mirroring;
-use outbox::{Outbox, Taken};
+use kept_mirror::Mirroring;
+use outbox::{Outbox, QueueOutcome};
 use std::alloc::{AllocError, Global};
 use std::collections::VecDeque;
 use std::marker::Model;
 use std::net::Net;
 use std::random::RandomSource;
-use table_views::{Around, Desks};
+use table_views::{HallStatus, PageContext};
 
 /// The most sets of ids that are kept.
 const MOST_SETS: usize = 64;
 
-/// Answers browsers with the pages of a mirror of a hall's log, and takes what they send: it is in
-/// the journal, and will be after a crash, before it is answered.
+/// Answers browsers with the pages of a mirror of a hall's log, and accepts what they send: it is
+/// in the journal, and will be after a crash, before it is answered.
 #[derive(Drop)]
 pub struct TableService<D: Disk> {
     alloc: Global,
     setup: Setup,
     mirroring: Mirroring,
-    desks: Desks,
+    desks: HallStatus,
     outbox: Outbox,
     /// Ids for the forms of pages, a set for each page.
     ids: VecDeque<[FormId; 32]>,
     /// The milliseconds of the clock by which items say since when they wait.
     time: u64,
-    /// The seconds since 1970 by the machine's clock, where it tells them.
+    /// The seconds since 1970 by the machine's clock, where it gives them.
     clock: Option<u64>,
     file: JournalFile<D>,
 }
@@ -69,8 +69,8 @@ impl<D: Disk> Model for TableService<D> {
 }
 
 /// What is known of the desks at first.
-fn unknown_desks(alloc: Global) -> Desks {
-    Desks {
+fn unknown_desks(alloc: Global) -> HallStatus {
+    HallStatus {
         followed: 1,
         silent: None,
         undecided: None,
@@ -91,10 +91,10 @@ fn first_set(ids: &VecDeque<[FormId; 32]>) -> Option<&[FormId; 32]>
 }
 
 /// Whether an entry is queued that was given to the outbox.
-fn is_new(came: Taken) -> bool
+fn is_new(came: QueueOutcome) -> bool
     ensures { result ≡ is_new came }
 {
-    matches!(came, Taken::New)
+    matches!(came, QueueOutcome::New)
 }
 
 /// Takes an entry. Whether it is queued, or was known with its text, whatever the remarks are.
@@ -154,7 +154,7 @@ impl<D: Disk> TableService<D> {
     ghost use Rattle.table_service.specs.Services.{with_ids_used};
     ghost use Rattle.desk_sockets.specs.Asking.{AsksNow};
     ghost use Rattle.desk_talks.specs.Dialogues.{Reaches};
-    ghost use Rattle.mirroring.specs.Mirrorings.{DialogueLeads as MirrorLeads, awaiting, hurried};
+    ghost use Rattle.kept_mirror.specs.Mirrorings.{DialogueLeads as MirrorLeads, awaiting, hurried};
     ghost use Rattle.outbox.specs.Outboxes.{DialogueLeads, aimed, looked};
     ghost use Rattle.wire.specs.Ranges.{IsDesk};
 
@@ -223,7 +223,7 @@ impl<D: Disk> TableService<D> {
         self.time = now;
     }
 
-    /// Says what the machine's clock tells, in seconds since 1970, if it tells it.
+    /// Says what the machine's clock shows, in seconds since 1970, if it shows it.
     pub fn set_clock(&mut self, clock: Option<u64>)
         ensures { self.new ≡ record self.old { clock = clock } }
     {
@@ -231,7 +231,7 @@ impl<D: Disk> TableService<D> {
     }
 
     /// Says how the desks are doing.
-    pub fn set_desks(&mut self, desks: Desks)
+    pub fn set_desks(&mut self, desks: HallStatus)
         ensures { self.new ≡ record self.old { desks = desks } }
     {
         self.desks = desks;
@@ -241,10 +241,14 @@ impl<D: Disk> TableService<D> {
 
     /// Does all for the mirror that can be done now over a connection to a desk, as
     /// `DeskStream::keep` does it.
-    pub fn keep<R: Net + RandomSource>(&mut self, stream: &mut DeskStream<'_, R>, now: u64) -> Kept
+    pub fn keep<R: Net + RandomSource>(
+        &mut self,
+        stream: &mut DeskStream<'_, R>,
+        now: u64,
+    ) -> DialogueChange
         ensures others { IsKeptBut self.old self.new }
         ensures went { Reaches MirrorLeads self.old.mirroring self.new.mirroring }
-        ensures same { result ≡ Kept.Same
+        ensures same { result ≡ DialogueChange.Same
             → self.new.mirroring.entries ≡ self.old.mirroring.entries }
     {
         stream.keep(&mut self.mirroring, now)
@@ -267,7 +271,7 @@ impl<D: Disk> TableService<D> {
     }
 
     /// Looks through what the mirror's log has got, for entries that were sent from here. Where
-    /// memory was refused the same call then goes on.
+    /// memory was refused the same call then continues.
     pub fn look(&mut self) -> Result<(), AllocError>
         ensures ok { OnOk result (self.new ≡ record self.old {
           outbox = looked self.old.outbox self.old.mirroring.entries;
@@ -293,7 +297,7 @@ impl<D: Disk> TableService<D> {
         &mut self,
         stream: &mut DeskStream<'_, R>,
         now: u64,
-    ) -> Kept
+    ) -> DialogueChange
         ensures others { IsSentBut self.old self.new }
         ensures went { Reaches DialogueLeads self.old.outbox self.new.outbox }
         ensures asked { AsksNow DialogueLeads now self.old.outbox self.new.outbox }
@@ -320,14 +324,18 @@ impl<D: Disk> TableService<D> {
 
     /// What is to be done for a request of one of the program's own pages, where a page has these
     /// ids.
-    fn plan_with(&self, ids: &[FormId; 32], request: &Request<Bytes>) -> Result<Plan, AllocError>
+    fn plan_with(
+        &self,
+        ids: &[FormId; 32],
+        request: &Request<Bytes>,
+    ) -> Result<RequestPlan, AllocError>
         ensures { IfOk result (PlansAround self.now ids.now request.now) }
     {
         let recent = recents_of(self.alloc, &self.outbox, self.mirroring.mirror())?;
         let name = self.setup.name.as_bytes();
         let remark = remark_of(self.alloc, name, self.clock)?;
         let sent = sent_before(self.alloc, request)?;
-        let around = Around {
+        let around = PageContext {
             mirror: self.mirroring.mirror(),
             desks: &self.desks,
             token: self.setup.token.as_bytes(),
@@ -343,15 +351,15 @@ impl<D: Disk> TableService<D> {
     }
 
     /// What is to be done for a request. Nothing changes yet.
-    fn plan(&self, request: &Request<Bytes>) -> Result<Plan, AllocError>
+    fn plan(&self, request: &Request<Bytes>) -> Result<RequestPlan, AllocError>
         ensures { IfOk result (Plans self.now request.now) }
     {
         if !is_own(&self.setup.hosts, request) {
-            return Ok(Plan::problem(Problem::Foreign));
+            return Ok(RequestPlan::problem(Problem::Foreign));
         }
         match first_set(&self.ids) {
             Some(ids) => self.plan_with(ids, request),
-            None => Ok(Plan::problem(Problem::Busy)),
+            None => Ok(RequestPlan::problem(Problem::Busy)),
         }
     }
 
@@ -431,7 +439,7 @@ impl<D: Disk> Service for TableService<D> {
         request: &Request<Bytes>,
         response: &mut Response,
     ) -> Result<(), AllocError> {
-        let Plan { reply, effect } = self.plan(request)?;
+        let RequestPlan { reply, effect } = self.plan(request)?;
         write(response, reply)?;
         match effect {
             Effect::Nothing => Ok(()),

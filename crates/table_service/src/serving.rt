@@ -4,11 +4,11 @@
 use crate::desks_side::{DesksSide, PROGRAM};
 use crate::disk::{Disk, SystemFile};
 use crate::drawing::drawn_ids;
-use crate::journal_file::Opened;
+use crate::journal_file::OpenedJournal;
 use crate::service::TableService;
 use crate::setup::Setup;
-use hall_standings::{Hall, count_desks};
-use mirroring::Mirroring;
+use hall_survey::{Hall, count_desks};
+use kept_mirror::Mirroring;
 use outbox::HallName;
 use page_sockets::{BrowserSockets, address_of, round, say_where};
 use pages::Browsers;
@@ -21,14 +21,14 @@ use std::time::Clock;
 
 /// Why the score table ended.
 #[derive(Clone, Copy, PartialEq, Eq, Debug)]
-pub enum End {
-    /// The system doesn't tell what is ready any more.
+pub enum ScoreTableEnd {
+    /// The system doesn't say what is ready any more.
     Failed,
     /// Two desks of the hall reported different entries for one position.
     Broken,
 }
 
-/// The seconds since 1970 by the machine's clock; none where it does not tell them.
+/// The seconds since 1970 by the machine's clock; none where it does not give them.
 fn clock_of<R: Clock>(runtime: &R) -> Option<u64> {
     match runtime.since_1970() {
         Ok(since) => Some(since.as_secs()),
@@ -36,8 +36,8 @@ fn clock_of<R: Clock>(runtime: &R) -> Option<u64> {
     }
 }
 
-/// Says where it listens, and serves until it can't go on. Pages are given ids for their forms as
-/// they use them up.
+/// Says where it listens, and serves until it can't continue. Pages are given ids for their forms
+/// as they use them up.
 fn serve_on<D: Disk, R: Net + RandomSource + Clock + Drop, W: Write, F: Write>(
     runtime: &R,
     browsers: &mut Browsers<BrowserSockets<'_, R>>,
@@ -45,7 +45,7 @@ fn serve_on<D: Disk, R: Net + RandomSource + Clock + Drop, W: Write, F: Write>(
     side: &mut DesksSide<'_, R>,
     writer: &mut W,
     faults: &mut F,
-) -> io::Result<End> {
+) -> io::Result<ScoreTableEnd> {
     say_where(address_of(browsers)?, PROGRAM, writer)?;
     let mut now = 0;
     for _round in 0..u64::MAX {
@@ -56,15 +56,15 @@ fn serve_on<D: Disk, R: Net + RandomSource + Clock + Drop, W: Write, F: Write>(
         service.set_clock(clock_of(runtime));
         let wait = side.wait(service, now);
         let Some(after) = round(browsers, service, wait) else {
-            return Ok(End::Failed);
+            return Ok(ScoreTableEnd::Failed);
         };
         now = after;
         service.set_time(now);
         if !side.keep(service, now, faults)? {
-            return Ok(End::Broken);
+            return Ok(ScoreTableEnd::Broken);
         }
     }
-    Ok(End::Failed)
+    Ok(ScoreTableEnd::Failed)
 }
 
 /// Where a desk is, as the journal names it: `-` where that is not known.
@@ -98,11 +98,11 @@ fn service_of<'a, R: RandomSource>(
     title: String,
     name: String,
     proposals: Vec<u8>,
-    opened: Opened<SystemFile>,
+    opened: OpenedJournal<SystemFile>,
 ) -> io::Result<&'a mut TableService<SystemFile>> {
     let setup = Setup::new(runtime, alloc, address, title, name, proposals)?;
     let mirroring = Mirroring::new(alloc, hall.number, count_desks(hall.addresses))?;
-    let Opened { journal, file } = opened;
+    let OpenedJournal { journal, file } = opened;
     let service = TableService::new(alloc, setup, mirroring, journal.outbox, file);
     let kept = Box::new(alloc, service)?;
     Ok(Box::leak(kept))
@@ -122,7 +122,7 @@ fn side_of<'a, R: Net + RandomSource + Clock + Drop>(
 
 /// Says where it listens, and serves the pages of a hall under this title, for the table of this
 /// name, with the proposals of these commands' comments, over this journal, to these browsers until
-/// it can't go on. What is wrong with the key of a
+/// it can't continue. What is wrong with the key of a
 /// desk is said on a line of `faults`.
 pub fn serve<'a, R: Net + RandomSource + Clock + Drop, W: Write, F: Write>(
     runtime: &'a R,
@@ -131,11 +131,11 @@ pub fn serve<'a, R: Net + RandomSource + Clock + Drop, W: Write, F: Write>(
     title: String,
     name: String,
     proposals: Vec<u8>,
-    opened: Opened<SystemFile>,
+    opened: OpenedJournal<SystemFile>,
     browsers: &mut Browsers<BrowserSockets<'a, R>>,
     writer: &mut W,
     faults: &mut F,
-) -> io::Result<End> {
+) -> io::Result<ScoreTableEnd> {
     let address = address_of(browsers)?;
     let service = service_of(
         runtime, alloc, hall, address, title, name, proposals, opened,

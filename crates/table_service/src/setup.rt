@@ -18,8 +18,8 @@ pub struct Setup {
     /// The hosts under which browsers find it, as `127.0.0.1:8080` and `localhost:8080`. A request
     /// that names another one is refused.
     pub hosts: Vec<String>,
-    /// What each form carries so that it is taken: drawn at random, so that no foreign page knows
-    /// it.
+    /// What each form carries so that it is accepted. It is drawn at random, so that no foreign
+    /// page knows it.
     pub token: String,
     /// The commands with which the competition was set up, whose comments propose how later rounds
     /// are held; nothing where they are not known.

@@ -7,17 +7,17 @@ ghost use Rattle.table_service.specs.Plans.{PlansRead};
 ghost use Rattle.table_service.specs.Replying.{ShowsIf};
 ghost use Rattle.table_service.specs.Requests.{query_of};
 
-use crate::plan::{Plan, Problem, Reply, Shown};
-use crate::reading::{Asked, View, asked_at};
+use crate::plan::{PageReply, PageStatus, Problem, RequestPlan};
+use crate::reading::{Resource, TableView, asked_at};
 use crate::waiting::card_after;
 use bytes::Bytes;
-use entry_views::paper::{scorecards, wall_sheet};
-use entry_views::{Draft, history_page};
-use hall_views::{import_page, overview, people_page, person_page, rounds_page};
 use http::Request;
 use outbox::Outbox;
 use std::alloc::{AllocError, Global};
-use table_views::Around;
+use table_entry_views::paper::{scorecards, wall_sheet};
+use table_entry_views::{Draft, history_page};
+use table_hall_views::{import_page, overview, people_page, person_page, rounds_page};
+use table_views::PageContext;
 
 /// What a card is filled in with that is asked for.
 fn draft_of<'a>(number: Option<u16>) -> Draft<'a>
@@ -34,34 +34,36 @@ fn page_of(
     alloc: Global,
     outbox: &Outbox,
     title: &[u8],
-    around: &Around<'_>,
-    view: View,
+    around: &PageContext<'_>,
+    view: TableView,
 ) -> Result<Option<Vec<u8>>, AllocError>
     ensures { IfOk result (λ page. IsPage outbox.now.list around.entry.now title.now view
         (option_map (λ text. text.items) page)) }
 {
     match view {
-        View::Overview => Ok(Some(overview(alloc, around)?)),
-        View::People => Ok(Some(people_page(alloc, around)?)),
-        View::Person(number) => person_page(alloc, around, number),
-        View::Import => Ok(Some(import_page(alloc, around)?)),
-        View::Rounds(round) => Ok(Some(rounds_page(alloc, around, round)?)),
-        View::Card { round, number } => {
+        TableView::Overview => Ok(Some(overview(alloc, around)?)),
+        TableView::People => Ok(Some(people_page(alloc, around)?)),
+        TableView::Person(number) => person_page(alloc, around, number),
+        TableView::Import => Ok(Some(import_page(alloc, around)?)),
+        TableView::Rounds(round) => Ok(Some(rounds_page(alloc, around, round)?)),
+        TableView::Card { round, number } => {
             card_after(alloc, outbox, around, round, draft_of(number))
         }
-        View::History { round, number } => Ok(Some(history_page(alloc, around, round, number)?)),
-        View::Wall(round) => wall_sheet(alloc, around.mirror, title, round),
-        View::Scorecards(round) => scorecards(alloc, around.mirror, title, round),
+        TableView::History { round, number } => Ok(Some(history_page(
+            alloc, around, round, number,
+        )?)),
+        TableView::Wall(round) => wall_sheet(alloc, around.mirror, title, round),
+        TableView::Scorecards(round) => scorecards(alloc, around.mirror, title, round),
     }
 }
 
 /// What is to be done where a page is asked for.
-fn plan_page(page: Option<Vec<u8>>) -> Plan
+fn plan_page(page: Option<Vec<u8>>) -> RequestPlan
     ensures { ShowsIf (option_map (λ text. text.items) page) result }
 {
     match page {
-        Some(page) => Plan::with_ids(Shown::Asked, page),
-        None => Plan::problem(Problem::NotFound),
+        Some(page) => RequestPlan::with_ids(PageStatus::Asked, page),
+        None => RequestPlan::problem(Problem::NotFound),
     }
 }
 
@@ -80,17 +82,17 @@ pub(crate) fn plan_read(
     alloc: Global,
     outbox: &Outbox,
     title: &[u8],
-    around: &Around<'_>,
+    around: &PageContext<'_>,
     request: &Request<Bytes>,
-) -> Result<Plan, AllocError>
+) -> Result<RequestPlan, AllocError>
     ensures { IfOk result (PlansRead outbox.now.list around.entry.now title.now request.now) }
 {
     let path = request.uri().path().as_bytes();
     match asked_at(alloc, path, query_of(request))? {
-        None => Ok(Plan::problem(Problem::NotFound)),
-        Some(Asked::Style) => Ok(Plan::shown(Reply::Style)),
-        Some(Asked::Script) => Ok(Plan::shown(Reply::Script)),
-        Some(Asked::Page(view)) => {
+        None => Ok(RequestPlan::problem(Problem::NotFound)),
+        Some(Resource::Style) => Ok(RequestPlan::shown(PageReply::Style)),
+        Some(Resource::Script) => Ok(RequestPlan::shown(PageReply::Script)),
+        Some(Resource::Page(view)) => {
             let page = page_of(alloc, outbox, title, around, view)?;
             Ok(plan_page(page))
         }

@@ -14,7 +14,7 @@ use crate::commanding::refuse;
 use crate::entering::cards_place;
 use crate::entries::{fit_card, has_room, place_with};
 use crate::looking::first_id;
-use crate::plan::{Effect, Plan, Problem};
+use crate::plan::{Effect, Problem, RequestPlan};
 use crate::refusing::{value_at, values_left};
 use acceptor::entry::Entry;
 use attempts::{Unit, Value};
@@ -22,16 +22,16 @@ use card_forms::{FormId, Pairs, card_entry};
 use commands::Meet;
 use formats::unit_of;
 use mirror::Mirror;
-use outbox::{Item, Outbox, State};
+use outbox::{Item, ItemState, Outbox};
 use std::alloc::{AllocError, Global};
-use table_views::Around;
-use texts::{CardEntry, Entered, Now, Was};
+use table_views::PageContext;
+use texts::{CardEntry, Entered, NewAttempts, SeenValues};
 
 /// The longest time that is typed, in hundredths of a second.
 const LONGEST: u32 = 999_999;
 
-/// What is said where what stood cannot be typed as a time or as no result.
-const UNTYPED: &[u8] = b"what stood before cannot be entered by itself: open the card and type it";
+/// What is said where what counted before cannot be typed as a time or as no result.
+const UNTYPED: &[u8] = b"what was there before cannot be entered: open the card and type it";
 
 /// Whether the log says that the item of an id is saved, and no scoretaker has answered it.
 fn may_undo(outbox: &Outbox, mirror: &Mirror, of: u64) -> bool
@@ -41,7 +41,7 @@ fn may_undo(outbox: &Outbox, mirror: &Mirror, of: u64) -> bool
         return false;
     }
     match outbox.state(mirror, of) {
-        Some(State::Saved { .. }) => true,
+        Some(ItemState::Saved { .. }) => true,
         _ => false,
     }
 }
@@ -76,7 +76,7 @@ fn typed_for(unit: Unit, limit: Option<u32>, value: Value) -> Option<Entered>
     }
 }
 
-/// What is to count again at a place, counted from 0, where a card left these and those stood.
+/// What is to count again at a place, counted from 0, where a card left these in place of those.
 fn back_at(
     unit: Unit,
     limit: Option<u32>,
@@ -101,14 +101,15 @@ fn put(now: &mut Vec<Option<Entered>>, outcome: Option<Entered>) -> Result<(), A
     Ok(())
 }
 
-/// What is to count again, where a card left these and those stood; none where it cannot be typed.
+/// What is to count again, where a card left these in place of those; none where it cannot be
+/// typed.
 fn back_of(
     alloc: Global,
     unit: Unit,
     limit: Option<u32>,
     left: &[Value],
     was: &[Value],
-) -> Result<Option<Now>, AllocError>
+) -> Result<Option<NewAttempts>, AllocError>
     ensures { IfOk result (λ now. now ≡ back_of unit limit left.now was.now) }
 {
     let mut now = Vec::new(alloc);
@@ -118,11 +119,11 @@ fn back_of(
         };
         put(&mut now, outcome)?;
     }
-    Ok(Some(Now::new(now)))
+    Ok(Some(NewAttempts::new(now)))
 }
 
 /// The entry of the card that takes this one back, under an id, with a remark; none where what
-/// stood cannot be typed.
+/// counted before cannot be typed.
 fn undone_entry(
     alloc: Global,
     id: FormId,
@@ -146,7 +147,7 @@ fn undone_entry(
     let undone = CardEntry {
         id: card.id,
         number: card.number,
-        was: Was::new(left),
+        was: SeenValues::new(left),
         now,
     };
     card_entry(alloc, id, undone, remark)
@@ -156,10 +157,10 @@ fn undone_entry(
 fn plan_undo_card(
     alloc: Global,
     outbox: &Outbox,
-    around: &Around<'_>,
+    around: &PageContext<'_>,
     of: u64,
     card: &CardEntry,
-) -> Result<Plan, AllocError>
+) -> Result<RequestPlan, AllocError>
     requires { IsFitCard card.now }
     ensures { IfOk result
         (PlansUndoCard around.entry.now outbox.now.list of (Some card.entry.now)) }
@@ -171,43 +172,43 @@ fn plan_undo_card(
         return refuse(alloc, around, &place, UNTYPED);
     };
     if !has_room(outbox, 1) {
-        return Ok(Plan::problem(Problem::Busy));
+        return Ok(RequestPlan::problem(Problem::Busy));
     }
     let after = place_with(alloc, &place, entry.id())?;
-    Ok(Plan::see(after, Effect::Again { entry, of }))
+    Ok(RequestPlan::see(after, Effect::Again { entry, of }))
 }
 
 /// What is to be done for an item that is saved, and is to be taken back.
 fn plan_undo_item(
     alloc: Global,
     outbox: &Outbox,
-    around: &Around<'_>,
+    around: &PageContext<'_>,
     of: u64,
     item: &Item,
-) -> Result<Plan, AllocError>
+) -> Result<RequestPlan, AllocError>
     ensures { IfOk result (PlansUndoIf true around.entry.now outbox.now.list of item.now) }
 {
     match fit_card(alloc, item.entry.text())? {
         Some(card) => plan_undo_card(alloc, outbox, around, of, &card),
-        None => Ok(Plan::problem(Problem::BadForm)),
+        None => Ok(RequestPlan::problem(Problem::BadForm)),
     }
 }
 
 /// What is to be done for the form that takes a saved card back: a new card is entered, over what
-/// that card left, with what stood before it.
+/// that card left, with what counted before it.
 pub(crate) fn plan_undo(
     alloc: Global,
     outbox: &Outbox,
-    around: &Around<'_>,
+    around: &PageContext<'_>,
     pairs: &Pairs,
-) -> Result<Plan, AllocError>
+) -> Result<RequestPlan, AllocError>
     ensures { IfOk result (PlansUndo around.entry.now outbox.now.list pairs.now) }
 {
     let Some(of) = id_of(pairs) else {
-        return Ok(Plan::problem(Problem::BadForm));
+        return Ok(RequestPlan::problem(Problem::BadForm));
     };
     match outbox.find(of) {
-        None => Ok(Plan::problem(Problem::BadForm)),
+        None => Ok(RequestPlan::problem(Problem::BadForm)),
         Some(item) if may_undo(outbox, around.mirror, of) => {
             plan_undo_item(alloc, outbox, around, of, item)
         }

@@ -9,13 +9,13 @@ use crate::cards::card;
 use crate::showing::query_of;
 use bytes::Bytes;
 use card_forms::Pairs;
-use entry_views::Draft;
-use hall_views::waiting_page;
 use http::Request;
 use mirror::Mirror;
-use outbox::{Outbox, State, state_of};
+use outbox::{ItemState, Outbox, state_of};
 use std::alloc::{AllocError, Global};
-use table_views::Around;
+use table_entry_views::Draft;
+use table_hall_views::waiting_page;
+use table_views::PageContext;
 use texts::{RoundId, number_between};
 
 /// Milliseconds that what was sent is waited for at most.
@@ -37,11 +37,11 @@ pub(crate) fn sent_before(
 
 /// Whether an item of which this became waits, since less than two seconds: it was taken this many
 /// milliseconds ago.
-fn waits_since(state: State, ago: u64) -> bool
+fn waits_since(state: ItemState, ago: u64) -> bool
     ensures { result ≡ waits_since state ago }
 {
     match state {
-        State::Waits => ago < LONGEST,
+        ItemState::Waits => ago < LONGEST,
         _ => false,
     }
 }
@@ -67,7 +67,7 @@ pub(crate) fn waits(outbox: &Outbox, mirror: &Mirror, now: u64, sent: Option<u64
 pub(crate) fn card_after(
     alloc: Global,
     outbox: &Outbox,
-    around: &Around<'_>,
+    around: &PageContext<'_>,
     round: RoundId,
     draft: Draft<'_>,
 ) -> Result<Option<Vec<u8>>, AllocError>

@@ -8,9 +8,9 @@ use Rattle.wire.specs.declared.standing.Difference.{Difference}
 use Rattle.wire.specs.declared.standing.Difference.TheVariants.{OtherEntry, Shorter}
 use Rattle.wire.specs.declared.values.ClientRefusal.{ClientRefusal}
 use Rattle.wire.specs.declared.values.ClientRefusal.TheVariants as refusal
-use Rattle.table_views.specs.declared.bar.Doing.{Doing}
-use Rattle.table_views.specs.declared.bar.Doing.TheVariants as doing
-use Rattle.table_views.specs.declared.desks.Desks.{Desks}
+use Rattle.table_views.specs.declared.bar.DesksHealth.{DesksHealth}
+use Rattle.table_views.specs.declared.bar.DesksHealth.TheVariants as doing
+use Rattle.table_views.specs.declared.desks.HallStatus.{HallStatus}
 use Rattle.table_views.specs.Counts.{are_away, number_start, number_word}
 use Rattle.table_views.specs.Desks.{is_everywhere, too_few}
 
@@ -40,43 +40,43 @@ key_by None (Some refused) = refused_key refused.1
 key_by None None = None
 
 -- what is wrong with the key of this table
-abbrev pub key_trouble : Desks → Option CallTrouble
+abbrev pub key_trouble : HallStatus → Option CallTrouble
 key_trouble desks = key_by desks.trouble desks.refused
 
-abbrev pub calm_of : Desks → List ℕ → Doing
+abbrev pub calm_of : HallStatus → List ℕ → DesksHealth
 calm_of desks [] = if is_everywhere desks 0 then doing.Well else doing.Asked
 calm_of desks (desk ∷ others) = doing.Away
 
-abbrev pub slow_or : Option ℕ → Option ℕ → Desks → Doing
+abbrev pub slow_or : Option ℕ → Option ℕ → HallStatus → DesksHealth
 slow_or (Some silent) undecided desks = doing.Silent silent
 slow_or None (Some undecided) desks = doing.Undecided undecided
 slow_or None None desks = calm_of desks desks.away.items
 
-abbrev pub few_or : Bool → Desks → Doing
+abbrev pub few_or : Bool → HallStatus → DesksHealth
 few_or true desks = doing.Few
 few_or false desks = slow_or (too_long desks.silent) (too_long desks.undecided) desks
 
-abbrev pub differs_or : Option Difference → Desks → Doing
+abbrev pub differs_or : Option Difference → HallStatus → DesksHealth
 differs_or (Some difference) desks = doing.Differs difference
 differs_or None desks = few_or (too_few desks) desks
 
-abbrev pub other_hall_or : Option ℕ → Desks → Doing
+abbrev pub other_hall_or : Option ℕ → HallStatus → DesksHealth
 other_hall_or (Some desk) desks = doing.OtherHall desk
 other_hall_or None desks = differs_or desks.differs desks
 
-abbrev pub locked_or : Option CallTrouble → Desks → Doing
+abbrev pub locked_or : Option CallTrouble → HallStatus → DesksHealth
 locked_or (Some wrong) desks = doing.Locked wrong
 locked_or None desks = other_hall_or desks.of_other_hall desks
 
 -- that the key is wrong; else that a machine is of another hall; else that one differs; else that
 -- no majority answers; else that the machine that is followed does not, or that nothing is decided;
 -- else which machines are away; else all is well
-abbrev pub doing_of : Desks → Doing
+abbrev pub doing_of : HallStatus → DesksHealth
 doing_of desks = locked_or (key_trouble desks) desks
 
 -- ---- in words
 
-abbrev pub class_of : Doing → List ℕ
+abbrev pub class_of : DesksHealth → List ℕ
 class_of (doing.Locked wrong) = codes "lost"
 class_of (doing.OtherHall desk) = codes "lost"
 class_of (doing.Differs difference) = codes "lost"
@@ -144,7 +144,7 @@ well_words machines =
 
 -- what is to be done where machines differ
 abbrev pub stop_words : List ℕ
-stop_words = codes ". Enter nothing more, keep the cards, and call whoever runs the machines."
+stop_words = codes ". Enter nothing more, keep the cards, and fetch the person in charge."
 
 abbrev pub differs_words : Difference → List ℕ
 differs_words (OtherEntry desk position) = joined (
@@ -156,7 +156,7 @@ differs_words (Shorter desk len) = joined (
     ∷ codes " commands and had more" ∷ stop_words ∷ []
     )
 
-abbrev pub words_of : Desks → Doing → List ℕ
+abbrev pub words_of : HallStatus → DesksHealth → List ℕ
 words_of desks (doing.Locked wrong) = key_words wrong
 words_of desks (doing.OtherHall desk) = other_hall_words desk
 words_of desks (doing.Differs difference) = differs_words difference
@@ -169,7 +169,7 @@ words_of desks doing.Well = well_words (length desks.lengths.items)
 
 -- ---- the bar
 
-abbrev pub bar_start : Doing → List ℕ
+abbrev pub bar_start : DesksHealth → List ℕ
 bar_start doing = joined (
     codes "<p id=\"bar\" class=\"" ∷ class_of doing ∷ codes "\"><span role=\"status\">" ∷ []
     )
@@ -178,9 +178,9 @@ abbrev pub bar_end : ℕ → List ℕ
 bar_end position =
     joined (codes "</span> <small>result " ∷ decimal position ∷ codes "</small></p>\n" ∷ [])
 
-unfoldable pub bar_of : Desks → Doing → ℕ → List ℕ
+unfoldable pub bar_of : HallStatus → DesksHealth → ℕ → List ℕ
 bar_of desks doing position = bar_start doing ++ words_of desks doing ++ bar_end position
 
 -- what is read aloud is how the desks are doing, and not each position
-abbrev pub bar : Desks → ℕ → List ℕ
+abbrev pub bar : HallStatus → ℕ → List ℕ
 bar desks position = bar_of desks (doing_of desks) position

@@ -14,7 +14,7 @@ is_latest accepted = nat_le 4 (edition_in accepted)
 unfoldable pub edition_start : List ℕ
 edition_start =
     codes "<h2>Edition 4</h2>\n<p>An earlier edition of the commands holds in this hall, and this "
-    ++ codes "table takes no card under it. With edition 4 a scorecard is one command, which "
+    ++ codes "table accepts no card under it. With edition 4 a scorecard is one command, which "
     ++ codes "counts over what its scoretaker saw, or not at all. The commands can also change a "
     ++ codes "name, the settings of a round and a scramble, withdraw a competitor, and open a "
     ++ codes "closed round again. First each desk has to run a program that knows edition 4. It "

@@ -2,7 +2,7 @@
 use Rattle.std.specs.Prelude.{ℕ, Bool, List, [], ◌∷◌, ◌++◌, codes, if◌then◌else◌, length}
 use Rattle.markup.specs.board_page.Escaped.{escaped}
 use Rattle.markup.specs.Pieces.{joined}
-use Rattle.table_views.specs.declared.around.Around.{Around}
+use Rattle.table_views.specs.declared.around.PageContext.{PageContext}
 use Rattle.table_views.specs.Bar.{bar}
 
 -- what is before the title of a page, and after it
@@ -35,7 +35,7 @@ links =
     ++ codes "<a href=\"/people\">competitors</a></nav>\n"
 
 -- what is before the sections of a page
-abbrev pub top : List ℕ → List ℕ → Around → List ℕ
+abbrev pub top : List ℕ → List ℕ → PageContext → List ℕ
 top class title around =
     head class title around.waits ++ links ++ bar around.desks.now (length around.mirror.now)
     ++ codes "<main>\n"

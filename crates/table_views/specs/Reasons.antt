@@ -2,9 +2,9 @@
 use Rattle.std.specs.Prelude.{ℕ, ◌==◌, if◌then◌else◌, List, codes, Option, None, Some}
 use Rattle.wire.specs.declared.values.ClientRefusal.{ClientRefusal}
 use Rattle.wire.specs.declared.values.ClientRefusal.TheVariants as refusal
-use Rattle.table_views.specs.declared.bar.Doing.{Doing}
-use Rattle.table_views.specs.declared.bar.Doing.TheVariants as doing
-use Rattle.table_views.specs.declared.desks.Desks.{Desks}
+use Rattle.table_views.specs.declared.bar.DesksHealth.{DesksHealth}
+use Rattle.table_views.specs.declared.bar.DesksHealth.TheVariants as doing
+use Rattle.table_views.specs.declared.desks.HallStatus.{HallStatus}
 use Rattle.table_views.specs.Bar.{doing_of}
 
 -- why a desk did not take what was submitted
@@ -28,7 +28,7 @@ refusal_if None id = None
 refusal_if (Some refused) id = if refused.0 == id then Some refused.1 else None
 
 -- why items wait that no desk refused, as the desks are doing
-abbrev pub delay_words : Doing → List ℕ
+abbrev pub delay_words : DesksHealth → List ℕ
 delay_words (doing.Locked wrong) = codes ": this table has no key, or another one than the desks"
 delay_words (doing.OtherHall desk) = codes ": a machine that answers is of another hall"
 delay_words (doing.Differs difference) =
@@ -41,10 +41,10 @@ delay_words doing.Away = codes ""
 delay_words doing.Asked = codes ""
 delay_words doing.Well = codes ""
 
-abbrev pub why_by : Option ClientRefusal → Desks → List ℕ
+abbrev pub why_by : Option ClientRefusal → HallStatus → List ℕ
 why_by (Some why) desks = refusal_words why
 why_by None desks = delay_words (doing_of desks)
 
 -- why the item of an id waits
-abbrev pub why_words : Desks → ℕ → List ℕ
+abbrev pub why_words : HallStatus → ℕ → List ℕ
 why_words desks id = why_by (refusal_if desks.refused id) desks

@@ -9,17 +9,17 @@ use Rattle.formats.specs.Events.{unit_of}
 use Rattle.markup.specs.board_page.Escaped.{escaped}
 use Rattle.markup.specs.Pieces.{joined}
 use Rattle.card_forms.specs.Entries.{card_in}
-use Rattle.outbox.specs.declared.state.State.{State}
-use Rattle.outbox.specs.declared.state.State.TheVariants as state
+use Rattle.outbox.specs.declared.state.ItemState.{ItemState}
+use Rattle.outbox.specs.declared.state.ItemState.TheVariants as state
 use Rattle.round_words.specs.Words.{round_name}
 use Rattle.texts.specs.Fields.{enters_later}
 use Rattle.texts.specs.Spelling.{was_text}
 use Rattle.texts.specs.declared.command.CardEntry.{CardEntry}
 use Rattle.texts.specs.declared.command.Command.{Command}
 use Rattle.texts.specs.meanings.Meanings.{meaning_of}
-use Rattle.table_views.specs.declared.around.Around.{Around}
+use Rattle.table_views.specs.declared.around.PageContext.{PageContext}
 use Rattle.table_views.specs.declared.around.Recent.{Recent}
-use Rattle.table_views.specs.declared.desks.Desks.{Desks}
+use Rattle.table_views.specs.declared.desks.HallStatus.{HallStatus}
 use Rattle.table_views.specs.Counts.{are_away, number_word}
 use Rattle.table_views.specs.Desks.{is_everywhere}
 use Rattle.table_views.specs.Hidden.{hidden}
@@ -59,7 +59,7 @@ item_line accepted text (Some card) = card_line accepted card
 
 -- ---- what became of it
 
-abbrev pub class_of : State → List ℕ
+abbrev pub class_of : ItemState → List ℕ
 class_of state.Waits = codes "waits"
 class_of (state.Saved position) = codes "saved"
 class_of (state.Changed position) = codes "changed"
@@ -81,7 +81,7 @@ saved_everywhere machines =
     joined (codes "saved on all " ∷ number_word machines ∷ codes " machines" ∷ [])
 
 -- where the entry at a position is: on all machines, if they are known to have it
-abbrev pub saved_words : Desks → ℕ → List ℕ
+abbrev pub saved_words : HallStatus → ℕ → List ℕ
 saved_words desks position =
     if is_everywhere desks (position + 1) then saved_everywhere (length desks.lengths.items)
     else saved_but (length desks.away.items)
@@ -91,9 +91,9 @@ value_words unit value = value_text unit value ++ codes " "
 
 -- what counts now
 abbrev pub standing_words : Measure → List Value → List ℕ
-standing_words unit [] = codes "nothing stands now"
+standing_words unit [] = codes "nothing on record now"
 standing_words unit (value ∷ values) =
-    flat_map (value_words unit) (value ∷ values) ++ codes "stands now"
+    flat_map (value_words unit) (value ∷ values) ++ codes "on record now"
 
 abbrev pub standing_of : List Command → CardEntry → List Value
 standing_of accepted card = standing accepted card.id card.number
@@ -110,7 +110,7 @@ by_words None = []
 by_words (Some position) = joined (codes ", by result " ∷ decimal (position + 1) ∷ [])
 
 -- what became of an item of this card, if it is one
-abbrev pub state_words : Around → Recent → Option CardEntry → State → List ℕ
+abbrev pub state_words : PageContext → Recent → Option CardEntry → ItemState → List ℕ
 state_words around recent card state.Waits =
     waits_words (around.now - recent.item.now.since)
     ++ why_words around.desks.now recent.item.now.entry.id
@@ -125,19 +125,19 @@ state_words around recent card (state.OtherText position) =
 
 -- ---- what a scoretaker may answer
 
--- the form takes what was typed over what counts now, as the page shows it
+-- the form enters what was typed over what counts now, as the page shows it
 abbrev pub again_form : List ℕ → ℕ → List Value → List ℕ
 again_form token id values =
     codes "<form method=\"post\" action=\"/again\">" ++ hidden token id
     ++ codes "<input type=\"hidden\" name=\"was\" value=\"" ++ was_text values
-    ++ codes "\"><button>Enter it over what stands now</button></form>\n"
+    ++ codes "\"><button>Enter it over what is on record now</button></form>\n"
 
--- where a card over these values has a spelling: where what was to stay counts
+-- if a card over these values has a spelling: if the attempts that it leaves as they are count
 abbrev pub again_if : Bool → List ℕ → ℕ → List Value → List ℕ
 again_if false token id values = []
 again_if true token id values = again_form token id values
 
-abbrev pub again_of : Around → ℕ → Option CardEntry → List ℕ
+abbrev pub again_of : PageContext → ℕ → Option CardEntry → List ℕ
 again_of around id None = []
 again_of around id (Some card) =
     again_if (enters_later (length (standing_of (accepted_in around.mirror.now) card)) card.now)
@@ -151,7 +151,7 @@ leave_form token id =
 
 -- ---- what a scoretaker may take back
 
-abbrev pub is_saved : State → Bool
+abbrev pub is_saved : ItemState → Bool
 is_saved state.Waits = false
 is_saved (state.Saved position) = true
 is_saved (state.Changed position) = false
@@ -179,7 +179,7 @@ undo_of token None id = []
 undo_of token (Some newest) id = if newest == id then undo_form token id else []
 
 -- the forms of an item: of all that are saved the newest card alone can be taken back
-abbrev pub forms_of : Around → Option ℕ → ℕ → Option CardEntry → State → List ℕ
+abbrev pub forms_of : PageContext → Option ℕ → ℕ → Option CardEntry → ItemState → List ℕ
 forms_of around newest id card state.Waits = []
 forms_of around newest id card (state.Saved position) = undo_of around.token.now newest id
 forms_of around newest id card (state.Changed position) =
@@ -189,22 +189,22 @@ forms_of around newest id card (state.OtherText position) = leave_form around.to
 
 -- ---- the section
 
-abbrev pub line_start : State → List ℕ
+abbrev pub line_start : ItemState → List ℕ
 line_start became = joined (codes "<li class=\"" ∷ class_of became ∷ codes "\">" ∷ [])
 
-abbrev pub line_of : Around → Option ℕ → Recent → Option CardEntry → List ℕ
+abbrev pub line_of : PageContext → Option ℕ → Recent → Option CardEntry → List ℕ
 line_of around newest recent card =
     line_start recent.state
     ++ item_line (accepted_in around.mirror.now) recent.item.now.entry.text card
     ++ codes " <em>" ++ state_words around recent card recent.state ++ codes "</em>"
     ++ forms_of around newest recent.item.now.entry.id card recent.state ++ codes "</li>\n"
 
-abbrev pub recent_line : Around → Option ℕ → Recent → List ℕ
+abbrev pub recent_line : PageContext → Option ℕ → Recent → List ℕ
 recent_line around newest recent =
     line_of around newest recent (card_in recent.item.now.entry.text)
 
 -- what was sent, newest first
-abbrev pub recent_section : Around → List ℕ
+abbrev pub recent_section : PageContext → List ℕ
 recent_section around =
     codes "<section id=\"recent\"><h2>Last entered</h2>\n<ol>\n"
     ++ flat_map (recent_line around (newest_saved around.recent.now)) around.recent.now

@@ -7,7 +7,8 @@ use Rattle.card_forms.specs.Readings.{shown_at}
 use Rattle.scorecard.specs.Typed.{entered_typed}
 use Rattle.texts.specs.declared.command.Entered.{Entered}
 
--- what a card says of the attempt at a place, counted from 0; where it stays, what stood
+-- what a card says of the attempt at a place, counted from 0; if it leaves the attempt as it is,
+-- what counted before
 abbrev pub outcome_typed : Measure → List Value → ℕ → Option Entered → List ℕ
 outcome_typed unit was place None = shown_at unit was place
 outcome_typed unit was place (Some x) = entered_typed x

@@ -9,7 +9,7 @@ ghost use Rattle.table_views.specs.Bar.{silent_words, slow_or, too_long, undecid
 ghost use Rattle.table_views.specs.Bar.{well_words, words_of};
 
 use crate::counts::{are_away, number_start, number_word};
-use crate::desks::Desks;
+use crate::desks::HallStatus;
 use acceptor::NoMemory;
 use markup::{Piece, push_pieces};
 use sealed::ends::CallTrouble;
@@ -19,11 +19,11 @@ use wire::{ClientRefusal, Difference};
 const PATIENCE: u64 = 2_000;
 
 /// What is to be done where machines differ.
-const STOP: &[u8] = b". Enter nothing more, keep the cards, and call whoever runs the machines.";
+const STOP: &[u8] = b". Enter nothing more, keep the cards, and fetch the person in charge.";
 
 /// How the desks are doing, or what is worst of it.
 #[derive(Clone, Copy)]
-pub(crate) enum Doing {
+pub(crate) enum DesksHealth {
     /// Nothing can be entered here: something is wrong with the table's key.
     Locked(CallTrouble),
     /// Nothing can be entered here: this desk is of another hall.
@@ -75,7 +75,7 @@ fn refused_key(why: ClientRefusal) -> Option<CallTrouble>
 }
 
 /// What is wrong with the key of this table.
-fn key_trouble(desks: &Desks) -> Option<CallTrouble>
+fn key_trouble(desks: &HallStatus) -> Option<CallTrouble>
     ensures { result ≡ key_trouble desks.now }
 {
     match (desks.trouble, desks.refused) {
@@ -86,36 +86,36 @@ fn key_trouble(desks: &Desks) -> Option<CallTrouble>
 }
 
 /// How the desks are doing that answer soon enough.
-fn calm_of(desks: &Desks) -> Doing
+fn calm_of(desks: &HallStatus) -> DesksHealth
     ensures { result ≡ calm_of desks.now desks.now.away.items }
 {
     if !desks.away.is_empty() {
-        Doing::Away
+        DesksHealth::Away
     } else if desks.is_everywhere(0) {
-        Doing::Well
+        DesksHealth::Well
     } else {
-        Doing::Asked
+        DesksHealth::Asked
     }
 }
 
 /// How the desks are doing: that the table's key is wrong; else that one is of another hall; else
 /// that one differs from others; else that no majority of them answers; else that the one that is
 /// followed does not, or that nothing is decided; else which are away.
-pub(crate) fn doing_of(desks: &Desks) -> Doing
+pub(crate) fn doing_of(desks: &HallStatus) -> DesksHealth
     ensures { result ≡ doing_of desks.now }
 {
     if let Some(trouble) = key_trouble(desks) {
-        Doing::Locked(trouble)
+        DesksHealth::Locked(trouble)
     } else if let Some(desk) = desks.of_other_hall {
-        Doing::OtherHall(desk)
+        DesksHealth::OtherHall(desk)
     } else if let Some(difference) = desks.differs {
-        Doing::Differs(difference)
+        DesksHealth::Differs(difference)
     } else if desks.too_few() {
-        Doing::Few
+        DesksHealth::Few
     } else if let Some(milliseconds) = too_long(desks.silent) {
-        Doing::Silent(milliseconds)
+        DesksHealth::Silent(milliseconds)
     } else if let Some(milliseconds) = too_long(desks.undecided) {
-        Doing::Undecided(milliseconds)
+        DesksHealth::Undecided(milliseconds)
     } else {
         calm_of(desks)
     }
@@ -123,18 +123,18 @@ pub(crate) fn doing_of(desks: &Desks) -> Doing
 
 // ---- in words
 
-fn class_of(doing: Doing) -> &'static [u8]
+fn class_of(doing: DesksHealth) -> &'static [u8]
     ensures { result.now ≡ class_of doing }
 {
     match doing {
-        Doing::Locked(_)
-        | Doing::OtherHall(_)
-        | Doing::Differs(_)
-        | Doing::Few
-        | Doing::Silent(_)
-        | Doing::Undecided(_) => b"lost",
-        Doing::Away | Doing::Asked => b"away",
-        Doing::Well => b"well",
+        DesksHealth::Locked(_)
+        | DesksHealth::OtherHall(_)
+        | DesksHealth::Differs(_)
+        | DesksHealth::Few
+        | DesksHealth::Silent(_)
+        | DesksHealth::Undecided(_) => b"lost",
+        DesksHealth::Away | DesksHealth::Asked => b"away",
+        DesksHealth::Well => b"well",
     }
 }
 
@@ -309,28 +309,28 @@ fn push_differs(out: &mut Vec<u8>, difference: Difference) -> Result<(), NoMemor
 }
 
 /// Adds how the desks are doing, and what is to be done.
-fn push_words(out: &mut Vec<u8>, desks: &Desks, doing: Doing) -> Result<(), NoMemory>
+fn push_words(out: &mut Vec<u8>, desks: &HallStatus, doing: DesksHealth) -> Result<(), NoMemory>
     ensures { OnOk result (out.new.items ≡ out.old.items ++ words_of desks.now doing) }
 {
     match doing {
-        Doing::Locked(trouble) => out.extend_from_slice(key_words(trouble)),
-        Doing::OtherHall(desk) => push_other_hall(out, desk),
-        Doing::Differs(difference) => push_differs(out, difference),
-        Doing::Few => push_few(out, &desks.away),
-        Doing::Silent(milliseconds) => push_silent(out, desks.followed, milliseconds),
-        Doing::Undecided(milliseconds) => push_undecided(out, milliseconds),
-        Doing::Away => {
+        DesksHealth::Locked(trouble) => out.extend_from_slice(key_words(trouble)),
+        DesksHealth::OtherHall(desk) => push_other_hall(out, desk),
+        DesksHealth::Differs(difference) => push_differs(out, difference),
+        DesksHealth::Few => push_few(out, &desks.away),
+        DesksHealth::Silent(milliseconds) => push_silent(out, desks.followed, milliseconds),
+        DesksHealth::Undecided(milliseconds) => push_undecided(out, milliseconds),
+        DesksHealth::Away => {
             push_away(out, &desks.away)?;
             push_look(out, &desks.away)
         }
-        Doing::Asked => out.extend_from_slice(b"The machines are asked."),
-        Doing::Well => push_well(out, desks.lengths.len()),
+        DesksHealth::Asked => out.extend_from_slice(b"The machines are asked."),
+        DesksHealth::Well => push_well(out, desks.lengths.len()),
     }
 }
 
 // ---- the bar
 
-fn push_bar_start(out: &mut Vec<u8>, doing: Doing) -> Result<(), NoMemory>
+fn push_bar_start(out: &mut Vec<u8>, doing: DesksHealth) -> Result<(), NoMemory>
     ensures { OnOk result (out.new.items ≡ out.old.items ++ bar_start doing) }
 {
     push_pieces(
@@ -359,8 +359,8 @@ fn push_bar_end(out: &mut Vec<u8>, position: u32) -> Result<(), NoMemory>
 /// Adds the bar of desks that are doing so.
 fn push_bar_of(
     out: &mut Vec<u8>,
-    desks: &Desks,
-    doing: Doing,
+    desks: &HallStatus,
+    doing: DesksHealth,
     position: u32,
 ) -> Result<(), NoMemory>
     ensures { OnOk result (out.new.items ≡ out.old.items ++ bar_of desks.now doing position) }
@@ -372,7 +372,7 @@ fn push_bar_of(
 
 /// Adds the bar: how the desks are doing, which a screen reader says when it changes, and how long
 /// the log is.
-pub(crate) fn push_bar(out: &mut Vec<u8>, desks: &Desks, position: u32) -> Result<(), NoMemory>
+pub(crate) fn push_bar(out: &mut Vec<u8>, desks: &HallStatus, position: u32) -> Result<(), NoMemory>
     ensures { OnOk result (out.new.items ≡ out.old.items ++ bar desks.now position) }
 {
     push_bar_of(out, desks, doing_of(desks), position)

@@ -8,7 +8,7 @@ use wire::{ClientRefusal, Difference};
 
 /// What is known of the desks of a hall.
 #[derive(Drop)]
-pub struct Desks {
+pub struct HallStatus {
     /// The desk that is followed, 1 to 5.
     pub followed: u8,
     /// The milliseconds since it was asked what it has not answered yet, where it does not answer.
@@ -41,7 +41,7 @@ fn holds(length: Option<u32>, position: u64) -> bool
     }
 }
 
-impl Desks {
+impl HallStatus {
     /// How many desks are known to have the first `position` entries in their logs.
     pub fn holding(&self, position: u64) -> usize
         ensures { result ≡ holding self.now position }

@@ -11,7 +11,7 @@ use markup::{Piece, push_pieces};
 
 const EDITION_START: &[u8] = b"\
 <h2>Edition 4</h2>
-<p>An earlier edition of the commands holds in this hall, and this table takes no card under it. \
+<p>An earlier edition of the commands holds in this hall, and this table accepts no card under it. \
 With edition 4 a scorecard is one command, which counts over what its scoretaker saw, or not at \
 all. The commands can also change a name, the settings of a round and a scramble, withdraw a \
 competitor, and open a closed round again. First each desk has to run a program that knows \

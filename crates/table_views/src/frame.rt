@@ -3,7 +3,7 @@
 ghost use Rattle.std.specs.Prelude.{◌≡◌, ◌++◌, OnOk};
 ghost use Rattle.table_views.specs.Frame.{bottom, head, refresh, top};
 
-use crate::around::Around;
+use crate::around::PageContext;
 use crate::bar::push_bar;
 use acceptor::NoMemory;
 use markup::{Piece, push_pieces};
@@ -65,7 +65,7 @@ fn push_head<'a>(
 #[tactic(auto, unfolding(crate::specs::Frame::links))]
 pub fn push_top<'a>(
     out: &mut Vec<u8>,
-    around: &Around<'_>,
+    around: &PageContext<'_>,
     class: &'a [u8],
     title: &'a [u8],
 ) -> Result<(), NoMemory>

@@ -17,8 +17,8 @@ mod recent;
 mod typed;
 mod values;
 
-pub use around::{Around, Recent};
-pub use desks::Desks;
+pub use around::{PageContext, Recent};
+pub use desks::HallStatus;
 pub use editions::{is_latest, push_edition_form};
 pub use frame::{push_bottom, push_top};
 pub use hidden::push_hidden;

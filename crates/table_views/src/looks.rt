@@ -487,7 +487,7 @@ async function enterIn(event, number) {
 function doubts(readings, place) {
   const { value, result = value, unsolved, time } = readings[place] || {}, found = [];
   const stands = beside(fields[place], '.stands').textContent;
-  const without = stands ? 'stands, and would be struck out?' : 'left empty?';
+  const without = stands ? 'is on record, and would be struck out?' : 'left empty?';
   if (!readings[place] && !(fields[place].disabled && !stands)) found.push(['changes', without]);
   if (!readings[place]) return found;
   if (stands && result !== stands) found.push(['changes', 'in place of ' + stands + '?']);

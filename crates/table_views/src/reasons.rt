@@ -4,8 +4,8 @@ ghost use Rattle.std.specs.Prelude.{◌≡◌, ◌++◌, OnOk};
 ghost use Rattle.table_views.specs.Bar.{doing_of};
 ghost use Rattle.table_views.specs.Reasons.{delay_words, refusal_if, refusal_words, why_words};
 
-use crate::bar::{Doing, doing_of};
-use crate::desks::Desks;
+use crate::bar::{DesksHealth, doing_of};
+use crate::desks::HallStatus;
 use acceptor::NoMemory;
 use wire::ClientRefusal;
 
@@ -42,23 +42,23 @@ fn refusal_if(refused: Option<(u64, ClientRefusal)>, id: u64) -> Option<ClientRe
 }
 
 /// Why items wait that no desk refused, as the desks are doing.
-fn delay_words(doing: Doing) -> &'static [u8]
+fn delay_words(doing: DesksHealth) -> &'static [u8]
     ensures { result.now ≡ delay_words doing }
 {
     match doing {
-        Doing::Locked(_) => b": this table has no key, or another one than the desks",
-        Doing::OtherHall(_) => b": a machine that answers is of another hall",
-        Doing::Differs(_) => b": the machines have other commands than one another",
-        Doing::Few => b": less than a majority of the machines answers",
-        Doing::Silent(_) => b": the machine that this table asks does not answer",
-        Doing::Undecided(_) => b": the machines have not decided it yet",
-        Doing::Away | Doing::Asked | Doing::Well => b"",
+        DesksHealth::Locked(_) => b": this table has no key, or another one than the desks",
+        DesksHealth::OtherHall(_) => b": a machine that answers is of another hall",
+        DesksHealth::Differs(_) => b": the machines have other commands than one another",
+        DesksHealth::Few => b": less than a majority of the machines answers",
+        DesksHealth::Silent(_) => b": the machine that this table asks does not answer",
+        DesksHealth::Undecided(_) => b": the machines have not decided it yet",
+        DesksHealth::Away | DesksHealth::Asked | DesksHealth::Well => b"",
     }
 }
 
 /// Adds why the item of an id waits: that the desk did not take it, or what is wrong with the key
 /// or the machines; nothing where it does not wait for long.
-pub(crate) fn push_why(out: &mut Vec<u8>, desks: &Desks, id: u64) -> Result<(), NoMemory>
+pub(crate) fn push_why(out: &mut Vec<u8>, desks: &HallStatus, id: u64) -> Result<(), NoMemory>
     ensures { OnOk result (out.new.items ≡ out.old.items ++ why_words desks.now id) }
 {
     match refusal_if(desks.refused, id) {

@@ -12,9 +12,9 @@ ghost use Rattle.table_views.specs.Recent.{saved_everywhere, saved_words, standi
 ghost use Rattle.table_views.specs.Recent.{stands_words, state_words, undo_form, undo_of};
 ghost use Rattle.table_views.specs.Recent.{value_words, waits_words};
 
-use crate::around::{Around, Recent};
+use crate::around::{PageContext, Recent};
 use crate::counts::{are_away, number_word};
-use crate::desks::Desks;
+use crate::desks::HallStatus;
 use crate::hidden::push_hidden_number;
 use crate::people::name_of;
 use crate::reasons::push_why;
@@ -26,21 +26,21 @@ use card_forms::card_in;
 use commands::Meet;
 use formats::unit_of;
 use markup::{Piece, push_pieces};
-use outbox::State;
+use outbox::ItemState;
 use round_words::{push_round_name, push_value};
 use std::alloc::Global;
 use texts::meanings::meaning_of;
 use texts::{CardEntry, Entered, push_was};
 
 /// The class of the style for what became of an item.
-fn class_of(state: State) -> &'static [u8]
+fn class_of(state: ItemState) -> &'static [u8]
     ensures { result.now ≡ class_of state }
 {
     match state {
-        State::Waits => b"waits",
-        State::Saved { .. } => b"saved",
-        State::Changed { .. } => b"changed",
-        State::Refused { .. } | State::OtherText { .. } => b"refused",
+        ItemState::Waits => b"waits",
+        ItemState::Saved { .. } => b"saved",
+        ItemState::Changed { .. } => b"changed",
+        ItemState::Refused { .. } | ItemState::OtherText { .. } => b"refused",
     }
 }
 
@@ -165,7 +165,7 @@ fn push_everywhere(out: &mut Vec<u8>, machines: usize) -> Result<(), NoMemory>
 
 /// Adds that an item is saved whose entry is at this position: on all machines, where all are known
 /// to have it, and else how many are away.
-fn push_saved(out: &mut Vec<u8>, desks: &Desks, position: u32) -> Result<(), NoMemory>
+fn push_saved(out: &mut Vec<u8>, desks: &HallStatus, position: u32) -> Result<(), NoMemory>
     ensures { OnOk result (out.new.items ≡ out.old.items ++ saved_words desks.now position) }
 {
     if desks.is_everywhere(position as u64 + 1) {
@@ -197,10 +197,10 @@ fn push_standing(out: &mut Vec<u8>, unit: Unit, values: &[Value]) -> Result<(), 
     ensures { OnOk result (out.new.items ≡ out.old.items ++ standing_words unit values.now) }
 {
     if values.is_empty() {
-        return out.extend_from_slice(b"nothing stands now");
+        return out.extend_from_slice(b"nothing on record now");
     }
     push_values(out, unit, values)?;
-    out.extend_from_slice(b"stands now")
+    out.extend_from_slice(b"on record now")
 }
 
 /// Adds what counts now of the competitor of a card.
@@ -239,7 +239,7 @@ fn push_by(out: &mut Vec<u8>, by: Option<u32>) -> Result<(), NoMemory>
 /// that it is saved; what counts now, where that was changed meanwhile; or why it was refused.
 fn push_state(
     out: &mut Vec<u8>,
-    around: &Around<'_>,
+    around: &PageContext<'_>,
     recent: Recent<'_>,
     card: Option<&CardEntry>,
 ) -> Result<(), NoMemory>
@@ -247,21 +247,21 @@ fn push_state(
         recent.entry (option_copied card.entry) recent.entry.state) }
 {
     match recent.state {
-        State::Waits => {
+        ItemState::Waits => {
             push_waits(out, around.now.saturating_sub(recent.item.since))?;
             push_why(out, around.desks, recent.item.entry.id())
         }
-        State::Saved { position } => push_saved(out, around.desks, position),
-        State::Changed { .. } => {
+        ItemState::Saved { position } => push_saved(out, around.desks, position),
+        ItemState::Changed { .. } => {
             out.extend_from_slice(b"not entered, it was changed meanwhile")?;
             push_stands(out, around.mirror.meet(), card)?;
             push_by(out, recent.by)
         }
-        State::Refused { code, .. } => {
+        ItemState::Refused { code, .. } => {
             out.extend_from_slice(b"not entered: ")?;
             out.extend_from_slice(meaning_of(code).as_bytes())
         }
-        State::OtherText { .. } => {
+        ItemState::OtherText { .. } => {
             out.extend_from_slice(b"not entered: its id was used for something else")
         }
     }
@@ -269,7 +269,7 @@ fn push_state(
 
 // ---- what a scoretaker may answer
 
-/// Adds the form that takes what was typed over what counts now.
+/// Adds the form that enters what was typed over what counts now.
 fn push_again(out: &mut Vec<u8>, token: &[u8], id: u64, values: &[Value]) -> Result<(), NoMemory>
     ensures { OnOk result (out.new.items
         ≡ out.old.items ++ again_form token.now id values.now) }
@@ -278,7 +278,7 @@ fn push_again(out: &mut Vec<u8>, token: &[u8], id: u64, values: &[Value]) -> Res
     push_hidden_number(out, token, id)?;
     out.extend_from_slice(b"<input type=\"hidden\" name=\"was\" value=\"")?;
     push_was(out, values)?;
-    out.extend_from_slice(b"\"><button>Enter it over what stands now</button></form>\n")
+    out.extend_from_slice(b"\"><button>Enter it over what is on record now</button></form>\n")
 }
 
 /// Whether something is entered for each attempt after those that count, this many: so a card over
@@ -292,7 +292,7 @@ fn enters_later(stands: usize, now: &[Option<Entered>]) -> bool
 /// Adds that form, where a card over what counts now has a spelling.
 fn push_again_of(
     out: &mut Vec<u8>,
-    around: &Around<'_>,
+    around: &PageContext<'_>,
     id: u64,
     card: Option<&CardEntry>,
 ) -> Result<(), NoMemory>
@@ -326,9 +326,11 @@ fn is_saved_card(alloc: Global, recent: Recent<'_>) -> Result<bool, NoMemory>
     ensures { IfOk result (λ saved. saved ≡ is_saved_card recent.entry) }
 {
     match recent.state {
-        State::Saved { .. } => Ok(card_in(alloc, recent.item.entry.text())?.is_some()),
-        State::Waits | State::Changed { .. } | State::Refused { .. } | State::OtherText { .. } =>
-            Ok(false),
+        ItemState::Saved { .. } => Ok(card_in(alloc, recent.item.entry.text())?.is_some()),
+        ItemState::Waits
+        | ItemState::Changed { .. }
+        | ItemState::Refused { .. }
+        | ItemState::OtherText { .. } => Ok(false),
     }
 }
 
@@ -379,29 +381,33 @@ fn push_undo_of(
 /// newest card that is.
 fn push_forms(
     out: &mut Vec<u8>,
-    around: &Around<'_>,
+    around: &PageContext<'_>,
     newest: Option<u64>,
     id: u64,
     card: Option<&CardEntry>,
-    state: State,
+    state: ItemState,
 ) -> Result<(), NoMemory>
     ensures { OnOk result (out.new.items
         ≡ out.old.items ++ forms_of around.entry.now newest id (option_copied card.entry) state) }
 {
     match state {
-        State::Waits => Ok(()),
-        State::Saved { .. } => push_undo_of(out, around.token, newest, id),
-        State::Changed { .. } => {
+        ItemState::Waits => Ok(()),
+        ItemState::Saved { .. } => push_undo_of(out, around.token, newest, id),
+        ItemState::Changed { .. } => {
             push_again_of(out, around, id, card)?;
             push_leave(out, around.token, id)
         }
-        State::Refused { .. } | State::OtherText { .. } => push_leave(out, around.token, id),
+        ItemState::Refused { .. } | ItemState::OtherText { .. } => push_leave(
+            out,
+            around.token,
+            id,
+        ),
     }
 }
 
 // ---- the section
 
-fn push_line_start(out: &mut Vec<u8>, state: State) -> Result<(), NoMemory>
+fn push_line_start(out: &mut Vec<u8>, state: ItemState) -> Result<(), NoMemory>
     ensures { OnOk result (out.new.items ≡ out.old.items ++ line_start state) }
 {
     push_pieces(
@@ -417,7 +423,7 @@ fn push_line_start(out: &mut Vec<u8>, state: State) -> Result<(), NoMemory>
 /// Adds the line of an item, which is this card, if it is one.
 fn push_line_of(
     out: &mut Vec<u8>,
-    around: &Around<'_>,
+    around: &PageContext<'_>,
     newest: Option<u64>,
     recent: Recent<'_>,
     card: Option<&CardEntry>,
@@ -438,7 +444,7 @@ fn push_line_of(
 /// Adds what was sent, and what became of it.
 fn push_line(
     out: &mut Vec<u8>,
-    around: &Around<'_>,
+    around: &PageContext<'_>,
     newest: Option<u64>,
     recent: Recent<'_>,
 ) -> Result<(), NoMemory>
@@ -451,7 +457,7 @@ fn push_line(
 
 fn push_lines(
     out: &mut Vec<u8>,
-    around: &Around<'_>,
+    around: &PageContext<'_>,
     newest: Option<u64>,
     recents: &[Recent<'_>],
 ) -> Result<(), NoMemory>
@@ -466,7 +472,7 @@ fn push_lines(
 
 /// Adds the cards and the commands of late, newest first, each with what became of it, and with the
 /// forms by which a scoretaker answers what was not saved, and takes back the newest card that is.
-pub fn push_recent(out: &mut Vec<u8>, around: &Around<'_>) -> Result<(), NoMemory>
+pub fn push_recent(out: &mut Vec<u8>, around: &PageContext<'_>) -> Result<(), NoMemory>
     ensures { OnOk result (out.new.items ≡ out.old.items ++ recent_section around.entry.now) }
 {
     let newest = newest_saved(*out.allocator(), around.recent)?;

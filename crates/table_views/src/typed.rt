@@ -99,7 +99,8 @@ pub(crate) fn push_shown(
     }
 }
 
-/// Adds what a card says of the attempt at a place, counted from 0; where it stays, what stood.
+/// Adds what a card says of the attempt at a place, counted from 0; if it leaves the attempt as it
+/// is, what counted before.
 fn push_outcome(
     out: &mut Vec<u8>,
     unit: Unit,

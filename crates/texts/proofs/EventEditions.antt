@@ -5,13 +5,11 @@ use Rattle.std.proofs.lemmas.Bool.Decides.{nat_tests}
 use Rattle.formats.specs.declared.events.Event.{Event}
 use Rattle.formats.specs.declared.events.Event.TheVariants.{Cube3}
 use Rattle.formats.specs.Events.{event_edition}
-use Rattle.texts.specs.declared.command.AttemptEntry.{AttemptEntry}
-use Rattle.texts.specs.declared.command.Command.TheVariants.{Open, Enter, Attempt, Correct, Strike}
-use Rattle.texts.specs.declared.command.Entered.{Entered}
+use Rattle.texts.specs.declared.command.Command.TheVariants.{Open, Enter}
 use Rattle.texts.specs.declared.command.Entered.TheVariants as entered
 use Rattle.texts.specs.declared.command.RoundId.{RoundId}
 use Rattle.texts.specs.declared.command.Settings.{Settings}
-use Rattle.texts.specs.Editions.{entered_edition, is_spelled_in}
+use Rattle.texts.specs.Editions.{is_spelled_in}
 use Rattle.texts.specs.Reading.{told}
 use Rattle.texts.specs.Table.{rows}
 
@@ -23,10 +21,6 @@ event_later _ = refl
 event_some : (e : Event) → 1 ≤ event_edition e
 event_some Cube3 = omega arith
 event_some _ = omega arith
-
-entry_some : (e : Event) (o : Entered) → 1 ≤ max (event_edition e) (entered_edition o)
-entry_some Cube3 (entered.Multi solved attempted seconds) = omega arith
-entry_some _ _ = omega arith
 
 -- a command without a remark is of edition 1 or a later one
 no_remark : (n edition : ℕ) → 1 ≤ n → nat_le n edition ≡ true
@@ -46,26 +40,3 @@ pub enter_spelled : (edition : ℕ) (e : Event) (n : ℕ)
     → is_spelled_in edition (told None (Enter e n)) ≡ true
 unfolding rows
 enter_spelled edition e n h = rw (event_later e) (no_remark _ edition (event_some e) h)
-
-pub strike_spelled : (edition : ℕ) (id : RoundId) (n : ℕ)
-    → nat_le (event_edition id.event) edition ≡ true
-    → is_spelled_in edition (told None (Strike id n)) ≡ true
-unfolding rows
-strike_spelled edition id n h =
-    rw (event_later id.event) (no_remark _ edition (event_some id.event) h)
-
-pub attempt_spelled : (edition : ℕ) (entry : AttemptEntry)
-    → nat_le (max (event_edition entry.id.event) (entered_edition entry.outcome)) edition ≡ true
-    → is_spelled_in edition (told None (Attempt entry)) ≡ true
-unfolding rows
-attempt_spelled edition entry h =
-    rw (event_later entry.id.event)
-    (no_remark _ edition (entry_some entry.id.event entry.outcome) h)
-
-pub correct_spelled : (edition : ℕ) (entry : AttemptEntry)
-    → nat_le (max (event_edition entry.id.event) (entered_edition entry.outcome)) edition ≡ true
-    → is_spelled_in edition (told None (Correct entry)) ≡ true
-unfolding rows
-correct_spelled edition entry h =
-    rw (event_later entry.id.event)
-    (no_remark _ edition (entry_some entry.id.event entry.outcome) h)

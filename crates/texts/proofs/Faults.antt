@@ -7,7 +7,7 @@ use Rattle.std.specs.Option.{ok_or}
 use Rattle.std.proofs.lemmas.Bool.{false≢true}
 use Rattle.std.proofs.lemmas.Bool.Decides.{nat_tests}
 use Rattle.texts.specs.declared.command.Command.{Command}
-use Rattle.texts.specs.declared.command.Remarked.{Remarked}
+use Rattle.texts.specs.declared.command.RemarkedCommand.{RemarkedCommand}
 use Rattle.texts.specs.declared.reading.CommandFault.{CommandFault}
 use Rattle.texts.specs.declared.reading.CommandFault.TheVariants as fault
 use Rattle.texts.specs.declared.value.FieldValue.{FieldValue}
@@ -41,7 +41,7 @@ row_from word row left is =
     front : Option (List ℕ)
     front = (before_remark row.takes_remark left).0
 
-    last : Command → Result Remarked CommandFault
+    last : Command → Result RemarkedCommand CommandFault
     last = with_remark (length row.fields + 1) (before_remark row.takes_remark left).1
 
     step : (r : Result (List FieldValue) CommandFault) → values_of 0 row.fields 1 front ≡ r
@@ -80,14 +80,14 @@ by_row-short : (word : List ℕ) (left : Option (List ℕ)) (o : Option TheRow) 
 by_row-short word left None is e =
     let bad : Err fault.NotACommand ≡ Err fault.TooLong = e in cc
 by_row-short word left (Some row) is e =
-    subst (λ (r : Result Remarked CommandFault). IsFrom 0 r) e (row_from word row left is)
+    subst (λ (r : Result RemarkedCommand CommandFault). IsFrom 0 r) e (row_from word row left is)
 
 by_row-none : (word : List ℕ) (left : Option (List ℕ)) (o : Option TheRow) → row_named word ≡ o
     → by_row o left ≡ Err fault.NotACommand → is_word word ≡ false
 by_row-none word left None is e = (not_found word rows).0 is
 by_row-none word left (Some row) is e =
     absurd
-    (subst (λ (r : Result Remarked CommandFault). IsFrom 0 r) e (row_from word row left is))
+    (subst (λ (r : Result RemarkedCommand CommandFault). IsFrom 0 r) e (row_from word row left is))
 
 -- What `read` answers.
 
@@ -132,7 +132,7 @@ not_a_command bytes = (
     )
 
 -- what is answered is what is said, unless memory ran out
-answered : (kept : ℕ) (r said : Result Remarked CommandFault) → Gives kept r said
+answered : (kept : ℕ) (r said : Result RemarkedCommand CommandFault) → Gives kept r said
     → (r ≡ said) ⊎ ((r ≡ Err fault.NoMemory) × TakesMemory kept said)
 answered kept (Ok c) said h = inl (sym h)
 answered kept (Err fault.TooLong) said h = inl (sym h)
@@ -141,8 +141,8 @@ answered kept (Err (fault.BadField index)) said h = inl (sym h)
 answered kept (Err fault.NoMemory) said h = inr (refl, h)
 
 -- a fault in whose place memory does not run out is answered just where it is said
-alike : (e : CommandFault) (kept : ℕ) (r said : Result Remarked CommandFault)
-    → (Err fault.NoMemory ≡ (let of : Result Remarked CommandFault = Err e in of) → ⊥)
+alike : (e : CommandFault) (kept : ℕ) (r said : Result RemarkedCommand CommandFault)
+    → (Err fault.NoMemory ≡ (let of : Result RemarkedCommand CommandFault = Err e in of) → ⊥)
     → (TakesMemory kept (Err e) → ⊥)
     → Gives kept r said → (r ≡ Err e) ↔ (said ≡ Err e)
 alike e kept r said other takes h = step (answered kept r said h)
@@ -155,7 +155,7 @@ alike e kept r said other takes h = step (answered kept r said h)
       λ is. absurd (takes (subst (TakesMemory kept) is none.1)),
     )
 
-pub gives_too_long_alone : (kept : ℕ) (r : Result Remarked CommandFault) (bytes : List ℕ)
+pub gives_too_long_alone : (kept : ℕ) (r : Result RemarkedCommand CommandFault) (bytes : List ℕ)
     → Gives kept r (command_of bytes) → (r ≡ Err fault.TooLong) ↔ (600 < length bytes)
 gives_too_long_alone kept r bytes h =
     let answer =
@@ -164,7 +164,7 @@ gives_too_long_alone kept r bytes h =
     let text = too_long bytes in
     (λ e. text.0 (answer.0 e), λ long. answer.1 (text.1 long))
 
-pub gives_not_a_command : (kept : ℕ) (r : Result Remarked CommandFault) (bytes : List ℕ)
+pub gives_not_a_command : (kept : ℕ) (r : Result RemarkedCommand CommandFault) (bytes : List ℕ)
     → Gives kept r (command_of bytes)
     → (r ≡ Err fault.NotACommand) ↔ ((length bytes ≤ 600) × (is_word (cut 32 bytes).0 ≡ false))
 gives_not_a_command kept r bytes h =

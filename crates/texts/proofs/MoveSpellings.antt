@@ -13,8 +13,8 @@ use Rattle.cube.specs.declared.moves.Kind.TheVariants.{Face, Block, Turn}
 use Rattle.cube.specs.declared.moves.Quarter.{Quarter}
 use Rattle.cube.specs.declared.moves.Quarter.TheVariants.{Clockwise, Half, Anticlockwise}
 use Rattle.cube.specs.declared.moves.Move.{Move}
-use Rattle.cube.specs.declared.notation.reading.ReadFault.{ReadFault}
-use Rattle.cube.specs.declared.notation.reading.ReadFault.TheVariants.{NoMemory}
+use Rattle.cube.specs.declared.notation.reading.NotationFault.{NotationFault}
+use Rattle.cube.specs.declared.notation.reading.NotationFault.TheVariants.{NoMemory}
 use Rattle.cube.specs.notation.Tokens.{token}
 use Rattle.cube.specs.notation.Notation.{Spells, IsUnlessNoMemory, spelling as moves_text}
 use Rattle.texts.specs.Names.{has_single_spaces}
@@ -220,7 +220,7 @@ moves_read bytes moves spells few h =
     ∙ moves_spelled.found moves (some-moves bytes moves spells, few))
 
 -- what the reader refuses
-pub no_moves_where_refused : (fault : ReadFault) (bytes : List ℕ) → (fault ≡ NoMemory → ⊥)
+pub no_moves_where_refused : (fault : NotationFault) (bytes : List ℕ) → (fault ≡ NoMemory → ⊥)
     → ((moves : List Move) → Spells bytes moves → length moves ≤ 400
     → IsUnlessNoMemory (Err fault) (Ok moves))
     → ((moves : List Move) → 0 < length moves → Spells (moves_text moves) moves)

@@ -1,11 +1,9 @@
 -- A text is cut at the first ` # `.
 use Rattle.std.proofs.Common.{◌≡◌, ℕ, suc, ◌+◌, ◌<◌, Bool, true, false, ◌&&◌, ◌==◌, not, cond, List}
 use Rattle.std.proofs.Common.{[], ◌∷◌, ◌++◌, length, take, drop, get_or, codes, bytes_eq, Option}
-use Rattle.std.proofs.Common.{Some, None, refl, sym, ap, ◌∙◌, arith, append_assoc, take-append-drop}
+use Rattle.std.proofs.Common.{Some, None, refl, sym, ap, ◌∙◌, append_assoc, take-append-drop}
 use Rattle.std.proofs.Common.{add-one, drop-cons}
-use Rattle.std.proofs.Math.Seq.{take-length, take-suc}
-use Rattle.std.proofs.lemmas.Bool.{false≢true}
-use Rattle.std.proofs.lemmas.List.{append-nil, drop_all}
+use Rattle.std.proofs.Math.Seq.{take-suc}
 use Rattle.texts.specs.Fields.{cut_remark}
 use Rattle.texts.specs.Spelling.{with_remark_text}
 use Rattle.texts.proofs.Cuts.{and-true, lacks}
@@ -74,18 +72,6 @@ with_front front p = (front ++ p.0, p.1)
 
 -- ---- one byte after another
 
--- a remark begins at a place, and none before it
-pub mark_there : (bytes : List ℕ) (i : ℕ)
-    → bytes_eq (take 3 (drop i bytes)) (codes " # ") ≡ true
-    → with_front (take i bytes) (cut_remark (drop i bytes))
-    ≡ (take i bytes, Some (drop 3 (drop i bytes)))
-mark_there bytes i is = step (drop i bytes) is
-  where
-    step : (ahead : List ℕ) → bytes_eq (take 3 ahead) (codes " # ") ≡ true
-        → with_front (take i bytes) (cut_remark ahead) ≡ (take i bytes, Some (drop 3 ahead))
-    step [] is = absurd (false≢true is)
-    step (b ∷ ahead) is = rw is (rw append-nil refl)
-
 -- none begins there either
 pub no_mark_there : (bytes : List ℕ) (i : ℕ) → i < length bytes
     → bytes_eq (take 3 (drop i bytes)) (codes " # ") ≡ false
@@ -107,10 +93,3 @@ no_mark_there bytes i less none =
         (rw here
         (ap (λ y. let p : List ℕ × Option (List ℕ) = (y, (cut_remark more).1) in p)
         (sym (append_assoc (take i bytes) (b ∷ []) (cut_remark more).0))))
-
--- none begins anywhere
-pub no_mark_anywhere : (bytes : List ℕ)
-    → with_front (take (length bytes) bytes) (cut_remark (drop (length bytes) bytes))
-    ≡ (bytes, None)
-no_mark_anywhere bytes =
-    rw (drop_all (length bytes) bytes (omega arith), take-length bytes) (rw append-nil refl)

@@ -169,10 +169,6 @@ part_refused of by bytes p xs is none =
     (parts-cut by bytes ∙ ap (λ q. q.0 ∷ ahead_parts by q.1) (sym is))
     ∙ rw none refl
 
--- where nothing is ahead the values are all
-pub parts_ended : {A : Type 0} (xs : List A) → in_front xs (Some []) ≡ Some xs
-parts_ended xs = ap Some (append-nil xs)
-
 all-length : {A : Type 0} (os : List (Option A)) (xs : List A) → all_of os ≡ Some xs
     → length xs ≡ length os
 all-length [] [] h = refl

@@ -10,7 +10,7 @@ use Rattle.std.proofs.lemmas.Bool.{false≢true}
 use Rattle.std.proofs.lemmas.Bool.Decides.{nat_tests}
 use Rattle.texts.specs.declared.command.Command.{Command}
 use Rattle.texts.specs.declared.command.Command.TheVariants.{Register}
-use Rattle.texts.specs.declared.command.Remarked.{Remarked}
+use Rattle.texts.specs.declared.command.RemarkedCommand.{RemarkedCommand}
 use Rattle.texts.specs.declared.reading.CommandFault.{CommandFault}
 use Rattle.texts.specs.declared.reading.CommandFault.TheVariants as fault
 use Rattle.texts.specs.declared.table.FieldKind.{FieldKind}
@@ -37,7 +37,7 @@ use Rattle.texts.proofs.Rows.{IsNamed, IsRow, bars_remark, bound, left_of, named
 use Rattle.texts.proofs.Rows.{ok_same, room_of, row_right, taken, text_is, values_found}
 use Rattle.texts.proofs.Rows.{values_only, values_plain, values_short}
 
-abbrev pub Spells : List ℕ → Remarked → Type 0
+abbrev pub Spells : List ℕ → RemarkedCommand → Type 0
 Spells bytes c = IsFitTold c × (bytes ≡ told_spelling c)
 
 -- ---- the parts of a command
@@ -137,11 +137,11 @@ behind_word word text None = refl
 behind_word word text (Some remark) = simp append_assoc
 
 -- what was read after the fields: a remark that is right, or none
-abbrev IsRemarked : Option (List ℕ) → Command → Remarked → Type 0
+abbrev IsRemarked : Option (List ℕ) → Command → RemarkedCommand → Type 0
 IsRemarked None d c = told None d ≡ c
 IsRemarked (Some bytes) d c = (told (Some bytes) d ≡ c) × IsTrue (is_remark bytes)
 
-remark_only : (index : ℕ) (remark : Option (List ℕ)) (d : Command) (c : Remarked)
+remark_only : (index : ℕ) (remark : Option (List ℕ)) (d : Command) (c : RemarkedCommand)
     → with_remark index remark d ≡ Ok c → IsRemarked remark d c
 remark_only index None d c h = ok_same (told None d) c h
 remark_only index (Some bytes) d c h = step (is_remark bytes) refl h
@@ -153,11 +153,11 @@ remark_only index (Some bytes) d c h = step (is_remark bytes) refl h
     step false is e = absurd (let bad : Err (fault.BadField index) ≡ Ok c = e in cc)
 
 -- whose values are in range, whose remark is right, and which is spelled so
-abbrev InRange : List ℕ → Remarked → Type 0
+abbrev InRange : List ℕ → RemarkedCommand → Type 0
 InRange bytes c =
     AreInRange c.command × IsFitRemark c.command c.remark × (bytes ≡ told_spelling c)
 
-in_range : (bytes : List ℕ) (remark : Option (List ℕ)) (d : Command) (c : Remarked)
+in_range : (bytes : List ℕ) (remark : Option (List ℕ)) (d : Command) (c : RemarkedCommand)
     → IsRemarked remark d c → AreInRange d
     → ((r : List ℕ) → remark ≡ Some r → takes_remark_in (row_of (parts d).0) ≡ true)
     → bytes ≡ with_remark_text (spelling d) remark → InRange bytes c
@@ -165,15 +165,15 @@ in_range bytes None d c is fits may spelled = subst (InRange bytes) is (fits, tt
 in_range bytes (Some r) d c is fits may spelled =
     subst (InRange bytes) is.0 (fits, (may r refl, is.1), spelled)
 
-by_row_only : (word : List ℕ) (left : Option (List ℕ)) (c : Remarked) (o : Option TheRow)
+by_row_only : (word : List ℕ) (left : Option (List ℕ)) (c : RemarkedCommand) (o : Option TheRow)
     → row_named word ≡ o → by_row o left ≡ Ok c → InRange (word ++ behind 32 left) c
 by_row_only word left c None is h = absurd (let bad : Err fault.NotACommand ≡ Ok c = h in cc)
 by_row_only word left c (Some row) is h =
     let front = (before_remark row.takes_remark left).0 in
     let remark = (before_remark row.takes_remark left).1 in
-    let last : Command → Result Remarked CommandFault =
+    let last : Command → Result RemarkedCommand CommandFault =
     with_remark (length row.fields + 1) remark in
-    let of : List FieldValue → Result Remarked CommandFault =
+    let of : List FieldValue → Result RemarkedCommand CommandFault =
     λ vs. ok_or (made_of (row.tag, vs)) fault.NotACommand >>= last in
     let b = bound (values_of 0 row.fields 1 front) of c h in
     let m = bound (ok_or (made_of (row.tag, b.0)) fault.NotACommand) last c b.1.1 in
@@ -190,7 +190,7 @@ by_row_only word left c (Some row) is h =
     (takes_where_cut row.takes_remark left) (before_spelled row.takes_remark left)
   where
     one : (row : TheRow) (front remark : Option (List ℕ)) (vs : List FieldValue) (d : Command)
-        (c : Remarked)
+        (c : RemarkedCommand)
         → IsNamed word row → (let p : Parts = (row.tag, vs) in p) ≡ parts d
         → AllFit 0 row.fields vs × (behind 32 front ≡ values_text vs) → IsRemarked remark d c
         → ((r : List ℕ) → remark ≡ Some r → row.takes_remark ≡ true)
@@ -231,7 +231,7 @@ text_within text (Some remark) =
     let front = length-append text (32 ∷ 35 ∷ 32 ∷ []) in
     omega arith
 
-pub spelled_only : (bytes : List ℕ) (c : Remarked) → command_of bytes ≡ Ok c → Spells bytes c
+pub spelled_only : (bytes : List ℕ) (c : RemarkedCommand) → command_of bytes ≡ Ok c → Spells bytes c
 unfolding command_of
 spelled_only bytes c h = step (nat_lt 600 (length bytes)) refl h
   where
@@ -333,7 +333,7 @@ lacks_mark row vs fits marks takes =
     passes_lack is_plain 35 refl (values_text vs)
     (values_plain 0 row.fields vs fits (no_mark row marks takes))
 
-remark_found : (index : ℕ) (c : Remarked) → IsFitRemark c.command c.remark
+remark_found : (index : ℕ) (c : RemarkedCommand) → IsFitRemark c.command c.remark
     → with_remark index c.remark c.command ≡ Ok c
 remark_found index c fits = step c.remark fits
   where
@@ -349,7 +349,7 @@ remark_takes c None row is fits r h = absurd (let bad : None ≡ Some r = h in c
 remark_takes c (Some bytes) row is fits r h =
     subst (λ o. takes_remark_in o ≡ true) is fits.0
 
-pub spelled_found : (c : Remarked) → IsFitTold c → command_of (told_spelling c) ≡ Ok c
+pub spelled_found : (c : RemarkedCommand) → IsFitTold c → command_of (told_spelling c) ≡ Ok c
 unfolding command_of
 spelled_found c fits =
     let it = row_right (parts c.command).0 in
@@ -378,7 +378,7 @@ spelled_found c fits =
     (λ o. ok_or o fault.NotACommand >>= with_remark (length it.row.fields + 1) c.remark) made
     ∙ remark_found (length it.row.fields + 1) c fits.1))))))
 
-pub spelled_once : (c d : Remarked) → IsFitTold c → IsFitTold d
+pub spelled_once : (c d : RemarkedCommand) → IsFitTold c → IsFitTold d
     → told_spelling c ≡ told_spelling d → c ≡ d
 spelled_once c d fits fits' same =
     ok_same c d (sym (spelled_found c fits) ∙ ap command_of same ∙ spelled_found d fits')
@@ -389,7 +389,7 @@ spelled_once c d fits fits' same =
 
 pub gives_remark : (word : List ℕ) (row : TheRow) (left front remark : Option (List ℕ))
     (vs : List FieldValue) (o : Option Command) (c : Command) (index : ℕ)
-    (r : Result Remarked CommandFault)
+    (r : Result RemarkedCommand CommandFault)
     → row_named word ≡ Some row
     → (let p : Option (List ℕ) × Option (List ℕ) = (front, remark) in p)
     ≡ before_remark row.takes_remark left
@@ -411,7 +411,7 @@ gives_remark word row left front remark vs o c index r is cut_so read made some 
         cut_so
         (rw read (rw (sym made ∙ some) (ap (λ i. with_remark i remark c) (sym place)))))
 
-    step : (r : Result Remarked CommandFault)
+    step : (r : Result RemarkedCommand CommandFault)
         → with_remark index remark c ≡ by_row (row_named word) left
         → GivesRemark r (with_remark index remark c)
         → Gives (kept_field word) r (by_row (row_named word) left)
@@ -422,7 +422,7 @@ gives_remark word row left front remark vs o c index r is cut_so read made some 
     step (Err fault.NoMemory) same h =
         subst (TakesMemory (kept_field word)) same (takes (with_remark index remark c) h)
       where
-        takes : (said : Result Remarked CommandFault) → TakesForRemark said
+        takes : (said : Result RemarkedCommand CommandFault) → TakesForRemark said
             → TakesMemory (kept_field word) said
         takes (Ok d) t = rw t refl
         takes (Err e) t = absurd t
@@ -454,7 +454,7 @@ gives_values view word row left front remark e is cut_so h =
     >>= with_remark (length row.fields + 1) p.1)))
     cut_so (step e h))
   where
-    of : Result (List FieldValue) CommandFault → Result Remarked CommandFault
+    of : Result (List FieldValue) CommandFault → Result RemarkedCommand CommandFault
     of r =
         r
         >>= (λ vs. ok_or (made_of (row.tag, vs)) fault.NotACommand
@@ -515,7 +515,7 @@ pub gives_too_long : (kept : ℕ) (bytes : List ℕ) → nat_lt 600 (length byte
 unfolding command_of
 gives_too_long kept bytes long = rw long refl
 
-pub gives_word : (r : Result Remarked CommandFault) (bytes : List ℕ)
+pub gives_word : (r : Result RemarkedCommand CommandFault) (bytes : List ℕ)
     (text : List ℕ × Option (List ℕ))
     → nat_lt 600 (length bytes) ≡ false → text ≡ cut 32 bytes
     → Gives (kept_field text.0) r (by_row (row_named text.0) text.1)
@@ -527,13 +527,14 @@ gives_word r bytes text short same h =
     (λ (p : List ℕ × Option (List ℕ)). Gives (kept_field p.0) r (by_row (row_named p.0) p.1)) same
     h)
 
-pub gives_found : (kept : ℕ) (r : Result Remarked CommandFault) (bytes : List ℕ)
-    → Gives kept r (command_of bytes) → (c : Remarked) → IsFitTold c → bytes ≡ told_spelling c
+pub gives_found : (kept : ℕ) (r : Result RemarkedCommand CommandFault) (bytes : List ℕ)
+    → Gives kept r (command_of bytes) → (c : RemarkedCommand) → IsFitTold c
+    → bytes ≡ told_spelling c
     → ReadsAs r c
 gives_found kept r bytes h c fits same =
     step r (subst (Gives kept r) (ap command_of same ∙ spelled_found c fits) h)
   where
-    step : (r : Result Remarked CommandFault) → Gives kept r (Ok c) → ReadsAs r c
+    step : (r : Result RemarkedCommand CommandFault) → Gives kept r (Ok c) → ReadsAs r c
     step (Ok d) e = sym (ok_same c d e)
     step (Err fault.NoMemory) e = refl
     step (Err fault.TooLong) e = absurd (let bad : Ok c ≡ Err fault.TooLong = e in cc)
@@ -541,7 +542,7 @@ gives_found kept r bytes h c fits same =
     step (Err (fault.BadField index)) e =
         absurd (let bad : Ok c ≡ Err (fault.BadField index) = e in cc)
 
-pub gives_only : (kept : ℕ) (r : Result Remarked CommandFault) (bytes : List ℕ)
+pub gives_only : (kept : ℕ) (r : Result RemarkedCommand CommandFault) (bytes : List ℕ)
     → Gives kept r (command_of bytes) → IfOk r (λ c. IsFitTold c × (bytes ≡ told_spelling c))
 gives_only kept (Ok c) bytes h = spelled_only bytes c h
 gives_only kept (Err e) bytes h = _

@@ -7,7 +7,7 @@ use Rattle.formats.specs.Events.{event_edition}
 use Rattle.texts.specs.declared.command.Command.{Command}
 use Rattle.texts.specs.declared.command.Entered.{Entered}
 use Rattle.texts.specs.declared.command.Entered.TheVariants as entered
-use Rattle.texts.specs.declared.command.Remarked.{Remarked}
+use Rattle.texts.specs.declared.command.RemarkedCommand.{RemarkedCommand}
 use Rattle.texts.specs.declared.value.FieldValue.{FieldValue}
 use Rattle.texts.specs.declared.value.FieldValue.TheVariants as value
 use Rattle.texts.specs.Names.{is_name_in}
@@ -44,7 +44,7 @@ abbrev pub has_name_in : ℕ → Command → Bool
 has_name_in edition c = list_all (is_named_in edition) (parts c).1
 
 -- the edition has a spelling of the command with its remark, if it has one
-abbrev pub is_spelled_in : ℕ → Remarked → Bool
+abbrev pub is_spelled_in : ℕ → RemarkedCommand → Bool
 is_spelled_in edition told =
     has_name_in edition told.command
     && nat_le (edition_of told.command) edition

@@ -7,7 +7,7 @@ use Rattle.std.specs.Option.{ok_or}
 use Rattle.formats.specs.Events.{event_of_name, format_named, last_round}
 use Rattle.texts.specs.declared.command.Command.{Command}
 use Rattle.texts.specs.declared.command.Entered.TheVariants as entered
-use Rattle.texts.specs.declared.command.Remarked.{Remarked}
+use Rattle.texts.specs.declared.command.RemarkedCommand.{RemarkedCommand}
 use Rattle.texts.specs.declared.reading.CommandFault.{CommandFault}
 use Rattle.texts.specs.declared.reading.CommandFault.TheVariants as fault
 use Rattle.texts.specs.declared.table.FieldKind.{FieldKind}
@@ -84,18 +84,18 @@ before_remark false left = (left, None)
 before_remark true None = (None, None)
 before_remark true (Some bytes) = (Some (cut_remark bytes).0, (cut_remark bytes).1)
 
-abbrev pub told : Option (List ℕ) → Command → Remarked
+abbrev pub told : Option (List ℕ) → Command → RemarkedCommand
 told remark c = record { command = c; remark = remark }
 
 -- a command with its remark, which is the field with this index
-abbrev pub with_remark : ℕ → Option (List ℕ) → Command → Result Remarked CommandFault
+abbrev pub with_remark : ℕ → Option (List ℕ) → Command → Result RemarkedCommand CommandFault
 with_remark index None c = Ok (told None c)
 with_remark index (Some bytes) c =
     if is_remark bytes then Ok (told (Some bytes) c) else Err (fault.BadField index)
 
 -- The words by their rows.
 
-abbrev pub by_row : Option TheRow → Option (List ℕ) → Result Remarked CommandFault
+abbrev pub by_row : Option TheRow → Option (List ℕ) → Result RemarkedCommand CommandFault
 by_row None left = Err fault.NotACommand
 by_row (Some row) left = do
   vs ← values_of 0 row.fields 1 (before_remark row.takes_remark left).0
@@ -103,7 +103,7 @@ by_row (Some row) left = do
   with_remark (length row.fields + 1) (before_remark row.takes_remark left).1 c
 
 -- the command that a text spells, with its remark, or why it spells none
-unfoldable pub command_of : List ℕ → Result Remarked CommandFault
+unfoldable pub command_of : List ℕ → Result RemarkedCommand CommandFault
 command_of bytes =
     if nat_lt 600 (length bytes) then Err fault.TooLong
     else by_row (row_named (cut 32 bytes).0) (cut 32 bytes).1
@@ -124,14 +124,15 @@ takes_memory _ = false
 abbrev pub kept_field : List ℕ → ℕ
 kept_field word = kept_at 1 (fields_in (row_named word))
 
-abbrev pub TakesMemory : ℕ → Result Remarked CommandFault → Type 0
+abbrev pub TakesMemory : ℕ → Result RemarkedCommand CommandFault → Type 0
 TakesMemory kept (Ok c) =
     IsTrue (is_some c.remark || list_any takes_memory (parts c.command).1)
 TakesMemory kept (Err (fault.BadField index)) = (0 < kept) × (kept ≤ index)
 TakesMemory _ _ = ⊥
 
 -- where memory runs out, that is said in place of what it is taken for
-abbrev pub Gives : ℕ → Result Remarked CommandFault → Result Remarked CommandFault → Type 0
+abbrev pub Gives : ℕ → Result RemarkedCommand CommandFault → Result RemarkedCommand CommandFault
+    → Type 0
 Gives _ (Ok c) said = said ≡ Ok c
 Gives kept (Err fault.NoMemory) said = TakesMemory kept said
 Gives _ (Err fault.TooLong) said = said ≡ Err fault.TooLong
@@ -139,23 +140,23 @@ Gives _ (Err fault.NotACommand) said = said ≡ Err fault.NotACommand
 Gives _ (Err (fault.BadField index)) said = said ≡ Err (fault.BadField index)
 
 -- a command was read, unless memory ran out
-abbrev pub ReadsAs : Result Remarked CommandFault → Remarked → Type 0
+abbrev pub ReadsAs : Result RemarkedCommand CommandFault → RemarkedCommand → Type 0
 ReadsAs (Ok d) c = d ≡ c
 ReadsAs (Err e) c = e ≡ fault.NoMemory
 
 -- The laws: reading and spelling are inverse, and a text spells at most one command.
 
 abbrev pub ReadsWhatIsSpelled : Type 0
-ReadsWhatIsSpelled = (c : Remarked) → IsFitTold c → command_of (told_spelling c) ≡ Ok c
+ReadsWhatIsSpelled = (c : RemarkedCommand) → IsFitTold c → command_of (told_spelling c) ≡ Ok c
 
 abbrev pub SpellsWhatIsRead : Type 0
 SpellsWhatIsRead =
-    (bytes : List ℕ) (c : Remarked) → command_of bytes ≡ Ok c
+    (bytes : List ℕ) (c : RemarkedCommand) → command_of bytes ≡ Ok c
     → IsFitTold c × (bytes ≡ told_spelling c)
 
 abbrev pub SpellsOneCommand : Type 0
 SpellsOneCommand =
-    (c d : Remarked) → IsFitTold c → IsFitTold d → told_spelling c ≡ told_spelling d → c ≡ d
+    (c d : RemarkedCommand) → IsFitTold c → IsFitTold d → told_spelling c ≡ told_spelling d → c ≡ d
 
 abbrev pub SpellsShort : Type 0
 SpellsShort = (c : Command) → IsFit c → length (spelling c) ≤ 600

@@ -13,7 +13,7 @@ use Rattle.formats.specs.declared.advance.Advance.TheVariants.{Final, Top, Perce
 use Rattle.texts.specs.declared.command.Command.{Command}
 use Rattle.texts.specs.declared.command.Entered.{Entered}
 use Rattle.texts.specs.declared.command.Entered.TheVariants as entered
-use Rattle.texts.specs.declared.command.Remarked.{Remarked}
+use Rattle.texts.specs.declared.command.RemarkedCommand.{RemarkedCommand}
 use Rattle.texts.specs.declared.command.Settings.{Settings}
 use Rattle.texts.specs.declared.table.FieldKind.{FieldKind}
 use Rattle.texts.specs.declared.table.FieldKind.TheVariants as kind
@@ -111,7 +111,7 @@ with_remark_text text None = text
 with_remark_text text (Some remark) = text ++ codes " # " ++ remark
 
 -- the spelling of a command with its remark
-abbrev pub told_spelling : Remarked → List ℕ
+abbrev pub told_spelling : RemarkedCommand → List ℕ
 told_spelling told = with_remark_text (spelling told.command) told.remark
 
 -- The ranges of the fields.
@@ -220,7 +220,7 @@ IsFitRemark c None = Unit {0}
 IsFitRemark c (Some remark) = MayHaveRemark c × IsTrue (is_remark remark)
 
 -- a command that is fit, with a remark where it may have one, and the text of both is short
-abbrev pub IsFitTold : Remarked → Type 0
+abbrev pub IsFitTold : RemarkedCommand → Type 0
 IsFitTold told =
     IsFit told.command × IsFitRemark told.command told.remark
     × (length (told_spelling told) ≤ 600)

@@ -106,11 +106,11 @@ pub struct AttemptEntry {
 
 /// What the attempts of a competitor count, in order: at most five values.
 #[derive(Drop)]
-pub struct Was {
+pub struct SeenValues {
     values: Vec<Value>,
 }
 
-impl Model for Was {
+impl Model for SeenValues {
     ghost use Rattle.std.specs.Prelude.{List};
     ghost use Rattle.attempts.specs.declared.Value.{Value as Counted};
 
@@ -119,12 +119,12 @@ impl Model for Was {
     ghost view = { λ was. was.values.items };
 }
 
-impl Was {
+impl SeenValues {
     /// These values, without taking memory.
     pub fn new(values: Vec<Value>) -> Self
         ensures { result ≡ values.items }
     {
-        Was { values }
+        SeenValues { values }
     }
 
     /// The values, in order.
@@ -138,11 +138,11 @@ impl Was {
 /// The attempts that are to count, in order: at most five, each what a judge enters, or nothing
 /// where it stays as it is.
 #[derive(Drop)]
-pub struct Now {
+pub struct NewAttempts {
     outcomes: Vec<Option<Entered>>,
 }
 
-impl Model for Now {
+impl Model for NewAttempts {
     ghost use Rattle.std.specs.Prelude.{List, Option};
     ghost use Rattle.texts.specs.declared.command.Entered.{Entered as Outcome};
 
@@ -151,12 +151,12 @@ impl Model for Now {
     ghost view = { λ now. now.outcomes.items };
 }
 
-impl Now {
+impl NewAttempts {
     /// These attempts, without taking memory.
     pub fn new(outcomes: Vec<Option<Entered>>) -> Self
         ensures { result ≡ outcomes.items }
     {
-        Now { outcomes }
+        NewAttempts { outcomes }
     }
 
     /// The attempts, in order.
@@ -174,9 +174,9 @@ pub struct CardEntry {
     pub id: RoundId,
     /// The competitor's number, 1 to 9,999.
     pub number: u16,
-    pub was: Was,
+    pub was: SeenValues,
     /// At an attempt that `was` does not have, something is entered.
-    pub now: Now,
+    pub now: NewAttempts,
 }
 
 /// What a text of the list asks for. Competitors' numbers are 1 to 9,999, rounds 1 to 4, attempts 1
@@ -270,7 +270,7 @@ pub enum Command {
 /// A command, and the remark that is behind it: who entered it, when, why. A remark is shown and
 /// not believed: nothing depends on it.
 #[derive(Drop)]
-pub struct Remarked {
+pub struct RemarkedCommand {
     pub command: Command,
     /// 1 to 80 bytes; with `CARD`, `FIX`, `ATT`, `COR`, `STR` and `WDR` alone.
     pub remark: Option<Name>,

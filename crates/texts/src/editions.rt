@@ -8,7 +8,7 @@ ghost use Rattle.texts.specs.Parts.{lent};
 ghost use Rattle.texts.specs.Table.{row_of, since_in};
 ghost use Rattle.texts.specs.WorkedTexts.{ReadsWorkedTexts};
 
-use crate::command::{Entered, Remarked};
+use crate::command::{Entered, RemarkedCommand};
 use crate::names::is_name_in;
 use crate::parts::parts;
 use crate::table::{Tag, row_of};
@@ -90,7 +90,7 @@ fn remark_edition(has_remark: bool) -> u8
 /// 4. A name of more than 80 bytes is spelled from edition 3 on; one with a double quote, or with a
 /// character that is not seen, in editions 1 and 2 alone. `EDITION 2` to `EDITION 4` are spelled in
 /// each.
-pub fn is_spelled_in(edition: u8, told: &Remarked) -> bool
+pub fn is_spelled_in(edition: u8, told: &RemarkedCommand) -> bool
     ensures { result ≡ is_spelled_in edition told.now }
 {
     let (tag, values) = parts(&told.command);

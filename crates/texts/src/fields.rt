@@ -10,11 +10,11 @@ ghost use Rattle.std.specs.Prelude.{map, option_and_then};
 ghost use Rattle.std.specs.List.{slice_split};
 ghost use Rattle.texts.specs.model.Returned.{MayBeSolution};
 
-use crate::command::{Entered, Now, Was};
+use crate::command::{Entered, NewAttempts, SeenValues};
 use crate::names::has_single_spaces;
 use crate::numbers::{u8_between, u16_between, u32_between};
 use attempts::Value;
-use cube::notation::{Moves, NoMemory, ReadFault, printed_is_spelled};
+use cube::notation::{Moves, NoMemory, NotationFault, printed_is_spelled};
 use formats::{Advance, MOST_ENTRANTS};
 use std::alloc::Global;
 
@@ -136,7 +136,7 @@ pub fn moves_of(alloc: Global, bytes: &[u8]) -> Result<Option<Moves>, NoMemory>
         match cube::notation::read(alloc, bytes) {
             Ok(moves) => Ok(Some(moves)),
             Err(fault) => match fault {
-                ReadFault::NoMemory => Err(NoMemory),
+                NotationFault::NoMemory => Err(NoMemory),
                 _ => Ok(None),
             },
         }
@@ -236,17 +236,17 @@ fn counted_of(bytes: &[u8]) -> Option<Value>
 /// What the attempts of an entrant count, as the field `was` of `CARD` spells it: with a comma
 /// between two of them, or `-` for none. It is none where the text is no such field.
 #[tactic(auto, unfolding(crate::specs::Fields::was_of))]
-pub fn was_of(alloc: Global, bytes: &[u8]) -> Result<Option<Was>, NoMemory>
+pub fn was_of(alloc: Global, bytes: &[u8]) -> Result<Option<SeenValues>, NoMemory>
     ensures { IfOk result (λ was. was ≡ was_of bytes.now) }
 {
     let mut values = Vec::new(alloc);
     if bytes == b"-".as_slice() {
-        return Ok(Some(Was::new(values)));
+        return Ok(Some(SeenValues::new(values)));
     }
     let mut ahead = Some(bytes);
     for _attempt in 0..LAST_ATTEMPT {
         let Some(left) = ahead else {
-            return Ok(Some(Was::new(values)));
+            return Ok(Some(SeenValues::new(values)));
         };
         let (part, rest) = cut(left, b',');
         let Some(value) = counted_of(part) else {
@@ -257,7 +257,7 @@ pub fn was_of(alloc: Global, bytes: &[u8]) -> Result<Option<Was>, NoMemory>
     }
     match ahead {
         Some(_) => Ok(None),
-        None => Ok(Some(Was::new(values))),
+        None => Ok(Some(SeenValues::new(values))),
     }
 }
 
@@ -309,11 +309,11 @@ fn outcomes_of(alloc: Global, bytes: &[u8]) -> Result<Option<Vec<Option<Entered>
 /// The attempts that are to count, with a slash between two of them, or `-` for none. Those that
 /// stay are among those that count, this many.
 #[tactic(auto, unfolding(crate::specs::Fields::now_of))]
-pub fn now_of(alloc: Global, stands: usize, bytes: &[u8]) -> Result<Option<Now>, NoMemory>
+pub fn now_of(alloc: Global, stands: usize, bytes: &[u8]) -> Result<Option<NewAttempts>, NoMemory>
     ensures { IfOk result (λ now. now ≡ now_of stands bytes.now) }
 {
     if bytes == b"-".as_slice() {
-        return Ok(Some(Now::new(Vec::new(alloc))));
+        return Ok(Some(NewAttempts::new(Vec::new(alloc))));
     }
     let Some(outcomes) = outcomes_of(alloc, bytes)? else {
         return Ok(None);
@@ -321,7 +321,7 @@ pub fn now_of(alloc: Global, stands: usize, bytes: &[u8]) -> Result<Option<Now>,
     if !enters_later(stands, &outcomes) {
         return Ok(None);
     }
-    Ok(Some(Now::new(outcomes)))
+    Ok(Some(NewAttempts::new(outcomes)))
 }
 
 /// What is in front of the first ` # `, and what is after it, where it is there.

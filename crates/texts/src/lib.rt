@@ -17,7 +17,8 @@ mod value;
 
 pub use answer::{Answer, Code};
 pub use command::{
-    AttemptEntry, CardEntry, Command, Entered, Name, Now, Remarked, RoundId, Settings, Was,
+    AttemptEntry, CardEntry, Command, Entered, Name, NewAttempts, RemarkedCommand, RoundId,
+    SeenValues, Settings,
 };
 pub use editions::{is_spelled_in, worked_texts};
 pub use fields::{cut, cut_remark, was_of};

@@ -12,7 +12,7 @@ ghost use Rattle.texts.specs.declared.command.Entered.TheVariants.{Time as TimeO
 ghost use Rattle.texts.specs.declared.command.Entered.TheVariants.{Solution as SolutionOf};
 ghost use Rattle.texts.specs.declared.command.Entered.TheVariants.{Multi as MultiOf};
 
-use crate::command::{Command, Entered, Remarked};
+use crate::command::{Command, Entered, RemarkedCommand};
 use crate::parts::parts;
 use crate::table::{Tag, row_of};
 use crate::value::LentValue;
@@ -257,7 +257,7 @@ pub fn print(alloc: Global, command: &Command) -> Result<Vec<u8>, NoMemory>
 /// The spelling of a command with its remark. `read` accepts it where the fields are in their
 /// ranges, the command may have this remark, and the text has at most 600 bytes. It is `NoMemory`
 /// only where a growth was refused.
-pub fn print_remarked(alloc: Global, told: &Remarked) -> Result<Vec<u8>, NoMemory>
+pub fn print_remarked(alloc: Global, told: &RemarkedCommand) -> Result<Vec<u8>, NoMemory>
     ensures { IfOk result (λ text. text.items ≡ told_spelling told.now) }
 {
     let mut text = print(alloc, &told.command)?;

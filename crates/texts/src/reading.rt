@@ -11,11 +11,11 @@ ghost use Rattle.texts.specs.Reading.{next_of, values_of, before_remark, with_re
 ghost use Rattle.texts.specs.Reading.{command_of, ReadsWhatIsSpelled, SpellsWhatIsRead};
 ghost use Rattle.texts.specs.Reading.{SpellsOneCommand, SpellsShort};
 ghost use Rattle.texts.specs.model.Returned.{GivesNext, GivesRemark, GivesValues, TakesForValue};
-ghost use Rattle.texts.specs.declared.command.Remarked.{Remarked as Told};
+ghost use Rattle.texts.specs.declared.command.RemarkedCommand.{RemarkedCommand as Told};
 ghost use Rattle.texts.specs.declared.reading.CommandFault.TheVariants.{NoMemory as OutOfMemory};
 ghost use Rattle.texts.specs.declared.value.FieldValue.TheVariants.{Name as NameOf};
 
-use crate::command::{Command, Name, Remarked};
+use crate::command::{Command, Name, RemarkedCommand};
 use crate::fields::{
     LAST_ATTEMPT, LAST_EDITION, LAST_NUMBER, advance_of, cut, cut_remark, cutoff_of, entered_of,
     limit_of, moves_of, now_of, was_of,
@@ -289,7 +289,7 @@ fn with_remark(
     index: u8,
     remark: Option<&[u8]>,
     command: Command,
-) -> Result<Remarked, CommandFault>
+) -> Result<RemarkedCommand, CommandFault>
     ensures { GivesRemark result (with_remark index (option_copied remark.entry) command) }
 {
     let remark = match remark {
@@ -301,7 +301,7 @@ fn with_remark(
             Some(Name::new(Vec::from_slice(alloc, bytes)?))
         }
     };
-    Ok(Remarked { command, remark })
+    Ok(RemarkedCommand { command, remark })
 }
 
 /// The command of a word and what is left after it.
@@ -309,7 +309,7 @@ fn command_of_word(
     alloc: Global,
     word: &[u8],
     left: Option<&[u8]>,
-) -> Result<Remarked, CommandFault>
+) -> Result<RemarkedCommand, CommandFault>
     ensures { Gives (kept_field word.now) result
         (by_row (row_named word.now) (option_copied left.entry)) }
 {
@@ -336,7 +336,7 @@ fn is_too_long(text: &[u8]) -> bool
 /// edition has which of them. The faults are in the order of `CommandFault`; that of a remark is
 /// the field after the last one. Memory is taken for a name, for moves, for a scorecard and for a
 /// remark.
-pub fn read(alloc: Global, text: &[u8]) -> Result<Remarked, CommandFault>
+pub fn read(alloc: Global, text: &[u8]) -> Result<RemarkedCommand, CommandFault>
     ensures value { Gives (kept_field (cut 32 text.now).0) result (command_of text.now) }
 
     ensures too_long { (result ≡ Err CommandFault.TooLong) ↔ (600 < length text.now) }

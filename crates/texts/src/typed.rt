@@ -7,7 +7,7 @@ ghost use Rattle.texts.specs.Parts.{round_in, format_in, cutoff_in, limit_in, ad
 ghost use Rattle.texts.specs.Parts.{attempt_in, moves_in, outcome_in, edition_in, was_in, now_in};
 
 use crate::command::{
-    AttemptEntry, CardEntry, Command, Entered, Name, Now, RoundId, Settings, Was,
+    AttemptEntry, CardEntry, Command, Entered, Name, NewAttempts, RoundId, SeenValues, Settings,
 };
 use crate::table::Tag;
 use crate::value::{FieldValue, Values};
@@ -122,7 +122,7 @@ fn edition_in(value: Option<FieldValue>) -> Option<u8>
     }
 }
 
-fn was_in(value: Option<FieldValue>) -> Option<Was>
+fn was_in(value: Option<FieldValue>) -> Option<SeenValues>
     ensures { result ≡ was_in value }
 {
     match value {
@@ -131,7 +131,7 @@ fn was_in(value: Option<FieldValue>) -> Option<Was>
     }
 }
 
-fn now_in(value: Option<FieldValue>) -> Option<Now>
+fn now_in(value: Option<FieldValue>) -> Option<NewAttempts>
     ensures { result ≡ now_in value }
 {
     match value {

@@ -1,6 +1,6 @@
 //! The values of a command's fields.
 
-use crate::command::{Entered, Name, Now, Was};
+use crate::command::{Entered, Name, NewAttempts, SeenValues};
 use arrayvec::ArrayVec;
 use cube::notation::Moves;
 use formats::{Advance, Event, Format};
@@ -23,8 +23,8 @@ pub enum FieldValue {
     Moves(Moves),
     Outcome(Entered),
     Edition(u8),
-    Was(Was),
-    Now(Now),
+    Was(SeenValues),
+    Now(NewAttempts),
 }
 
 impl Default for FieldValue {
@@ -49,8 +49,8 @@ pub enum LentValue<'a> {
     Moves(&'a Moves),
     Outcome(&'a Entered),
     Edition(u8),
-    Was(&'a Was),
-    Now(&'a Now),
+    Was(&'a SeenValues),
+    Now(&'a NewAttempts),
 }
 
 impl<'a> Default for LentValue<'a> {

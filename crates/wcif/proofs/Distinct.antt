@@ -18,7 +18,7 @@ use Rattle.wcif.specs.Persons.{events_faults, event_ids}
 use Rattle.wcif.specs.Faults.{person_faults}
 use Rattle.wcif.specs.Told.{told, told_from}
 use Rattle.wcif.specs.declared.options.Options.{Options}
-use Rattle.wcif.specs.declared.fault.Fault.TheVariants as of
+use Rattle.wcif.specs.declared.fault.CompetitionFault.TheVariants as of
 use Rattle.wcif.specs.Faults.{faults_in}
 use Rattle.wcif.specs.Events.{event_faults}
 use Rattle.wcif.specs.Laws.{NamesAreApart}

@@ -15,8 +15,8 @@ use Rattle.formats.proofs.Naming.{only_name-event}
 use Rattle.texts.specs.declared.command.Settings.{Settings}
 use Rattle.texts.proofs.Numerals.{bytes_eq-same}
 use Rattle.wcif.specs.declared.options.CumulativeLimits.{CumulativeLimits}
-use Rattle.wcif.specs.declared.fault.Fault.{Fault}
-use Rattle.wcif.specs.declared.fault.Fault.TheVariants as of
+use Rattle.wcif.specs.declared.fault.CompetitionFault.{CompetitionFault}
+use Rattle.wcif.specs.declared.fault.CompetitionFault.TheVariants as of
 use Rattle.wcif.specs.declared.fault.EventFault.TheVariants as fault
 use Rattle.wcif.specs.Events.{event_named, rounds_of, enters, repeated_faults, entrants_faults}
 use Rattle.wcif.specs.Events.{each_round, rounds_faults, named_faults, event_faults}
@@ -41,7 +41,7 @@ pub record HoldsEvent (how : CumulativeLimits) (persons earlier : List Data) (d 
   pub set : first_of_rounds how d event ≡ Some settings
   pub may : MayHave event settings
 
-unsaid : (b : Bool) (said : Fault) → cond b (said ∷ []) [] ≡ [] → b ≡ false
+unsaid : (b : Bool) (said : CompetitionFault) → cond b (said ∷ []) [] ≡ [] → b ≡ false
 unsaid false said none = refl
 unsaid true said none = absurd (no_cons said [] none)
 

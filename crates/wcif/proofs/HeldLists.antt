@@ -2,7 +2,7 @@
 use Rattle.std.proofs.Common.{◌≡◌, List, [], ◌∷◌, Option, Some, None, refl}
 use Rattle.std.specs.Prelude.{codes, unwrap_or}
 use Rattle.serde_json.specs.Data.{Data}
-use Rattle.wcif.specs.declared.fault.Fault.TheVariants as of
+use Rattle.wcif.specs.declared.fault.CompetitionFault.TheVariants as of
 use Rattle.wcif.specs.Commands.{commands, commands_of}
 use Rattle.wcif.specs.Faults.{faults, faults_in}
 use Rattle.wcif.specs.Laws.{ListsAreHeld}

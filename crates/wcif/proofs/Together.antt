@@ -19,7 +19,7 @@ use Rattle.commands.specs.History.{spelled_refusal}
 use Rattle.wcif.specs.declared.options.Edition.{Edition}
 use Rattle.wcif.specs.declared.options.Edition.TheVariants.{Three, Four}
 use Rattle.wcif.specs.declared.options.Options.{Options}
-use Rattle.wcif.specs.declared.fault.Fault.TheVariants as of
+use Rattle.wcif.specs.declared.fault.CompetitionFault.TheVariants as of
 use Rattle.wcif.specs.Commands.{beginning, edition_number, registered, opened, entered}
 use Rattle.wcif.specs.Commands.{commands_of, numbers}
 use Rattle.wcif.specs.Events.{event_named, event_faults}

@@ -14,8 +14,8 @@ use Rattle.texts.specs.Fields.{round_id as id_of_round}
 use Rattle.texts.specs.declared.command.Command.TheVariants.{Open}
 use Rattle.texts.specs.declared.command.RoundId.{RoundId}
 use Rattle.texts.specs.declared.command.Settings.{Settings}
-use Rattle.wcif.specs.declared.later.Later.{Later}
-use Rattle.wcif.specs.declared.later.Later.TheVariants.{Opening, Final}
+use Rattle.wcif.specs.declared.later.RoundImport.{RoundImport}
+use Rattle.wcif.specs.declared.later.RoundImport.TheVariants.{Opening, Final}
 use Rattle.wcif.specs.declared.options.CumulativeLimits.{CumulativeLimits}
 use Rattle.wcif.specs.declared.options.Options.{Options}
 use Rattle.wcif.specs.Events.{event_named, rounds_of}
@@ -30,49 +30,49 @@ is_final (Top n) = false
 is_final (Percent n) = false
 
 -- a later round, how the file has it
-abbrev pub opening_later : RoundId → Settings → List Later
+abbrev pub opening_later : RoundId → Settings → List RoundImport
 opening_later id s = if nat_lt 1 id.round then Opening id s ∷ [] else []
 
 -- nobody advances from a round, of this many of its event, and there is a next one
-abbrev pub final_later : ℕ → RoundId → Settings → List Later
+abbrev pub final_later : ℕ → RoundId → Settings → List RoundImport
 final_later count id s =
     if is_final s.advance && nat_lt id.round count then Final id ∷ [] else []
 
-abbrev pub later_held : ℕ → RoundId → Option Settings → List Later
+abbrev pub later_held : ℕ → RoundId → Option Settings → List RoundImport
 later_held count id None = []
 later_held count id (Some s) = opening_later id s ++ final_later count id s
 
 -- of the round of an event with this number
-abbrev pub later_at : CumulativeLimits → Event → List Data → ℕ → List Later
+abbrev pub later_at : CumulativeLimits → Event → List Data → ℕ → List RoundImport
 later_at how e rounds n =
     later_held (length rounds) (id_of_round e n)
     (option_and_then (settings_in how e) (slice_get rounds (n - 1)))
 
-abbrev pub later_named : CumulativeLimits → List Data → Option Event → List Later
+abbrev pub later_named : CumulativeLimits → List Data → Option Event → List RoundImport
 later_named how rounds None = []
 later_named how rounds (Some e) = flat_map (later_at how e rounds) (1 ∷ 2 ∷ 3 ∷ 4 ∷ [])
 
 -- of the rounds of an event of the file
-unfoldable pub later_of : CumulativeLimits → Data → List Later
+unfoldable pub later_of : CumulativeLimits → Data → List RoundImport
 later_of how d = later_named how (rounds_of d) (event_named d)
 
 -- of all rounds, in the order of the file
-unfoldable pub later_rounds : Options → Data → List Later
+unfoldable pub later_rounds : Options → Data → List RoundImport
 later_rounds options d =
     flat_map (later_of options.limits) (unwrap_or (list_at (codes "events") d) [])
 
 -- of those of a file
-abbrev pub SaysLater : Options → List ℕ → List Later → Type 0
+abbrev pub SaysLater : Options → List ℕ → List RoundImport → Type 0
 SaysLater options bytes later =
     (d : Data) × (read (without_mark bytes) ≡ Some d) × (later ≡ later_rounds options d)
 
 -- As lines: comments in a list of commands.
 
-abbrev pub later_line : Later → List ℕ
+abbrev pub later_line : RoundImport → List ℕ
 later_line (Opening id s) = codes "# " ++ line (Open id s)
 later_line (Final id) =
     codes "# " ++ round_id id.event id.round
     ++ codes ": nobody advances, and the file has a next round\n"
 
-abbrev pub later_lines : List Later → List ℕ
+abbrev pub later_lines : List RoundImport → List ℕ
 later_lines later = flat_map later_line later

@@ -3,12 +3,12 @@
 ghost use Rattle.std.specs.Prelude.{◌≡◌, ◌++◌, ◌∷◌, [], ◌+◌, List, map, length, IfOk, OnOk};
 ghost use Rattle.serde_json.specs.Data.{Data};
 ghost use Rattle.serde_json.specs.View.{view};
-ghost use Rattle.wcif.specs.declared.fault.Fault.TheVariants.{Person as PersonOf};
+ghost use Rattle.wcif.specs.declared.fault.CompetitionFault.TheVariants.{Person as PersonOf};
 ghost use Rattle.wcif.specs.Faults.{front_within, person_faults, who};
 ghost use Rattle.wcif.specs.Told.{told};
 ghost use Rattle.wcif.specs.model.Kept.{AreKept, AddsFaults, KeepsPerson};
 
-use crate::fault::{Fault, PersonFault, Who};
+use crate::fault::{CompetitionFault, FilePerson, PersonFault};
 use crate::options::SameNames;
 use crate::people::People;
 use crate::persons::{given_name, is_accepted, number_of};
@@ -31,11 +31,11 @@ fn front_within(text: &[u8], most: usize) -> &[u8]
 }
 
 /// The name and the number of a person.
-fn who(alloc: Global, person: &Value) -> Result<Who, NoMemory>
+fn who(alloc: Global, person: &Value) -> Result<FilePerson, NoMemory>
     ensures { IfOk result (λ found. found ≡ who (view person.now)) }
 {
     let name = front_within(given_name(person).as_bytes(), MOST_TOLD);
-    Ok(Who {
+    Ok(FilePerson {
         name: Quoted::of(alloc, name)?,
         number: number_of(person),
     })
@@ -44,7 +44,7 @@ fn who(alloc: Global, person: &Value) -> Result<Who, NoMemory>
 /// Adds what a desk cannot hold of the person at a place.
 fn push_found(
     alloc: Global,
-    faults: &mut Vec<Fault>,
+    faults: &mut Vec<CompetitionFault>,
     place: usize,
     person: &Value,
     found: &[PersonFault],
@@ -53,7 +53,7 @@ fn push_found(
         ≡ faults.old.items ++ map (PersonOf place (who (view person.now))) found.now) }
 {
     for fault in found {
-        faults.push(Fault::Person {
+        faults.push(CompetitionFault::Person {
             place,
             who: who(alloc, person)?,
             fault: *fault,
@@ -67,7 +67,7 @@ fn push_found(
 fn push_person<'v>(
     alloc: Global,
     how: SameNames,
-    faults: &mut Vec<Fault>,
+    faults: &mut Vec<CompetitionFault>,
     people: &mut People<'v>,
     events: &[Value],
     place: usize,
@@ -88,7 +88,7 @@ fn push_person<'v>(
 pub(crate) fn push_persons<'v>(
     alloc: Global,
     how: SameNames,
-    faults: &mut Vec<Fault>,
+    faults: &mut Vec<CompetitionFault>,
     persons: &'v [Value],
     events: &[Value],
 ) -> Result<People<'v>, NoMemory>

@@ -4,11 +4,11 @@ ghost use Rattle.std.specs.Prelude.{◌≡◌, ◌++◌, ◌+◌, ◌≤◌, map
 ghost use Rattle.serde_json.specs.View.{view};
 ghost use Rattle.wcif.specs.Events.{event_named, rounds_of, enters, repeated_faults};
 ghost use Rattle.wcif.specs.Events.{entrants_faults, each_round, rounds_faults, event_faults};
-ghost use Rattle.wcif.specs.declared.fault.Fault.TheVariants.{Round as RoundOf};
+ghost use Rattle.wcif.specs.declared.fault.CompetitionFault.TheVariants.{Round as RoundOf};
 ghost use Rattle.wcif.specs.Told.{told};
 
 use crate::entries::{has_id, holds_id};
-use crate::fault::{EventFault, Fault, RoundFault};
+use crate::fault::{CompetitionFault, EventFault, RoundFault};
 use crate::members::list_at;
 use crate::options::CumulativeLimits;
 use crate::persons::{event_ids, is_accepted, text_under};
@@ -64,7 +64,7 @@ fn entrants(event: Event, persons: &[Value]) -> usize
 
 /// Adds what a desk cannot hold of a round.
 fn push_round(
-    faults: &mut Vec<Fault>,
+    faults: &mut Vec<CompetitionFault>,
     event: Event,
     round: u8,
     found: &[RoundFault],
@@ -73,7 +73,7 @@ fn push_round(
         found.now) }
 {
     for fault in found {
-        faults.push(Fault::Round {
+        faults.push(CompetitionFault::Round {
             event,
             round,
             fault: *fault,
@@ -86,7 +86,7 @@ fn push_round(
 fn push_each_round(
     alloc: Global,
     how: CumulativeLimits,
-    faults: &mut Vec<Fault>,
+    faults: &mut Vec<CompetitionFault>,
     event: Event,
     rounds: &[Value],
 ) -> Result<(), NoMemory>
@@ -106,7 +106,7 @@ fn push_each_round(
 fn push_rounds(
     alloc: Global,
     how: CumulativeLimits,
-    faults: &mut Vec<Fault>,
+    faults: &mut Vec<CompetitionFault>,
     event: Event,
     place: usize,
     rounds: &[Value],
@@ -115,14 +115,14 @@ fn push_rounds(
         ≡ faults.old.items ++ rounds_faults how event place (map view rounds.now)) }
 {
     if rounds.is_empty() {
-        faults.push(Fault::Event {
+        faults.push(CompetitionFault::Event {
             place,
             fault: EventFault::NoRounds,
         })?;
         return Ok(());
     }
     if rounds.len() > LAST_ROUND as usize {
-        faults.push(Fault::Event {
+        faults.push(CompetitionFault::Event {
             place,
             fault: EventFault::TooManyRounds,
         })?;
@@ -132,12 +132,16 @@ fn push_rounds(
 }
 
 /// Adds that an event is in front too.
-fn push_repeated(faults: &mut Vec<Fault>, event: Event, earlier: &[Value]) -> Result<(), NoMemory>
+fn push_repeated(
+    faults: &mut Vec<CompetitionFault>,
+    event: Event,
+    earlier: &[Value],
+) -> Result<(), NoMemory>
     ensures { OnOk result
         (faults.new.items ≡ faults.old.items ++ repeated_faults event (map view earlier.now)) }
 {
     if has_id(earlier, event.name()) {
-        faults.push(Fault::Event {
+        faults.push(CompetitionFault::Event {
             place: earlier.len() + 1,
             fault: EventFault::Repeated,
         })?;
@@ -147,7 +151,7 @@ fn push_repeated(faults: &mut Vec<Fault>, event: Event, earlier: &[Value]) -> Re
 
 /// Adds that an event has too many entrants.
 fn push_entrants(
-    faults: &mut Vec<Fault>,
+    faults: &mut Vec<CompetitionFault>,
     event: Event,
     place: usize,
     persons: &[Value],
@@ -157,7 +161,7 @@ fn push_entrants(
         persons.now)) }
 {
     if entrants(event, persons) > MOST_ENTRANTS as usize {
-        faults.push(Fault::Event {
+        faults.push(CompetitionFault::Event {
             place,
             fault: EventFault::TooManyEntrants,
         })?;
@@ -170,7 +174,7 @@ fn push_entrants(
 fn push_event(
     alloc: Global,
     how: CumulativeLimits,
-    faults: &mut Vec<Fault>,
+    faults: &mut Vec<CompetitionFault>,
     persons: &[Value],
     earlier: &[Value],
     event: &Value,
@@ -180,7 +184,7 @@ fn push_event(
 {
     let place = earlier.len() + 1;
     let Some(named) = event_named(event) else {
-        faults.push(Fault::Event {
+        faults.push(CompetitionFault::Event {
             place,
             fault: EventFault::Unknown,
         })?;
@@ -195,7 +199,7 @@ fn push_event(
 pub(crate) fn push_events(
     alloc: Global,
     how: CumulativeLimits,
-    faults: &mut Vec<Fault>,
+    faults: &mut Vec<CompetitionFault>,
     persons: &[Value],
     events: &[Value],
 ) -> Result<(), NoMemory>

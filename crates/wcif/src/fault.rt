@@ -96,12 +96,12 @@ pub enum EventFault {
 
 /// A person of the file: the first 160 bytes of the name, and the number where there is one.
 #[derive(Debug, Drop)]
-pub struct Who {
+pub struct FilePerson {
     pub name: Quoted,
     pub number: Option<u64>,
 }
 
-impl fmt::Display for Who {
+impl fmt::Display for FilePerson {
     fn fmt<W: fmt::Write>(&self, f: &mut fmt::Formatter<W>) -> fmt::Result {
         self.name.fmt(f)?;
         match self.number {
@@ -113,7 +113,7 @@ impl fmt::Display for Who {
 
 /// What a desk cannot hold of a competition.
 #[derive(Debug, Drop, Error)]
-pub enum Fault {
+pub enum CompetitionFault {
     /// There is no list of persons.
     #[error("no list of persons")]
     NoPersons,
@@ -127,7 +127,7 @@ pub enum Fault {
     #[error("person {place}, {who}: {fault}")]
     Person {
         place: usize,
-        who: Who,
+        who: FilePerson,
         fault: PersonFault,
     },
     /// Of the event at this place in the list, from 1.

@@ -4,8 +4,8 @@ ghost use Rattle.std.specs.Prelude.{◌≡◌, IfOk, IfErr};
 ghost use Rattle.wcif.specs.Files.{without_mark, SetsUp, FileFails};
 ghost use Rattle.wcif.specs.Later.{SaysLater};
 
-use crate::fault::Fault;
-use crate::importing::{ImportFault, Imported, import};
+use crate::fault::CompetitionFault;
+use crate::importing::{ImportFault, ImportedCompetition, import};
 use crate::nesting::nests_within;
 use crate::options::Options;
 use serde_json::{Error, Value};
@@ -28,7 +28,7 @@ pub enum FileFault {
     /// Lists and objects nest more than 64 deep.
     TooDeep,
     /// A desk cannot hold this of the competition: one fault at least.
-    Refused(Vec<Fault>),
+    Refused(Vec<CompetitionFault>),
     /// Memory ran out.
     NoMemory,
 }
@@ -56,7 +56,11 @@ fn without_mark(bytes: &[u8]) -> &[u8]
 /// - `Refused` where a desk cannot hold all of the competition: every fault, as [`import`] has
 ///   them.
 /// - `NoMemory` where memory ran out.
-pub fn import_file(alloc: Global, bytes: &[u8], options: Options) -> Result<Imported, FileFault>
+pub fn import_file(
+    alloc: Global,
+    bytes: &[u8],
+    options: Options,
+) -> Result<ImportedCompetition, FileFault>
     ensures ok { IfOk result (λ made. SetsUp options bytes.now made.commands.items) }
     ensures later { IfOk result (λ made. SaysLater options bytes.now made.later.items) }
     ensures err { IfErr result (FileFails options bytes.now) }

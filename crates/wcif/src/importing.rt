@@ -11,8 +11,8 @@ ghost use Rattle.wcif.specs.declared.importing.ImportFault.TheVariants.{NoMemory
 use crate::checking::push_persons;
 use crate::entries::MOST_EVENTS;
 use crate::events::push_events;
-use crate::fault::Fault;
-use crate::later::{Later, later_rounds};
+use crate::fault::CompetitionFault;
+use crate::later::{RoundImport, later_rounds};
 use crate::members::list_at;
 use crate::options::Options;
 use crate::setting_up::commands_of;
@@ -23,18 +23,18 @@ use texts::Command;
 
 /// A competition as a desk holds it.
 #[derive(Drop)]
-pub struct Imported {
+pub struct ImportedCompetition {
     /// The commands that set it up.
     pub commands: Vec<Command>,
     /// What is to be known of rounds that they do not open.
-    pub later: Vec<Later>,
+    pub later: Vec<RoundImport>,
 }
 
 /// Why a competition is not imported.
 #[derive(Drop)]
 pub enum ImportFault {
     /// A desk cannot hold this of it: one fault at least.
-    Refused(Vec<Fault>),
+    Refused(Vec<CompetitionFault>),
     /// Memory ran out.
     NoMemory,
 }
@@ -48,7 +48,11 @@ impl From<AllocError> for ImportFault {
 }
 
 /// A fault, and another one where there is one.
-fn fault_list(alloc: Global, first: Fault, second: Option<Fault>) -> Result<Vec<Fault>, NoMemory>
+fn fault_list(
+    alloc: Global,
+    first: CompetitionFault,
+    second: Option<CompetitionFault>,
+) -> Result<Vec<CompetitionFault>, NoMemory>
     ensures { IfOk result (λ faults. faults.items ≡ first ∷ option_to_list second) }
 {
     let mut faults = Vec::new(alloc);
@@ -61,7 +65,7 @@ fn fault_list(alloc: Global, first: Fault, second: Option<Fault>) -> Result<Vec<
 }
 
 /// These faults, as the reason of a refusal.
-fn refused(alloc: Global, first: Fault, second: Option<Fault>) -> ImportFault
+fn refused(alloc: Global, first: CompetitionFault, second: Option<CompetitionFault>) -> ImportFault
     ensures { Refuses (first ∷ option_to_list second) result }
 {
     match fault_list(alloc, first, second) {
@@ -84,7 +88,7 @@ fn import_commands(
         (Refuses (faults_in options (Some (map view persons.now)) (Some (map view events.now)))) }
 {
     if events.len() > MOST_EVENTS {
-        return Err(refused(alloc, Fault::TooManyEvents, None));
+        return Err(refused(alloc, CompetitionFault::TooManyEvents, None));
     }
     let mut faults = Vec::new(alloc);
     let people = push_persons(alloc, options.names, &mut faults, persons, events)?;
@@ -102,7 +106,7 @@ fn import_lists(
     options: Options,
     persons: &[Value],
     events: &[Value],
-) -> Result<Imported, ImportFault>
+) -> Result<ImportedCompetition, ImportFault>
     ensures ok { IfOk result (λ made.
         (faults_in options (Some (map view persons.now)) (Some (map view events.now)) ≡ [])
         × (made.commands.items
@@ -114,7 +118,7 @@ fn import_lists(
 {
     let commands = import_commands(alloc, options, persons, events)?;
     let later = later_rounds(alloc, options.limits, events)?;
-    Ok(Imported { commands, later })
+    Ok(ImportedCompetition { commands, later })
 }
 
 /// The commands that set up the competition of a file in the WCA Competition Interchange Format,
@@ -132,7 +136,11 @@ fn import_lists(
 ///   first and then those of the events, each in the order of the file.
 /// - `NoMemory` where memory ran out.
 #[tactic(auto, unfolding(crate::specs::Faults::faults, crate::specs::Commands::commands, crate::specs::Later::later_rounds))]
-pub fn import(alloc: Global, value: &Value, options: Options) -> Result<Imported, ImportFault>
+pub fn import(
+    alloc: Global,
+    value: &Value,
+    options: Options,
+) -> Result<ImportedCompetition, ImportFault>
     ensures ok { IfOk result (λ made. (faults options (view value.now) ≡ [])
         × (made.commands.items ≡ commands options (view value.now))) }
     ensures later { IfOk result (λ made. made.later.items ≡ later_rounds options (view value.now)) }
@@ -140,8 +148,12 @@ pub fn import(alloc: Global, value: &Value, options: Options) -> Result<Imported
 {
     match (list_at(value, "persons"), list_at(value, "events")) {
         (Some(persons), Some(events)) => import_lists(alloc, options, persons, events),
-        (Some(_), None) => Err(refused(alloc, Fault::NoEvents, None)),
-        (None, Some(_)) => Err(refused(alloc, Fault::NoPersons, None)),
-        (None, None) => Err(refused(alloc, Fault::NoPersons, Some(Fault::NoEvents))),
+        (Some(_), None) => Err(refused(alloc, CompetitionFault::NoEvents, None)),
+        (None, Some(_)) => Err(refused(alloc, CompetitionFault::NoPersons, None)),
+        (None, None) => Err(refused(
+            alloc,
+            CompetitionFault::NoPersons,
+            Some(CompetitionFault::NoEvents),
+        )),
     }
 }

@@ -21,7 +21,7 @@ const ROUND_NUMBERS: [u8; 4] = [1, 2, 3, 4];
 
 /// What an import says of a round.
 #[derive(Clone, Copy)]
-pub enum Later {
+pub enum RoundImport {
     /// A later round: how the file has it.
     Opening { id: RoundId, settings: Settings },
     /// The file has a next round, and nobody advances to it.
@@ -36,19 +36,23 @@ fn is_final(advance: Advance) -> bool
 }
 
 /// Adds a later round, how the file has it.
-fn push_opening(later: &mut Vec<Later>, id: RoundId, settings: Settings) -> Result<(), NoMemory>
+fn push_opening(
+    later: &mut Vec<RoundImport>,
+    id: RoundId,
+    settings: Settings,
+) -> Result<(), NoMemory>
     ensures { OnOk result (later.new.items ≡ later.old.items ++ opening_later id settings) }
 {
     if id.round <= 1 {
         return Ok(());
     }
-    later.push(Later::Opening { id, settings })?;
+    later.push(RoundImport::Opening { id, settings })?;
     Ok(())
 }
 
 /// Adds that nobody advances from a round, where the file has a next one.
 fn push_final(
-    later: &mut Vec<Later>,
+    later: &mut Vec<RoundImport>,
     count: usize,
     id: RoundId,
     settings: Settings,
@@ -58,7 +62,7 @@ fn push_final(
     let ends = is_final(settings.advance);
     let has_next = usize::from(id.round) < count;
     if ends && has_next {
-        later.push(Later::Final { id })?;
+        later.push(RoundImport::Final { id })?;
     }
     Ok(())
 }
@@ -89,7 +93,7 @@ fn settings_at(
 
 /// Adds what is said of a round with these settings, of an event with this many rounds.
 fn push_held(
-    later: &mut Vec<Later>,
+    later: &mut Vec<RoundImport>,
     count: usize,
     id: RoundId,
     settings: Option<Settings>,
@@ -106,7 +110,7 @@ fn push_held(
 /// Adds what is said of the round of an event with this number.
 fn push_at(
     how: CumulativeLimits,
-    later: &mut Vec<Later>,
+    later: &mut Vec<RoundImport>,
     event: Event,
     rounds: &[Value],
     number: u8,
@@ -124,7 +128,11 @@ fn push_at(
 
 /// Adds what is said of the rounds of an event.
 #[tactic(auto, unfolding(crate::specs::Later::later_of))]
-fn push_event(how: CumulativeLimits, later: &mut Vec<Later>, event: &Value) -> Result<(), NoMemory>
+fn push_event(
+    how: CumulativeLimits,
+    later: &mut Vec<RoundImport>,
+    event: &Value,
+) -> Result<(), NoMemory>
     ensures { OnOk result (later.new.items ≡ later.old.items ++ later_of how (view event.now)) }
 {
     let Some(named) = event_named(event) else {
@@ -142,7 +150,7 @@ pub(crate) fn later_rounds(
     alloc: Global,
     how: CumulativeLimits,
     events: &[Value],
-) -> Result<Vec<Later>, NoMemory>
+) -> Result<Vec<RoundImport>, NoMemory>
     ensures { IfOk result (λ later. later.items ≡ flat_map (later_of how) (map view events.now)) }
 {
     let mut later = Vec::new(alloc);
@@ -153,17 +161,17 @@ pub(crate) fn later_rounds(
 }
 
 /// Adds the line of what is said of a round.
-fn push_line(alloc: Global, out: &mut Vec<u8>, later: Later) -> Result<(), NoMemory>
+fn push_line(alloc: Global, out: &mut Vec<u8>, later: RoundImport) -> Result<(), NoMemory>
     ensures { OnOk result (out.new.items ≡ out.old.items ++ later_line later) }
 {
     out.extend_from_slice(b"# ")?;
     match later {
-        Later::Opening { id, settings } => {
+        RoundImport::Opening { id, settings } => {
             let text = print(alloc, &Command::Open { id, settings })?;
             out.extend_from_slice(&text)?;
             out.extend_from_slice(b"\n")
         }
-        Later::Final { id } => {
+        RoundImport::Final { id } => {
             out.extend_from_slice(&round_id(alloc, id.event, id.round)?)?;
             out.extend_from_slice(b": nobody advances, and the file has a next round\n")
         }
@@ -171,7 +179,7 @@ fn push_line(alloc: Global, out: &mut Vec<u8>, later: Later) -> Result<(), NoMem
 }
 
 /// What is said of rounds as lines, each a comment with a line feed at its end.
-pub(crate) fn print_later(alloc: Global, later: &[Later]) -> Result<Vec<u8>, NoMemory>
+pub(crate) fn print_later(alloc: Global, later: &[RoundImport]) -> Result<Vec<u8>, NoMemory>
     ensures { IfOk result (λ text. text.items ≡ later_lines later.now) }
 {
     let mut out = Vec::new(alloc);

@@ -19,10 +19,10 @@ mod setting_up;
 mod settings;
 mod text;
 
-pub use fault::{EventFault, Fault, PersonFault, RoundFault, Who};
+pub use fault::{CompetitionFault, EventFault, FilePerson, PersonFault, RoundFault};
 pub use file::{FileFault, import_file};
-pub use importing::{ImportFault, Imported, import};
-pub use later::Later;
+pub use importing::{ImportFault, ImportedCompetition, import};
+pub use later::RoundImport;
 pub use laws::{
     accepts_all, commands_are_fit, does_all_lines, lists_are_held, names_are_apart,
     prints_whole_lines, sets_up_meet,

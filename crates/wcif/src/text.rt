@@ -4,7 +4,7 @@ ghost use Rattle.std.specs.Prelude.{◌≡◌, ◌++◌, flat_map, IfOk, OnOk};
 ghost use Rattle.wcif.specs.Later.{later_lines};
 ghost use Rattle.wcif.specs.Lines.{line, lines};
 
-use crate::importing::Imported;
+use crate::importing::ImportedCompetition;
 use crate::later::print_later;
 use attempts::NoMemory;
 use std::alloc::Global;
@@ -33,7 +33,7 @@ pub fn print_lines(alloc: Global, commands: &[Command]) -> Result<Vec<u8>, NoMem
 
 /// The commands of an import as lines, and after them what is to be known of rounds that they do
 /// not open, each a comment, which `desk enter-lines` passes over.
-pub fn print_imported(alloc: Global, made: &Imported) -> Result<Vec<u8>, NoMemory>
+pub fn print_imported(alloc: Global, made: &ImportedCompetition) -> Result<Vec<u8>, NoMemory>
     ensures { IfOk result (λ text. text.items
         ≡ lines made.now.commands.items ++ later_lines made.now.later.items) }
 {

@@ -1,17 +1,17 @@
 -- What is left of a list, an item at a time.
-use Rattle.std.proofs.Common.{◌≡◌, refl, sym, ap, ◌∙◌, ℕ, ◌+◌, ◌<◌, Bool, true, false, cond, ◌||◌}
+use Rattle.std.proofs.Common.{◌≡◌, refl, sym, ap, ◌∙◌, ℕ, ◌+◌, ◌<◌, cond}
 use Rattle.std.proofs.Common.{List}
 use Rattle.std.proofs.Common.{[], ◌∷◌, ◌++◌, length, drop, get_or, map, bytes_eq, subst, flat_map}
 use Rattle.std.proofs.Common.{append_assoc, append-nil, ◌≤◌}
 use Rattle.std.proofs.lemmas.List.{drop_more, drop_all}
 use Rattle.std.specs.Borrow.{Bor}
-use Rattle.json.specs.Token.{key, end_object, end_array}
-use Rattle.json.specs.Json.{Json, Members, no_members, member}
+use Rattle.json.specs.Token.{key, end_array}
+use Rattle.json.specs.Json.{Json}
 use Rattle.json.specs.Tree.{json_tokens, items_tokens, members_tokens, HasNumbers}
 use Rattle.json.specs.Tree.{ItemsHaveNumbers, MembersHaveNumbers}
 use Rattle.json.specs.Value.{items_of, value_view, items_view, members_view}
 use Rattle.json.specs.declared.value.Value.{Value}
-use Rattle.wcif_results.specs.Filled.{items_with, members_with, members_having}
+use Rattle.wcif_results.specs.Filled.{items_with, members_with}
 
 -- the item at a place, read with whatever default
 pub at : {X : Type 0} (xs : List X) (i : ℕ) (x d : X) → i < length xs → x ≡ get_or xs i d
@@ -75,35 +75,6 @@ pub lists_left : {X : Type 0} (f : X → List Json) (xs : List X) (i : ℕ) (x d
 lists_left f xs i x d within is =
     ap (λ ys. items_tokens (items_of (flat_map f ys))) (at xs i x d within is)
     ∙ items_tokens-append (f x) (flat_map f (drop (i + 1) xs))
-
--- members with one value under a name
-having_step : (b there : Bool) (name k : List ℕ) (j e : Json) (ms : Members)
-    → members_tokens (cond b (member k j (members_having true name j ms))
-    (member k e (members_having there name j ms)))
-    ≡ (key k ∷ json_tokens (cond b j e)) ++ members_tokens (members_having (there || b) name j ms)
-having_step true true name k j e ms = refl
-having_step true false name k j e ms = refl
-having_step false true name k j e ms = refl
-having_step false false name k j e ms = refl
-
-pub having_left : {A : Type 0} (name : List ℕ) (j : Json) (there : Bool)
-    (xs : List (Bor (List ℕ) × Value A)) (i : ℕ) (x d : Bor (List ℕ) × Value A)
-    → i < length xs → x ≡ get_or xs i d
-    → members_tokens (members_having there name j (members_view (drop i xs)))
-    ≡ (key x.0.now ∷ json_tokens (cond (bytes_eq x.0.now name) j (value_view x.1)))
-    ++ members_tokens (members_having (there || bytes_eq x.0.now name) name j
-    (members_view (drop (i + 1) xs)))
-having_left name j there xs i x d within is =
-    ap (λ ys. members_tokens (members_having there name j (members_view ys)))
-    (at xs i x d within is)
-    ∙ having_step (bytes_eq x.0.now name) there name x.0.now j (value_view x.1)
-    (members_view (drop (i + 1) xs))
-
-pub having_end : (name : List ℕ) (j : Json) (there : Bool)
-    → members_tokens (members_having there name j no_members)
-    ≡ cond there [] (key name ∷ json_tokens j) ++ end_object ∷ []
-having_end name j true = refl
-having_end name j false = refl
 
 -- one more list is added of those that are left
 pub lists_of : {X Y : Type 0} (old new all : List Y) (f : X → List Y) (xs : List X) (i : ℕ)

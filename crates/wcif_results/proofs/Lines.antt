@@ -7,7 +7,7 @@ use Rattle.json.specs.Token.{Token, begin_array, begin_object, end_object, key, 
 use Rattle.json.specs.Tree.{json_tokens, items_tokens}
 use Rattle.attempts.specs.declared.Value.{Value}
 use Rattle.formats.specs.declared.results.Averaged.{Averaged}
-use Rattle.rounds.specs.declared.table.Row.{Row}
+use Rattle.rounds.specs.declared.table.EntrantRow.{EntrantRow}
 use Rattle.rounds.specs.Rows.{IsRow}
 use Rattle.rounds.specs.Tables.{Entrant, Table, has_number, place, standings}
 use Rattle.wcif_results.specs.Encoding.{best_result, average_result}
@@ -37,7 +37,7 @@ tokens_of n vs place average =
     ∷ key (codes "average") ∷ number (signed_decimal (average_result average))
     ∷ end_object ∷ []))))
 
-pub result_tokens : (t : Table) (n : ℕ) (e : Entrant) (row : Row) → IsRow t n e row
+pub result_tokens : (t : Table) (n : ℕ) (e : Entrant) (row : EntrantRow) → IsRow t n e row
     → tokens_of n row.values.now row.place row.average ≡ json_tokens (result_json t e)
 unfolding result_json
 result_tokens t n e row is =

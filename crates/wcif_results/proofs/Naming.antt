@@ -7,21 +7,21 @@ use Rattle.texts.specs.declared.answer.Answer.{Answer}
 use Rattle.texts.specs.declared.answer.Answer.TheVariants.{Done, Refused}
 use Rattle.texts.specs.declared.answer.Code.{Code}
 use Rattle.texts.specs.declared.answer.Code.TheVariants as code
-use Rattle.texts.specs.declared.command.Remarked.{Remarked}
+use Rattle.texts.specs.declared.command.RemarkedCommand.{RemarkedCommand}
 use Rattle.texts.specs.declared.reading.CommandFault.{CommandFault}
 use Rattle.texts.specs.Reading.{command_of}
 use Rattle.commands.specs.History.{History, after, after_in, answer_of, answer_to, is_seen}
 use Rattle.commands.specs.History.{entry_refusal_in, read_refusal, added_read}
-use Rattle.wcif_results.specs.declared.named_meet.Given.{Given}
+use Rattle.wcif_results.specs.declared.named_meet.GivenName.{GivenName}
 use Rattle.wcif_results.specs.Names.{kept, naming, naming_read, names_given}
 
 -- what an entry that is done adds
-added_done : (r : Result Remarked CommandFault)
+added_done : (r : Result RemarkedCommand CommandFault)
     → flat_map naming (added_read None r) ≡ naming_read r
 added_done (Ok told) = append-nil (naming told.command)
 added_done (Err fault) = refl
 
-added_refused : (why : Code) (r : Result Remarked CommandFault)
+added_refused : (why : Code) (r : Result RemarkedCommand CommandFault)
     → flat_map naming (added_read (Some why) r) ≡ []
 added_refused why (Ok told) = refl
 added_refused why (Err fault) = refl
@@ -82,7 +82,7 @@ refused_names h id text c is =
         ∙ append-nil (names_given h.accepted)
 
 -- the names after one more entry
-pub named_after : (h : History) (id : ℕ) (text : List ℕ) (answer : Answer) (name : Option Given)
+pub named_after : (h : History) (id : ℕ) (text : List ℕ) (answer : Answer) (name : Option GivenName)
     → answer ≡ answer_to h id text → option_to_list name ≡ naming_read (command_of text)
     → names_given (after h id text).accepted ≡ names_given h.accepted ++ kept answer name
 named_after h id text Done name is gives =

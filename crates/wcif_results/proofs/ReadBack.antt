@@ -28,8 +28,8 @@ use Rattle.wcif.specs.Rounds.{round_id}
 use Rattle.wcif_results.specs.Encoding.{attempt_result, best_result, average_result}
 use Rattle.wcif_results.specs.Faults.{file_rounds, items_under, faults_of, round_faults}
 use Rattle.wcif_results.specs.Faults.{entrants_faults, held, listed, round_with_id}
-use Rattle.wcif_results.specs.declared.fault.Fault.{Fault}
-use Rattle.wcif_results.specs.declared.fault.Fault.TheVariants as fault
+use Rattle.wcif_results.specs.declared.fault.MeetFault.{MeetFault}
+use Rattle.wcif_results.specs.declared.fault.MeetFault.TheVariants as fault
 use Rattle.wcif_results.specs.Filled.{id_of, filled, filled_round}
 use Rattle.wcif_results.specs.Laws.{Result, read_result, sheet_result, sheet_result_of, ranking_of}
 use Rattle.wcif_results.specs.Laws.{sheet_results, HasResults, ResultsReadBack}
@@ -171,7 +171,7 @@ have_places : (cs : List Command) (es ps : List Json) (rs : List MeetRound)
     → flat_map (round_faults cs (map held es) ps) rs ≡ [] → AllByRecursion (HasPlace es) rs
 have_places cs es ps [] h = tt
 have_places cs es ps (r ∷ rs) h =
-    let faults : MeetRound → List Fault = round_faults cs (map held es) ps in (
+    let faults : MeetRound → List MeetFault = round_faults cs (map held es) ps in (
       not_missing cs es ps r (nothing_front (faults r) (flat_map faults rs) h),
       have_places cs es ps rs (nothing_back (faults r) (flat_map faults rs) h),
     )

@@ -10,8 +10,8 @@ use Rattle.json.specs.Find.{get, as_array, as_number, as_str}
 use Rattle.commands.specs.Accepted.{name_of}
 use Rattle.rounds.specs.Tables.{is_attempted, standings}
 use Rattle.texts.specs.declared.command.Command.{Command}
-use Rattle.wcif_results.specs.declared.fault.Fault.{Fault}
-use Rattle.wcif_results.specs.declared.fault.Fault.TheVariants as fault
+use Rattle.wcif_results.specs.declared.fault.MeetFault.{MeetFault}
+use Rattle.wcif_results.specs.declared.fault.MeetFault.TheVariants as fault
 use Rattle.wcif_results.specs.Filled.{id_of, text_under}
 use Rattle.wcif_results.specs.MeetRounds.{MeetRound, meet_rounds}
 use Rattle.wcif_results.specs.Names.{is_called, names_given}
@@ -64,7 +64,7 @@ abbrev pub name_here : List Command → ℕ → List ℕ
 name_here cs n = unwrap_or (name_of cs n) []
 
 -- of an entrant, given the accepted person with his number, and else any person with it
-abbrev pub person_faults : List Command → MeetRound → ℕ → Option Json → Option Json → List Fault
+abbrev pub person_faults : List Command → MeetRound → ℕ → Option Json → Option Json → List MeetFault
 person_faults cs r n (Some p) other =
     if is_called (names_given cs) n p then []
     else fault.OtherName r.event r.number n (name_here cs n) (text_under (codes "name") p) ∷ []
@@ -72,30 +72,31 @@ person_faults cs r n None (Some p) =
     fault.NotAccepted r.event r.number n (name_here cs n) (text_under (codes "name") p) ∷ []
 person_faults cs r n None None = fault.NoPerson r.event r.number n (name_here cs n) ∷ []
 
-abbrev pub entrant_faults : List Command → List Json → MeetRound → ℕ → List Fault
+abbrev pub entrant_faults : List Command → List Json → MeetRound → ℕ → List MeetFault
 entrant_faults cs ps r n =
     person_faults cs r n (person_with false (decimal n) ps) (person_with true (decimal n) ps)
 
 -- of all entrants of a round
-abbrev pub entrants_faults : List Command → List Json → MeetRound → List Fault
+abbrev pub entrants_faults : List Command → List Json → MeetRound → List MeetFault
 entrants_faults cs ps r = flat_map (entrant_faults cs ps r) (standings r.table)
 
 -- of a round, given whether the file has one with its id: where it has none, and the round has no
 -- result, it is left out
-abbrev pub placed_faults : List Command → List Json → MeetRound → Bool → List Fault
+abbrev pub placed_faults : List Command → List Json → MeetRound → Bool → List MeetFault
 placed_faults cs ps r there =
     if there then entrants_faults cs ps r
     else if is_attempted r.table 1
     then fault.NoRound r.event r.number ∷ entrants_faults cs ps r
     else []
 
-abbrev pub round_faults : List Command → List (List ℕ × List ℕ) → List Json → MeetRound → List Fault
+abbrev pub round_faults : List Command → List (List ℕ × List ℕ) → List Json → MeetRound
+    → List MeetFault
 round_faults cs es ps r = placed_faults cs ps r (is_some (round_with_id r.id es))
 
-unfoldable pub faults_of : List Command → List MeetRound → Json → List Fault
+unfoldable pub faults_of : List Command → List MeetRound → Json → List MeetFault
 faults_of cs rs d =
     flat_map (round_faults cs (map held (file_rounds d)) (items_under (codes "persons") d)) rs
 
 -- all that the file has no place for, by rounds
-abbrev pub faults : List Command → Json → List Fault
+abbrev pub faults : List Command → Json → List MeetFault
 faults cs d = faults_of cs (meet_rounds cs) d

@@ -12,7 +12,7 @@ use Rattle.wcif_results.specs.declared.exporting.ExportFault.TheVariants.{Refuse
 use Rattle.wcif_results.specs.Faults.{faults}
 use Rattle.wcif_results.specs.Filled.{filled}
 use Rattle.wcif_results.specs.Notes.{notes}
-use Rattle.wcif_results.specs.declared.note.Note.{Note}
+use Rattle.wcif_results.specs.declared.note.ExportNote.{ExportNote}
 
 -- the file is within the limits, and this is its JSON value
 pub record Holds (bytes : List ℕ) (d : Json) : Type 0 where
@@ -33,7 +33,7 @@ Exports cs bytes text =
     (d : Json) × Holds bytes d × (faults cs d ≡ []) × IsTextOf text (filled cs d)
 
 -- what is told of it
-abbrev pub HasNotes : List Command → List ℕ → List Note → Type 0
+abbrev pub HasNotes : List Command → List ℕ → List ExportNote → Type 0
 HasNotes cs bytes told =
     (d : Json) × (document (without_mark bytes) ≡ Some d) × (told ≡ notes cs d)
 

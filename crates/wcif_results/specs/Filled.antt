@@ -12,11 +12,15 @@ use Rattle.texts.specs.declared.command.Command.{Command}
 use Rattle.wcif_results.specs.MeetRounds.{MeetRound, meet_rounds, round_named}
 use Rattle.wcif_results.specs.Results.{results_json}
 
+-- the value of a member with the name k: f of it under this name, and as it is under any other
+abbrev pub value_with : List ℕ → (Json → Json) → (k : List ℕ) → Json → Json
+value_with name f k j = if bytes_eq k name then f j else j
+
 -- the members, with f of the values under a name
 abbrev pub members_with : List ℕ → (Json → Json) → Members → Members
 members_with name f no_members = no_members
 members_with name f (member k j ms) =
-    member k (if bytes_eq k name then f j else j) (members_with name f ms)
+    member k (value_with name f k j) (members_with name f ms)
 
 -- an object, with f of the values under a name; any other value as it is
 abbrev pub within : List ℕ → (Json → Json) → Json → Json

@@ -8,35 +8,35 @@ use Rattle.texts.specs.declared.answer.Answer.{Answer}
 use Rattle.texts.specs.declared.answer.Answer.TheVariants.{Done, Refused}
 use Rattle.texts.specs.declared.command.Command.{Command}
 use Rattle.texts.specs.declared.command.Command.TheVariants.{Register, Rename}
-use Rattle.texts.specs.declared.command.Remarked.{Remarked}
+use Rattle.texts.specs.declared.command.RemarkedCommand.{RemarkedCommand}
 use Rattle.texts.specs.declared.reading.CommandFault.{CommandFault}
-use Rattle.wcif_results.specs.declared.named_meet.Given.{Given}
+use Rattle.wcif_results.specs.declared.named_meet.GivenName.{GivenName}
 use Rattle.wcif_results.specs.Filled.{text_under}
 
-abbrev pub naming : Command → List Given
+abbrev pub naming : Command → List GivenName
 naming (Register n name) = record { number = n; name = name } ∷ []
 naming (Rename n name) = record { number = n; name = name } ∷ []
 naming _ = []
 
-abbrev pub naming_read : Result Remarked CommandFault → List Given
+abbrev pub naming_read : Result RemarkedCommand CommandFault → List GivenName
 naming_read (Ok told) = naming told.command
 naming_read (Err fault) = []
 
 -- the name of an entry, where it is done
-abbrev pub kept : Answer → Option Given → List Given
+abbrev pub kept : Answer → Option GivenName → List GivenName
 kept Done name = option_to_list name
 kept (Refused code) name = []
 
 -- each name that REG or REN gave a number
-abbrev pub names_given : List Command → List Given
+abbrev pub names_given : List Command → List GivenName
 names_given cs = flat_map naming cs
 
 -- this is one of two names of a number
-abbrev pub gives : ℕ → List ℕ → List ℕ → Given → Bool
+abbrev pub gives : ℕ → List ℕ → List ℕ → GivenName → Bool
 gives n name with_id g = (g.number == n) && (bytes_eq g.name name || bytes_eq g.name with_id)
 
 -- a number was given one of two names
-unfoldable pub was_given : ℕ → List ℕ → List ℕ → List Given → Bool
+unfoldable pub was_given : ℕ → List ℕ → List ℕ → List GivenName → Bool
 was_given n name with_id given = list_any (gives n name with_id) given
 
 -- the name of a person of the file, and the WCA ID after a space
@@ -44,5 +44,5 @@ abbrev pub name_with_id : Json → List ℕ
 name_with_id p = text_under (codes "name") p ++ codes " " ++ text_under (codes "wcaId") p
 
 -- a number was given the name of a person of the file, alone or with the WCA ID
-abbrev pub is_called : List Given → ℕ → Json → Bool
+abbrev pub is_called : List GivenName → ℕ → Json → Bool
 is_called given n p = was_given n (text_under (codes "name") p) (name_with_id p) given

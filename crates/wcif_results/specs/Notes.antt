@@ -7,8 +7,8 @@ use Rattle.json.specs.Json.{Json}
 use Rattle.formats.specs.declared.events.Format.{Format}
 use Rattle.formats.specs.declared.events.Format.TheVariants.{Ao5, Mo3, Bo1, Bo2, Bo3}
 use Rattle.texts.specs.declared.command.Command.{Command}
-use Rattle.wcif_results.specs.declared.note.Note.{Note}
-use Rattle.wcif_results.specs.declared.note.Note.TheVariants as note
+use Rattle.wcif_results.specs.declared.note.ExportNote.{ExportNote}
+use Rattle.wcif_results.specs.declared.note.ExportNote.TheVariants as note
 use Rattle.wcif_results.specs.Faults.{file_rounds, held, round_with_id}
 use Rattle.wcif_results.specs.MeetRounds.{MeetRound, meet_rounds}
 
@@ -20,35 +20,35 @@ format_text Bo1 = codes "1"
 format_text Bo2 = codes "2"
 format_text Bo3 = codes "3"
 
-abbrev pub running_notes : MeetRound → List Note
+abbrev pub running_notes : MeetRound → List ExportNote
 running_notes r = if r.table.is_closed then [] else note.Running r.event r.number ∷ []
 
 -- where the file's round has this format
-abbrev pub format_notes : MeetRound → List ℕ → List Note
+abbrev pub format_notes : MeetRound → List ℕ → List ExportNote
 format_notes r text =
     if bytes_eq text (format_text r.format) then []
     else note.OtherFormat r.event r.number r.format text ∷ []
 
 -- of a round, given the id and the format of the file's round with its id
-abbrev pub placed_notes : MeetRound → Option (List ℕ × List ℕ) → List Note
+abbrev pub placed_notes : MeetRound → Option (List ℕ × List ℕ) → List ExportNote
 placed_notes r (Some e) = running_notes r ++ format_notes r e.1
 placed_notes r None = note.LeftOut r.event r.number ∷ []
 
-abbrev pub round_notes : List (List ℕ × List ℕ) → MeetRound → List Note
+abbrev pub round_notes : List (List ℕ × List ℕ) → MeetRound → List ExportNote
 round_notes es r = placed_notes r (round_with_id r.id es)
 
-unfoldable pub notes_of : List MeetRound → Json → List Note
+unfoldable pub notes_of : List MeetRound → Json → List ExportNote
 notes_of rs d = flat_map (round_notes (map held (file_rounds d))) rs
 
 -- all that is told of the file with the results of the meet, by rounds
-abbrev pub notes : List Command → Json → List Note
+abbrev pub notes : List Command → Json → List ExportNote
 notes cs d = notes_of (meet_rounds cs) d
 
-abbrev pub is_running : Note → Bool
+abbrev pub is_running : ExportNote → Bool
 is_running (note.Running e r) = true
 is_running (note.LeftOut e r) = false
 is_running (note.OtherFormat e r format text) = false
 
 -- a round still runs
-abbrev pub any_runs : List Note → Bool
+abbrev pub any_runs : List ExportNote → Bool
 any_runs ns = list_any is_running ns

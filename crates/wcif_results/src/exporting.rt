@@ -8,13 +8,13 @@ ghost use Rattle.wcif_results.specs.Files.{IsTextOf, IsNotJson, Exports, ExportF
 ghost use Rattle.wcif_results.specs.Filled.{filled_file};
 ghost use Rattle.wcif_results.specs.model.Opened.{round_view};
 
-use crate::fault::Fault;
+use crate::fault::MeetFault;
 use crate::faults::faults_of;
 use crate::filling::write_file;
 use crate::meet_rounds::{MeetRound, meet_rounds};
 use crate::named_meet::NamedMeet;
 use crate::nesting::nests_within;
-use crate::note::Note;
+use crate::note::ExportNote;
 use crate::notes::notes_of;
 use attempts::NoMemory;
 use json::{Error, Scratch, Value, Writer};
@@ -28,9 +28,9 @@ const MOST_LEVELS: u32 = 64;
 
 /// A competition's file with the results of a meet, and what is said of it.
 #[derive(Drop)]
-pub struct Exported {
+pub struct ExportedFile {
     pub text: Vec<u8>,
-    pub notes: Vec<Note>,
+    pub notes: Vec<ExportNote>,
 }
 
 /// Why nothing is exported.
@@ -44,7 +44,7 @@ pub enum ExportFault {
     /// Lists and objects nest more than 64 deep.
     TooDeep,
     /// The file has no place for this of the meet: one fault at least.
-    Refused(Vec<Fault>),
+    Refused(Vec<MeetFault>),
     /// Memory ran out.
     NoMemory,
 }
@@ -112,7 +112,7 @@ fn text_of(alloc: Global, rounds: &[MeetRound<'_>], file: &Value<'_>) -> Result<
 ///   `registrantId` of its accepted persons, or that person's name is none that the number was
 ///   given: every fault, by rounds in the order of the events' numbers.
 /// - `NoMemory` where memory ran out.
-pub fn export(alloc: Global, bytes: &[u8], meet: &NamedMeet) -> Result<Exported, ExportFault>
+pub fn export(alloc: Global, bytes: &[u8], meet: &NamedMeet) -> Result<ExportedFile, ExportFault>
     ensures ok { IfOk result (λ made. Exports meet.now.accepted bytes.now made.text.items) }
     ensures told { IfOk result (λ made. HasNotes meet.now.accepted bytes.now made.notes.items) }
     ensures err { IfErr result (ExportFails meet.now.accepted bytes.now) }
@@ -134,7 +134,7 @@ pub fn export(alloc: Global, bytes: &[u8], meet: &NamedMeet) -> Result<Exported,
     if !faults.is_empty() {
         return Err(ExportFault::Refused(faults));
     }
-    Ok(Exported {
+    Ok(ExportedFile {
         text: text_of(alloc, &rounds, &file)?,
         notes: notes_of(alloc, &rounds, &file)?,
     })

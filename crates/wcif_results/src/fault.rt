@@ -7,7 +7,7 @@ use wcif::Quoted;
 /// What of a meet a competition's file has no place for. `name` is the last that the number was
 /// given, and `other` that of the file's person.
 #[derive(Drop)]
-pub enum Fault {
+pub enum MeetFault {
     /// The file has no round with the id, and the round has a result.
     NoRound {
         event: Event,
@@ -38,13 +38,13 @@ pub enum Fault {
     },
 }
 
-impl fmt::Display for Fault {
+impl fmt::Display for MeetFault {
     fn fmt<W: fmt::Write>(&self, f: &mut fmt::Formatter<W>) -> fmt::Result {
         match self {
-            Fault::NoRound { event, round } => {
+            MeetFault::NoRound { event, round } => {
                 write!(f, "{}-r{round}: the file has no such round", event.name())
             }
-            Fault::NoPerson {
+            MeetFault::NoPerson {
                 event,
                 round,
                 number,
@@ -54,7 +54,7 @@ impl fmt::Display for Fault {
                 "{}-r{round}: number {number} is {name}, and nobody in the file",
                 event.name()
             ),
-            Fault::NotAccepted {
+            MeetFault::NotAccepted {
                 event,
                 round,
                 number,
@@ -65,7 +65,7 @@ impl fmt::Display for Fault {
                 "{}-r{round}: number {number} is {name}, and in the file {other}, not accepted",
                 event.name()
             ),
-            Fault::OtherName {
+            MeetFault::OtherName {
                 event,
                 round,
                 number,

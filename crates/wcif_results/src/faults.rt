@@ -9,9 +9,9 @@ ghost use Rattle.wcif_results.specs.Filled.{text_under};
 ghost use Rattle.wcif_results.specs.Names.{gives, is_called, name_with_id, was_given};
 ghost use Rattle.wcif_results.specs.model.Opened.{held_view, round_view};
 
-use crate::fault::Fault;
+use crate::fault::MeetFault;
 use crate::meet_rounds::MeetRound;
-use crate::named_meet::{Given, NamedMeet};
+use crate::named_meet::{GivenName, NamedMeet};
 use crate::reading::{HeldRound, held_rounds, list_under, person_with, round_with_id, text_under};
 use attempts::{NoMemory, push_decimal};
 use json::Value;
@@ -39,7 +39,7 @@ fn name_with_id(alloc: Global, person: &Value<'_>) -> Result<Vec<u8>, NoMemory>
 }
 
 /// Whether this is one of two names of a number.
-fn gives(one: &Given, number: u16, name: &[u8], with_id: &[u8]) -> bool
+fn gives(one: &GivenName, number: u16, name: &[u8], with_id: &[u8]) -> bool
     ensures { result ≡ gives number name.now with_id.now one.now }
 {
     let found = one.name.as_bytes();
@@ -48,7 +48,7 @@ fn gives(one: &Given, number: u16, name: &[u8], with_id: &[u8]) -> bool
 
 /// Whether a number was given one of two names.
 #[tactic(auto, unfolding(crate::specs::Names::was_given))]
-fn was_given(given: &[Given], number: u16, name: &[u8], with_id: &[u8]) -> bool
+fn was_given(given: &[GivenName], number: u16, name: &[u8], with_id: &[u8]) -> bool
     ensures { result ≡ was_given number name.now with_id.now given.now }
 {
     for one in given {
@@ -62,7 +62,7 @@ fn was_given(given: &[Given], number: u16, name: &[u8], with_id: &[u8]) -> bool
 /// Whether a number was given the name of a person.
 fn is_called(
     alloc: Global,
-    given: &[Given],
+    given: &[GivenName],
     number: u16,
     person: &Value<'_>,
 ) -> Result<bool, NoMemory>
@@ -94,21 +94,21 @@ fn stranger(
     round: &MeetRound<'_>,
     number: u16,
     other: Option<&Value<'_>>,
-) -> Result<Fault, NoMemory>
+) -> Result<MeetFault, NoMemory>
     ensures { IfOk result (λ fault. fault ∷ [] ≡ person_faults meet.now.accepted
         (round_view round.now) number None (option_map (λ v. value_view v.now) other.entry)) }
 {
     let name = name_here(alloc, meet, number)?;
     let (event, round) = (round.event, round.number);
     match other {
-        Some(person) => Ok(Fault::NotAccepted {
+        Some(person) => Ok(MeetFault::NotAccepted {
             event,
             round,
             number,
             name,
             other: name_there(alloc, person)?,
         }),
-        None => Ok(Fault::NoPerson {
+        None => Ok(MeetFault::NoPerson {
             event,
             round,
             number,
@@ -124,14 +124,14 @@ fn named_fault(
     round: &MeetRound<'_>,
     number: u16,
     person: &Value<'_>,
-) -> Result<Option<Fault>, NoMemory>
+) -> Result<Option<MeetFault>, NoMemory>
     ensures { IfOk result (λ fault. option_to_list fault ≡ person_faults meet.now.accepted
         (round_view round.now) number (Some (value_view person.now)) None) }
 {
     if is_called(alloc, meet.given(), number, person)? {
         return Ok(None);
     }
-    Ok(Some(Fault::OtherName {
+    Ok(Some(MeetFault::OtherName {
         event: round.event,
         round: round.number,
         number,
@@ -143,7 +143,7 @@ fn named_fault(
 /// Adds what is wrong with an entrant.
 fn push_entrant(
     alloc: Global,
-    faults: &mut Vec<Fault>,
+    faults: &mut Vec<MeetFault>,
     meet: &NamedMeet,
     persons: &[Value<'_>],
     round: &MeetRound<'_>,
@@ -167,7 +167,7 @@ fn push_entrant(
 /// Adds what is wrong with the entrants of a round.
 fn push_entrants(
     alloc: Global,
-    faults: &mut Vec<Fault>,
+    faults: &mut Vec<MeetFault>,
     meet: &NamedMeet,
     persons: &[Value<'_>],
     round: &MeetRound<'_>,
@@ -185,7 +185,7 @@ fn push_entrants(
 /// Adds what the file has no place for of a round, given the file's round with its id.
 fn push_round(
     alloc: Global,
-    faults: &mut Vec<Fault>,
+    faults: &mut Vec<MeetFault>,
     meet: &NamedMeet,
     persons: &[Value<'_>],
     round: &MeetRound<'_>,
@@ -200,7 +200,7 @@ fn push_round(
     if !round.table.is_attempted(1) {
         return Ok(());
     }
-    faults.push(Fault::NoRound {
+    faults.push(MeetFault::NoRound {
         event: round.event,
         round: round.number,
     })?;
@@ -214,7 +214,7 @@ fn faults_among(
     held: &[HeldRound<'_>],
     persons: &[Value<'_>],
     rounds: &[MeetRound<'_>],
-) -> Result<Vec<Fault>, NoMemory>
+) -> Result<Vec<MeetFault>, NoMemory>
     ensures { IfOk result (λ faults. faults.items
         ≡ flat_map (round_faults meet.now.accepted (map held_view held.now)
         (map value_view persons.now)) (map round_view rounds.now)) }
@@ -234,7 +234,7 @@ pub(crate) fn faults_of(
     meet: &NamedMeet,
     rounds: &[MeetRound<'_>],
     file: &Value<'_>,
-) -> Result<Vec<Fault>, NoMemory>
+) -> Result<Vec<MeetFault>, NoMemory>
     ensures { IfOk result (λ faults. faults.items
         ≡ faults_of meet.now.accepted (map round_view rounds.now) (value_view file.now)) }
 {

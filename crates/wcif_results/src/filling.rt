@@ -5,7 +5,7 @@ ghost use Rattle.json.specs.Token.{key};
 ghost use Rattle.json.specs.Tree.{json_tokens, HasNumbers};
 ghost use Rattle.json.specs.Value.{value_view};
 ghost use Rattle.wcif_results.specs.Filled.{each, filled_round, filled_event, filled_file};
-ghost use Rattle.wcif_results.specs.Filled.{having};
+ghost use Rattle.wcif_results.specs.Filled.{having, value_with};
 ghost use Rattle.wcif_results.specs.Results.{results_json};
 ghost use Rattle.wcif_results.specs.Written.{Adds};
 ghost use Rattle.wcif_results.specs.model.Opened.{round_view};
@@ -125,9 +125,8 @@ fn write_event_member(
 ) -> Result<(), NoMemory>
     requires { HasNumbers (value_view value.now) }
     ensures { OnOk result (Adds out.old out.new (key name.now ∷ json_tokens
-        (if bytes_eq name.now (codes "rounds")
-        then each (filled_round (map round_view rounds.now)) (value_view value.now)
-        else value_view value.now))) }
+        (value_with (codes "rounds") (each (filled_round (map round_view rounds.now)))
+        name.now (value_view value.now)))) }
 {
     out.key(name)?;
     if name.as_bytes() == b"rounds".as_slice() {
@@ -187,9 +186,8 @@ fn write_file_member(
 ) -> Result<(), NoMemory>
     requires { HasNumbers (value_view value.now) }
     ensures { OnOk result (Adds out.old out.new (key name.now ∷ json_tokens
-        (if bytes_eq name.now (codes "events")
-        then each (filled_event (map round_view rounds.now)) (value_view value.now)
-        else value_view value.now))) }
+        (value_with (codes "events") (each (filled_event (map round_view rounds.now)))
+        name.now (value_view value.now)))) }
 {
     out.key(name)?;
     if name.as_bytes() == b"events".as_slice() {

@@ -17,9 +17,9 @@ mod results;
 pub mod results_json;
 
 pub use encoding::{attempt_result, average_result, best_result};
-pub use exporting::{ExportFault, Exported, export};
-pub use fault::Fault;
+pub use exporting::{ExportFault, ExportedFile, export};
+pub use fault::MeetFault;
 pub use laws::{multi_blind_is_the_wcas, others_stay, results_read_back, ten_digits_read_back};
-pub use named_meet::{Given, NamedMeet};
-pub use note::{Note, any_runs};
+pub use named_meet::{GivenName, NamedMeet};
+pub use note::{ExportNote, any_runs};
 pub use results::write_results;

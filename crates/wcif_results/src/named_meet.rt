@@ -14,7 +14,7 @@ use texts::{Answer, Command, CommandFault, Name, read};
 
 /// A name that a number was given by `REG` or `REN`.
 #[derive(Drop)]
-pub struct Given {
+pub struct GivenName {
     pub number: u16,
     pub name: Name,
 }
@@ -24,7 +24,7 @@ pub struct Given {
 pub struct NamedMeet {
     alloc: Global,
     meet: Meet,
-    given: Vec<Given>,
+    given: Vec<GivenName>,
 }
 
 impl Model for NamedMeet {
@@ -40,18 +40,18 @@ impl Model for NamedMeet {
 }
 
 /// The name that a command gives.
-fn given_by(command: Command) -> Option<Given>
+fn given_by(command: Command) -> Option<GivenName>
     ensures { option_to_list result ≡ naming command }
 {
     match command {
-        Command::Register { number, name } => Some(Given { number, name }),
-        Command::Rename { number, name } => Some(Given { number, name }),
+        Command::Register { number, name } => Some(GivenName { number, name }),
+        Command::Rename { number, name } => Some(GivenName { number, name }),
         _ => None,
     }
 }
 
 /// The name that the command of a text gives.
-fn given_in(alloc: Global, text: &[u8]) -> Result<Option<Given>, NoMemory>
+fn given_in(alloc: Global, text: &[u8]) -> Result<Option<GivenName>, NoMemory>
     ensures { IfOk result (λ given. option_to_list given ≡ naming_read (command_of text.now)) }
 {
     match read(alloc, text) {
@@ -63,7 +63,7 @@ fn given_in(alloc: Global, text: &[u8]) -> Result<Option<Given>, NoMemory>
 }
 
 /// Keeps a name, where there is one and its entry is done.
-fn keep(given: &mut Vec<Given>, answer: Answer, name: Option<Given>)
+fn keep(given: &mut Vec<GivenName>, answer: Answer, name: Option<GivenName>)
     requires { vec_len given.old < vec_capacity given.old }
     ensures { given.new.items ≡ given.old.items ++ kept answer name }
 {
@@ -110,7 +110,7 @@ impl NamedMeet {
     }
 
     /// Each name that a number was given.
-    pub fn given(&self) -> &[Given]
+    pub fn given(&self) -> &[GivenName]
         ensures { result.now ≡ names_given self.now.accepted }
     {
         &self.given

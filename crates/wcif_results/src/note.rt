@@ -9,7 +9,7 @@ use wcif::Quoted;
 
 /// What is said of an export that is made.
 #[derive(Drop)]
-pub enum Note {
+pub enum ExportNote {
     /// The round is not closed.
     Running {
         event: Event,
@@ -29,18 +29,18 @@ pub enum Note {
     },
 }
 
-impl fmt::Display for Note {
+impl fmt::Display for ExportNote {
     fn fmt<W: fmt::Write>(&self, f: &mut fmt::Formatter<W>) -> fmt::Result {
         match self {
-            Note::Running { event, round } => {
+            ExportNote::Running { event, round } => {
                 write!(f, "{}-r{round}: the round still runs", event.name())
             }
-            Note::LeftOut { event, round } => write!(
+            ExportNote::LeftOut { event, round } => write!(
                 f,
                 "{}-r{round}: left out: it has no result, and the file has no such round",
                 event.name()
             ),
-            Note::OtherFormat {
+            ExportNote::OtherFormat {
                 event,
                 round,
                 format,
@@ -56,18 +56,18 @@ impl fmt::Display for Note {
 }
 
 /// Whether it says that a round still runs.
-fn is_running(note: &Note) -> bool
+fn is_running(note: &ExportNote) -> bool
     ensures { result ≡ is_running note.now }
 {
     match note {
-        Note::Running { .. } => true,
-        Note::LeftOut { .. } => false,
-        Note::OtherFormat { .. } => false,
+        ExportNote::Running { .. } => true,
+        ExportNote::LeftOut { .. } => false,
+        ExportNote::OtherFormat { .. } => false,
     }
 }
 
 /// Whether a round still runs.
-pub fn any_runs(notes: &[Note]) -> bool
+pub fn any_runs(notes: &[ExportNote]) -> bool
     ensures { result ≡ any_runs notes.now }
 {
     for note in notes {

@@ -7,7 +7,7 @@ ghost use Rattle.wcif_results.specs.Notes.{running_notes};
 ghost use Rattle.wcif_results.specs.model.Opened.{held_view, round_view};
 
 use crate::meet_rounds::MeetRound;
-use crate::note::Note;
+use crate::note::ExportNote;
 use crate::reading::{HeldRound, held_rounds, round_with_id};
 use attempts::NoMemory;
 use formats::Format;
@@ -29,12 +29,12 @@ fn format_text(format: Format) -> &'static str
 }
 
 /// Adds that a round still runs, where it does.
-fn push_running(notes: &mut Vec<Note>, round: &MeetRound<'_>) -> Result<(), NoMemory>
+fn push_running(notes: &mut Vec<ExportNote>, round: &MeetRound<'_>) -> Result<(), NoMemory>
     ensures { OnOk result (notes.new.items
         ≡ notes.old.items ++ running_notes (round_view round.now)) }
 {
     if !round.table.is_closed() {
-        notes.push(Note::Running {
+        notes.push(ExportNote::Running {
             event: round.event,
             round: round.number,
         })?;
@@ -45,7 +45,7 @@ fn push_running(notes: &mut Vec<Note>, round: &MeetRound<'_>) -> Result<(), NoMe
 /// Adds that the format is not that of the file, where it is not.
 fn push_format(
     alloc: Global,
-    notes: &mut Vec<Note>,
+    notes: &mut Vec<ExportNote>,
     round: &MeetRound<'_>,
     text: &[u8],
 ) -> Result<(), NoMemory>
@@ -53,7 +53,7 @@ fn push_format(
         ≡ notes.old.items ++ format_notes (round_view round.now) text.now) }
 {
     if text != format_text(round.format).as_bytes() {
-        notes.push(Note::OtherFormat {
+        notes.push(ExportNote::OtherFormat {
             event: round.event,
             round: round.number,
             format: round.format,
@@ -66,7 +66,7 @@ fn push_format(
 /// Adds what is said of a round, given the file's round with its id.
 fn push_round(
     alloc: Global,
-    notes: &mut Vec<Note>,
+    notes: &mut Vec<ExportNote>,
     round: &MeetRound<'_>,
     held: Option<&HeldRound<'_>>,
 ) -> Result<(), NoMemory>
@@ -74,7 +74,7 @@ fn push_round(
         ++ placed_notes (round_view round.now) (option_map (λ r. held_view r.now) held.entry)) }
 {
     let Some(held) = held else {
-        notes.push(Note::LeftOut {
+        notes.push(ExportNote::LeftOut {
             event: round.event,
             round: round.number,
         })?;
@@ -90,7 +90,7 @@ pub(crate) fn notes_of(
     alloc: Global,
     rounds: &[MeetRound<'_>],
     file: &Value<'_>,
-) -> Result<Vec<Note>, NoMemory>
+) -> Result<Vec<ExportNote>, NoMemory>
     ensures { IfOk result (λ notes. notes.items
         ≡ notes_of (map round_view rounds.now) (value_view file.now)) }
 {

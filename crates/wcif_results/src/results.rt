@@ -16,7 +16,7 @@ use crate::encoding::{attempt_result, average_result, best_result};
 use attempts::{NoMemory, Value};
 use formats::Averaged;
 use json::Writer;
-use rounds::{RoundTable, Row};
+use rounds::{EntrantRow, RoundTable};
 
 /// Writes a number.
 fn write_number(out: &mut Writer, number: u16) -> Result<(), NoMemory>
@@ -84,7 +84,7 @@ fn write_ranking(out: &mut Writer, values: &[Value], place: u16) -> Result<(), N
 }
 
 /// Writes the result of an entrant, given its row.
-fn write_result(out: &mut Writer, number: u16, row: Row<'_>) -> Result<(), NoMemory>
+fn write_result(out: &mut Writer, number: u16, row: EntrantRow<'_>) -> Result<(), NoMemory>
     requires { row.best ≡ best_of row.values.now }
     ensures { OnOk result ((t : Table) (e : Entrant) → IsRow t number e row.entry
         → Adds out.old out.new (json_tokens (result_json t e))) }

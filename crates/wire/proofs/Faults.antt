@@ -9,7 +9,7 @@ use Rattle.wire.specs.declared.fault.WireFault.{WireFault}
 use Rattle.wire.specs.declared.fault.WireFault.TheVariants.{BadLength, BadVersion, BadKind, BadBody}
 use Rattle.wire.specs.declared.fault.WireFault.TheVariants.{NoMemory}
 use Rattle.wire.specs.declared.frame.Frame.{Frame}
-use Rattle.wire.specs.declared.frame.What.{What}
+use Rattle.wire.specs.declared.frame.FrameBody.{FrameBody}
 use Rattle.wire.specs.declared.values.Version.{Version}
 use Rattle.wire.specs.declared.values.Version.TheVariants.{One, Two, Three, Four, Five}
 use Rattle.wire.specs.Numbers.{versions, version_number}
@@ -35,7 +35,7 @@ Shows (Err BadKind) version kind = LacksKind version kind
 Shows (Err BadBody) version kind = HasKind version kind
 Shows (Err NoMemory) version kind = ⊥
 
-from_shows : (v : Version) (hall from to version kind : ℕ) (o : Option What)
+from_shows : (v : Version) (hall from to version kind : ℕ) (o : Option FrameBody)
     → version ≡ version_number v → is_kind v kind ≡ true
     → Shows (frame_from v hall from to o) version kind
 from_shows v hall from to version kind None is k = (v, is, k)

@@ -14,9 +14,9 @@ use Rattle.wire.specs.declared.fault.WireFault.TheVariants.{NoMemory}
 use Rattle.wire.specs.declared.frame.Frame.{Frame}
 use Rattle.wire.specs.Laws.{length_at, IsLength}
 use Rattle.wire.specs.Reading.{between, frame_of}
-use Rattle.wire.specs.Stream.{Front, Waits, Begins, Breaks, by_frame, front, IsBegun}
+use Rattle.wire.specs.Stream.{Front, Waits, Breaks, by_frame, front, IsBegun}
 use Rattle.wire.specs.model.Gives.{GivesFrame}
-use Rattle.wire.specs.model.Steps.{GivesLength, GivesFront, IsToppedUp, Finishes, StandsInFront}
+use Rattle.wire.specs.model.Steps.{GivesLength, IsToppedUp, Finishes, StandsInFront}
 use Rattle.wire.proofs.Faults.{Tells, tells}
 use Rattle.wire.proofs.Pieces.{breaks_more}
 
@@ -74,33 +74,9 @@ waits_short bytes waits = go (ltb (length bytes) 4) refl where
 
 -- ---- what a decoded frame says of the front
 
-pub by_given : (r read : Result Frame WireFault) (y : List ℕ) (bytes : List ℕ) (size : ℕ)
-    → GivesFrame r read
-    → front bytes ≡ by_frame read y → y ≡ drop size bytes → 4 ≤ size → size ≤ length bytes
-    → (f : Frame) → r ≡ Ok f → GivesFront (Ok (Some (f, size))) bytes (front bytes)
-by_given r read y bytes size gives at rest low high f is =
-    let read_is : read ≡ Ok f = subst (λ (x : Result Frame WireFault). GivesFrame x read) is
-    gives in
-    let begins : by_frame read y ≡ Begins f y = ap (λ (x : Result Frame WireFault). by_frame x y)
-    read_is in
-    (at ∙ begins ∙ ap (λ (x : List ℕ). Begins f x) rest, low, high)
-
 begun_by : (read : Result Frame WireFault) (y : List ℕ) → IsOk read → IsBegun (by_frame read y)
 begun_by (Ok f) y h = tt
 begun_by (Err e) y h = absurd cc
-
-pub fault_given : (e : WireFault) (read : Result Frame WireFault) (y bytes : List ℕ)
-    → GivesFrame (Err e) read
-    → front bytes ≡ by_frame read y → GivesFront (Err e) bytes (front bytes)
-fault_given BadLength read y bytes gives at = absurd gives
-fault_given BadVersion read y bytes gives at = at
-    ∙ ap (λ (x : Result Frame WireFault). by_frame x y) gives
-fault_given BadKind read y bytes gives at = at ∙ ap (λ (x : Result Frame WireFault). by_frame x y)
-    gives
-fault_given BadBody read y bytes gives at = at ∙ ap (λ (x : Result Frame WireFault). by_frame x y)
-    gives
-fault_given NoMemory read y bytes gives at =
-    subst (λ (x : Front). IsBegun x) (sym at) (begun_by read y gives)
 
 -- ---- bytes put after the held ones
 
@@ -121,13 +97,6 @@ at_end piece added is = drop_all added piece (omega (arith, is))
 
 pub stands_in_front : (old more : List ℕ) → StandsInFront old (old ++ more)
 stands_in_front old more = take_at old more (length old) refl
-
-pub topped_in_front : (size : ℕ) (piece old new : List ℕ) (added : ℕ)
-    → IsToppedUp size piece old new added
-    → StandsInFront old new
-topped_in_front size piece old new added up =
-    subst (λ (x : List ℕ). StandsInFront old x) (sym up.held)
-    (stands_in_front old (take added piece))
 
 -- at most four bytes are put, and the length is not there
 pub no_length : (piece old new : List ℕ) (added : ℕ) → IsToppedUp 4 piece old new added

@@ -10,12 +10,15 @@ use Rattle.formats.specs.Events.{event_number}
 use Rattle.wire.specs.declared.values.CommandState.{CommandState}
 use Rattle.wire.specs.declared.values.SheetStyle.{SheetStyle}
 use Rattle.wire.specs.declared.values.Version.{Version}
-use Rattle.wire.specs.declared.frame.What.{What}
-use Rattle.wire.specs.declared.frame.What.TheVariants as variant
-use Rattle.wire.specs.declared.frame.What.TheVariants.{Prepare, Promise, Accept, Accepted, Nack}
-use Rattle.wire.specs.declared.frame.What.TheVariants.{Behind, Decided, Submit, Ask, Sheet, Tick}
-use Rattle.wire.specs.declared.frame.What.TheVariants.{Stop, Taken, Told, SheetText, Refused, Fine}
-use Rattle.wire.specs.declared.frame.What.TheVariants.{Status, Log, Await}
+use Rattle.wire.specs.declared.frame.FrameBody.{FrameBody}
+use Rattle.wire.specs.declared.frame.FrameBody.TheVariants as variant
+use Rattle.wire.specs.declared.frame.FrameBody.TheVariants.{Prepare, Promise, Accept, Accepted}
+use Rattle.wire.specs.declared.frame.FrameBody.TheVariants.{Nack}
+use Rattle.wire.specs.declared.frame.FrameBody.TheVariants.{Behind, Decided, Submit, Ask, Sheet}
+use Rattle.wire.specs.declared.frame.FrameBody.TheVariants.{Tick}
+use Rattle.wire.specs.declared.frame.FrameBody.TheVariants.{Stop, Taken, Told, SheetText, Refused}
+use Rattle.wire.specs.declared.frame.FrameBody.TheVariants.{Fine}
+use Rattle.wire.specs.declared.frame.FrameBody.TheVariants.{Status, Log, Await}
 use Rattle.wire.specs.Fields.{byte_at, number_at, two, all_of}
 use Rattle.wire.specs.Numbers.{IsFromThree, IsFromFive, styles, style_number}
 use Rattle.wire.specs.Ranges.{IsBallot, IsPosition, IsId, IsEntry, IsReport, IsCommandState}
@@ -38,7 +41,7 @@ use Rattle.wire.proofs.Bodies.{byte_field, id_field, entry_field, report_field, 
 use Rattle.wire.proofs.Bodies.{style_field, refusal_field, standing_field, log_length_field}
 
 -- the bytes are the fields of this kind, in this version
-pub record IsWhat (v : Version) (kind : ℕ) (bytes : List ℕ) (w : What) : Type 0 where
+pub record IsWhat (v : Version) (kind : ℕ) (bytes : List ℕ) (w : FrameBody) : Type 0 where
   pub number : kind_of w ≡ kind
   pub spelled : bytes ≡ body v w
   pub fits : IsBody v w
@@ -122,123 +125,123 @@ erps_field v = two_fields (λ (x : Event). event_number x ∷ []) (IsEventOf v) 
 
 -- ---- what is read is spelled so
 
-pub prepare_takes : (v : Version) (bytes : List ℕ) (w : What) → IsBytes bytes
+pub prepare_takes : (v : Version) (bytes : List ℕ) (w : FrameBody) → IsBytes bytes
     → prepare_of bytes ≡ Some w → IsWhat v 1 bytes w
 prepare_takes v bytes w fits e =
     let a = bind_some (all_of (two ballot_at position_at) bytes) (λ x. Some (Prepare x.0 x.1)) w
     e in
     let t = all_takes _ _ _ bp_field bytes a.0 fits a.1 in
-    subst (λ (y : What). IsWhat v 1 bytes y) (some_is (Prepare a.0.0 a.0.1) w a.2)
+    subst (λ (y : FrameBody). IsWhat v 1 bytes y) (some_is (Prepare a.0.0 a.0.1) w a.2)
     (record { number = refl; spelled = t.0; fits = t.1 })
 
-pub promise_takes : (v : Version) (bytes : List ℕ) (w : What) → IsBytes bytes
+pub promise_takes : (v : Version) (bytes : List ℕ) (w : FrameBody) → IsBytes bytes
     → promise_of bytes ≡ Some w → IsWhat v 2 bytes w
 promise_takes v bytes w fits e =
     let a = bind_some (all_of (two ballot_at (two position_at report_at)) bytes)
     (λ x. Some (Promise x.0 x.1.0 x.1.1)) w e in
     let t = all_takes _ _ _ bpv_field bytes a.0 fits a.1 in
-    subst (λ (y : What). IsWhat v 2 bytes y) (some_is (Promise a.0.0 a.0.1.0 a.0.1.1) w a.2)
+    subst (λ (y : FrameBody). IsWhat v 2 bytes y) (some_is (Promise a.0.0 a.0.1.0 a.0.1.1) w a.2)
     (record { number = refl; spelled = t.0; fits = (t.1.0, t.1.1.0, t.1.1.1) })
 
-pub accept_takes : (v : Version) (bytes : List ℕ) (w : What) → IsBytes bytes
+pub accept_takes : (v : Version) (bytes : List ℕ) (w : FrameBody) → IsBytes bytes
     → accept_of bytes ≡ Some w → IsWhat v 3 bytes w
 accept_takes v bytes w fits e =
     let a = bind_some (all_of (two ballot_at (two position_at entry_at)) bytes)
     (λ x. Some (Accept x.0 x.1.0 x.1.1)) w e in
     let t = all_takes _ _ _ bpe_field bytes a.0 fits a.1 in
-    subst (λ (y : What). IsWhat v 3 bytes y) (some_is (Accept a.0.0 a.0.1.0 a.0.1.1) w a.2)
+    subst (λ (y : FrameBody). IsWhat v 3 bytes y) (some_is (Accept a.0.0 a.0.1.0 a.0.1.1) w a.2)
     (record { number = refl; spelled = t.0; fits = (t.1.0, t.1.1.0, t.1.1.1) })
 
-pub accepted_takes : (v : Version) (bytes : List ℕ) (w : What) → IsBytes bytes
+pub accepted_takes : (v : Version) (bytes : List ℕ) (w : FrameBody) → IsBytes bytes
     → accepted_of bytes ≡ Some w → IsWhat v 4 bytes w
 accepted_takes v bytes w fits e =
     let a = bind_some (all_of (two ballot_at position_at) bytes) (λ x. Some (Accepted x.0 x.1)) w
     e in
     let t = all_takes _ _ _ bp_field bytes a.0 fits a.1 in
-    subst (λ (y : What). IsWhat v 4 bytes y) (some_is (Accepted a.0.0 a.0.1) w a.2)
+    subst (λ (y : FrameBody). IsWhat v 4 bytes y) (some_is (Accepted a.0.0 a.0.1) w a.2)
     (record { number = refl; spelled = t.0; fits = t.1 })
 
-pub nack_takes : (v : Version) (bytes : List ℕ) (w : What) → IsBytes bytes
+pub nack_takes : (v : Version) (bytes : List ℕ) (w : FrameBody) → IsBytes bytes
     → nack_of bytes ≡ Some w → IsWhat v 5 bytes w
 nack_takes v bytes w fits e =
     let a = bind_some (all_of (two ballot_at (two position_at ballot_at)) bytes)
     (λ x. Some (Nack x.0 x.1.0 x.1.1)) w e in
     let t = all_takes _ _ _ bpb_field bytes a.0 fits a.1 in
-    subst (λ (y : What). IsWhat v 5 bytes y) (some_is (Nack a.0.0 a.0.1.0 a.0.1.1) w a.2)
+    subst (λ (y : FrameBody). IsWhat v 5 bytes y) (some_is (Nack a.0.0 a.0.1.0 a.0.1.1) w a.2)
     (record { number = refl; spelled = t.0; fits = (t.1.0, t.1.1.0, t.1.1.1) })
 
-pub behind_takes : (v : Version) (bytes : List ℕ) (w : What) → IsBytes bytes
+pub behind_takes : (v : Version) (bytes : List ℕ) (w : FrameBody) → IsBytes bytes
     → behind_of bytes ≡ Some w → IsWhat v 6 bytes w
 behind_takes v bytes w fits e =
     let a = bind_some (all_of (limited_at 65536) bytes) (λ x. Some (Behind x)) w e in
     let t = all_takes _ _ _ (limited_field 65536 (omega arith)) bytes a.0 fits a.1 in
-    subst (λ (y : What). IsWhat v 6 bytes y) (some_is (Behind a.0) w a.2)
+    subst (λ (y : FrameBody). IsWhat v 6 bytes y) (some_is (Behind a.0) w a.2)
     (record { number = refl; spelled = t.0; fits = t.1 })
 
-pub decided_takes : (v : Version) (bytes : List ℕ) (w : What) → IsBytes bytes
+pub decided_takes : (v : Version) (bytes : List ℕ) (w : FrameBody) → IsBytes bytes
     → decided_of v bytes ≡ Some w → IsWhat v 7 bytes w
 decided_takes v bytes w fits e =
     let run = run_takes v bytes w fits e in
-    subst (λ (y : What). IsWhat v 7 bytes y) (sym run.is)
+    subst (λ (y : FrameBody). IsWhat v 7 bytes y) (sym run.is)
     (record { number = refl; spelled = run.spelled; fits = run.fits })
 
-pub submit_takes : (v : Version) (bytes : List ℕ) (w : What) → IsBytes bytes
+pub submit_takes : (v : Version) (bytes : List ℕ) (w : FrameBody) → IsBytes bytes
     → submit_of bytes ≡ Some w → IsWhat v 16 bytes w
 submit_takes v bytes w fits e =
     let a = bind_some (all_of entry_at bytes) (λ x. Some (Submit x)) w e in
     let t = all_takes _ _ _ entry_field bytes a.0 fits a.1 in
-    subst (λ (y : What). IsWhat v 16 bytes y) (some_is (Submit a.0) w a.2)
+    subst (λ (y : FrameBody). IsWhat v 16 bytes y) (some_is (Submit a.0) w a.2)
     (record { number = refl; spelled = t.0; fits = t.1 })
 
-pub ask_takes : (v : Version) (bytes : List ℕ) (w : What) → IsBytes bytes
+pub ask_takes : (v : Version) (bytes : List ℕ) (w : FrameBody) → IsBytes bytes
     → ask_of bytes ≡ Some w → IsWhat v 17 bytes w
 ask_takes v bytes w fits e =
     let a = bind_some (all_of id_at bytes) (λ x. Some (Ask x)) w e in
     let t = all_takes _ _ _ id_field bytes a.0 fits a.1 in
-    subst (λ (y : What). IsWhat v 17 bytes y) (some_is (Ask a.0) w a.2)
+    subst (λ (y : FrameBody). IsWhat v 17 bytes y) (some_is (Ask a.0) w a.2)
     (record { number = refl; spelled = t.0; fits = t.1 })
 
-pub sheet_takes : (v : Version) (bytes : List ℕ) (w : What) → IsBytes bytes
+pub sheet_takes : (v : Version) (bytes : List ℕ) (w : FrameBody) → IsBytes bytes
     → sheet_of v bytes ≡ Some w → IsWhat v 18 bytes w
 sheet_takes v bytes w fits e =
     let a = bind_some (all_of (two (event_at v)
     (two byte_at (two (number_at w32) (member_at style_number styles)))) bytes)
     (λ x. Some (Sheet x.0 x.1.0 x.1.1.0 x.1.1.1)) w e in
     let t = all_takes _ _ _ (erps_field v) bytes a.0 fits a.1 in
-    subst (λ (y : What). IsWhat v 18 bytes y)
+    subst (λ (y : FrameBody). IsWhat v 18 bytes y)
     (some_is (Sheet a.0.0 a.0.1.0 a.0.1.1.0 a.0.1.1.1) w a.2)
     (record { number = refl; spelled = t.0; fits = (t.1.0, t.1.1.0, t.1.1.1.0) })
 
-pub taken_takes : (v : Version) (bytes : List ℕ) (w : What) → IsBytes bytes
+pub taken_takes : (v : Version) (bytes : List ℕ) (w : FrameBody) → IsBytes bytes
     → taken_of bytes ≡ Some w → IsWhat v 32 bytes w
 taken_takes v bytes w fits e =
     let a = bind_some (all_of id_at bytes) (λ x. Some (Taken x)) w e in
     let t = all_takes _ _ _ id_field bytes a.0 fits a.1 in
-    subst (λ (y : What). IsWhat v 32 bytes y) (some_is (Taken a.0) w a.2)
+    subst (λ (y : FrameBody). IsWhat v 32 bytes y) (some_is (Taken a.0) w a.2)
     (record { number = refl; spelled = t.0; fits = t.1 })
 
-pub told_takes : (v : Version) (bytes : List ℕ) (w : What) → IsBytes bytes
+pub told_takes : (v : Version) (bytes : List ℕ) (w : FrameBody) → IsBytes bytes
     → told_of v bytes ≡ Some w → IsWhat v 33 bytes w
 told_takes v bytes w fits e =
     let a = bind_some (all_of (two id_at (state_at v)) bytes) (λ x. Some (Told x.0 x.1)) w e in
     let t = all_takes _ _ _ (is_field v) bytes a.0 fits a.1 in
-    subst (λ (y : What). IsWhat v 33 bytes y) (some_is (Told a.0.0 a.0.1) w a.2)
+    subst (λ (y : FrameBody). IsWhat v 33 bytes y) (some_is (Told a.0.0 a.0.1) w a.2)
     (record { number = refl; spelled = t.0; fits = t.1 })
 
-pub refused_takes : (v : Version) (bytes : List ℕ) (w : What) → IsBytes bytes
+pub refused_takes : (v : Version) (bytes : List ℕ) (w : FrameBody) → IsBytes bytes
     → refused_of v bytes ≡ Some w → IsWhat v 35 bytes w
 refused_takes v bytes w fits e =
     let a = bind_some (all_of (refusal_at v) bytes) (λ x. Some (Refused x)) w e in
     let t = all_takes _ _ _ (refusal_field v) bytes a.0 fits a.1 in
-    subst (λ (y : What). IsWhat v 35 bytes y) (some_is (Refused a.0) w a.2)
+    subst (λ (y : FrameBody). IsWhat v 35 bytes y) (some_is (Refused a.0) w a.2)
     (record { number = refl; spelled = t.0; fits = t.1 })
 
-pub position_takes : (v : Version) (bytes : List ℕ) (w : What) → IsFromThree v → IsBytes bytes
+pub position_takes : (v : Version) (bytes : List ℕ) (w : FrameBody) → IsFromThree v → IsBytes bytes
     → log_of bytes ≡ Some w → IsWhat v 22 bytes w
 position_takes v bytes w three fits e =
     let a = bind_some (all_of log_length_at bytes) (λ x. Some (Log x)) w e in
     let t = all_takes _ _ _ log_length_field bytes a.0 fits a.1 in
-    subst (λ (y : What). IsWhat v 22 bytes y) (some_is (Log a.0) w a.2)
+    subst (λ (y : FrameBody). IsWhat v 22 bytes y) (some_is (Log a.0) w a.2)
     (record { number = refl; spelled = t.0; fits = (three, t.1) })
 
 -- an id, and a number of seconds
@@ -247,21 +250,22 @@ wait_field : IsField (λ (p : ℕ × ℕ). u64 p.0 ++ p.1 ∷ []) (λ (p : ℕ �
 wait_field = two_fields u64 IsId id_at (λ (b : ℕ). b ∷ []) (λ (b : ℕ). b < 256) byte_at id_field
     byte_field
 
-pub await_takes : (v : Version) (bytes : List ℕ) (w : What) → IsFromFive v → IsBytes bytes
+pub await_takes : (v : Version) (bytes : List ℕ) (w : FrameBody) → IsFromFive v → IsBytes bytes
     → await_of bytes ≡ Some w → IsWhat v 23 bytes w
 await_takes v bytes w five fits e =
     let a = bind_some (all_of (two id_at byte_at) bytes) (λ x. Some (Await x.0 x.1)) w e in
     let t = all_takes _ _ _ wait_field bytes a.0 fits a.1 in
-    subst (λ (y : What). IsWhat v 23 bytes y) (some_is (Await a.0.0 a.0.1) w a.2)
+    subst (λ (y : FrameBody). IsWhat v 23 bytes y) (some_is (Await a.0.0 a.0.1) w a.2)
     (record { number = refl; spelled = t.0; fits = (five, t.1.0, t.1.1) })
 
-pub standing_takes : (v : Version) (bytes : List ℕ) (w : What) → IsFromThree v → IsBytes bytes
+pub standing_takes : (v : Version) (bytes : List ℕ) (w : FrameBody) → IsFromThree v → IsBytes bytes
     → standing_of v bytes ≡ Some w → IsWhat v 37 bytes w
 standing_takes v bytes w three fits e =
     let a = bind_some (all_of (parts_at v) bytes)
     (λ x. Some (variant.Standing (standing_from x))) w e in
     let t = all_takes _ _ _ (parts_field v) bytes a.0 fits a.1 in
-    subst (λ (y : What). IsWhat v 37 bytes y) (some_is (variant.Standing (standing_from a.0)) w a.2)
+    subst (λ (y : FrameBody). IsWhat v 37 bytes y)
+    (some_is (variant.Standing (standing_from a.0)) w a.2)
     (record {
       number = refl;
       spelled = t.0 ∙ joined_bytes v (standing_from a.0);
@@ -277,16 +281,16 @@ standing_takes v bytes w three fits e =
       );
     })
 
-pub entries_takes : (v : Version) (bytes : List ℕ) (w : What) → IsFromThree v → IsBytes bytes
+pub entries_takes : (v : Version) (bytes : List ℕ) (w : FrameBody) → IsFromThree v → IsBytes bytes
     → entries_of bytes ≡ Some w → IsWhat v 38 bytes w
 entries_takes v bytes w three fits e =
     let log = log_takes bytes w fits e in
-    subst (λ (y : What). IsWhat v 38 bytes y) (sym log.is)
+    subst (λ (y : FrameBody). IsWhat v 38 bytes y) (sym log.is)
     (record { number = refl; spelled = log.spelled; fits = (three, log.fits) })
 
 -- ---- what is spelled so is read
 
-pub what_again : (v : Version) (w : What) → IsBody v w
+pub what_again : (v : Version) (w : FrameBody) → IsBody v w
     → what_of v (kind_of w) (body v w) ≡ Some w
 unfolding what_of
 what_again v (Prepare b pos) fits = rw (all_again _ _ _ bp_field (b, pos) fits) refl

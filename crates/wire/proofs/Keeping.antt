@@ -11,7 +11,7 @@ use Rattle.wire.specs.declared.fault.WireFault.TheVariants.{NoMemory}
 use Rattle.wire.specs.declared.frame.Frame.{Frame}
 use Rattle.wire.specs.Spelling.{spelling}
 use Rattle.wire.specs.Stream.{Front, Waits, Begins, Breaks, front, IsBegun, Ends, IsOfStream}
-use Rattle.wire.specs.Stream.{IsKept, Reader, holding, broken, keeps, Feeds, RefusesFault, Refuses}
+use Rattle.wire.specs.Stream.{IsKept, Reader, broken, keeps, Feeds, RefusesFault, Refuses}
 use Rattle.wire.specs.model.Steps.{IsTaken, ReadsOn}
 use Rattle.wire.proofs.Taking.{IsBytes}
 use Rattle.wire.proofs.Streams.{front_takes}
@@ -74,15 +74,6 @@ broken_after stream frames reader fed some =
 
 -- ---- one frame in front, and then the rest
 
-nil_then : (frames : List Frame) → [] ++ frames ≡ frames
-nil_then frames = refl
-
-pub read_from_none : (bytes : List ℕ) (after : List Frame) (reader : Reader)
-    → ReadsOn bytes [] after reader
-    → Feeds bytes after reader
-read_from_none bytes after reader on = subst (λ (fs : List Frame). Feeds bytes fs reader)
-    (sym on.added) on.feeds
-
 pub read_from_one : (stream rest : List ℕ) (f : Frame) (after : List Frame) (reader : Reader)
     → IsBytes stream
     → front stream ≡ Begins f rest → ReadsOn rest (f ∷ []) after reader → Feeds stream after reader
@@ -102,25 +93,6 @@ read_from_one stream rest f after reader fits begins on =
     subst (λ (fs : List Frame). Feeds stream fs reader) (sym on.added) fed
 
 -- ---- no frame at all
-
-pub read_waits : (stream : List ℕ) → front stream ≡ Waits → Feeds stream [] (holding stream)
-read_waits stream at = record {
-  rest = stream;
-  whole = refl;
-  each = tt;
-  ends = λ begun. subst (λ (x : Front). IsBegun x) at begun;
-  keeps = ap (λ (x : Front). keeps x stream) (sym at);
-}
-
-pub read_breaks : (stream : List ℕ) (e : WireFault) → front stream ≡ Breaks e
-    → Feeds stream [] (broken e)
-read_breaks stream e at = record {
-  rest = stream;
-  whole = refl;
-  each = tt;
-  ends = λ begun. subst (λ (x : Front). IsBegun x) at begun;
-  keeps = ap (λ (x : Front). keeps x stream) (sym at);
-}
 
 -- a call that answers a fault at once
 broken_at : (at : Front) (rest : List ℕ) (reader : Reader) (e : WireFault) → reader ≡ keeps at rest

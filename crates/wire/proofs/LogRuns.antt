@@ -7,15 +7,15 @@ use Rattle.std.specs.Int.{w16, to_be_bytes}
 use Rattle.std.specs.List.{flat_map}
 use Rattle.std.proofs.lemmas.Bool.{eqb-true, leb-true, le-leb, or_left, or_right}
 use Rattle.acceptor.specs.declared.entry.Entry.{Entry}
-use Rattle.wire.specs.declared.frame.What.{What}
-use Rattle.wire.specs.declared.frame.What.TheVariants.{Entries}
+use Rattle.wire.specs.declared.frame.FrameBody.{FrameBody}
+use Rattle.wire.specs.declared.frame.FrameBody.TheVariants.{Entries}
 use Rattle.wire.specs.Fields.{◌>>=◌, number_at, all_of}
 use Rattle.wire.specs.Ranges.{AreOfLog}
 use Rattle.wire.specs.Reading.{log_length_at, log_count_at, entries_at, entries_of}
 use Rattle.wire.specs.Spelling.{entry_bytes, log_bytes}
 use Rattle.wire.proofs.Taking.{IsBytes, bind_some, passed, Takes, wide16, number_takes}
 use Rattle.wire.proofs.Taking.{number_again}
-use Rattle.wire.proofs.Sequences.{IsField, all_takes, all_again}
+use Rattle.wire.proofs.Sequences.{all_takes, all_again}
 use Rattle.wire.proofs.Bodies.{u32, log_length_field}
 use Rattle.wire.proofs.Runs.{entries_field, entries_short}
 
@@ -38,9 +38,6 @@ count_again : (n : ℕ) (rest : List ℕ) → n ≤ 400 → log_count_at (u16 n 
 unfolding log_count_at
 count_again n rest le =
     rw (number_again w16 (2 ^ 16) wide16 n rest (omega (arith, le)), le-leb _ _ le) refl
-
-count_field : IsField u16 (λ n. n ≤ 400) log_count_at
-count_field = record { takes = count_takes; again = count_again }
 
 -- ---- none, or they end within the log
 
@@ -67,7 +64,7 @@ within_holds position len n (inr le) =
 
 -- ---- the whole
 
-pub record IsLog (bytes : List ℕ) (w : What) : Type 0 where
+pub record IsLog (bytes : List ℕ) (w : FrameBody) : Type 0 where
   pub position : ℕ
   pub len : ℕ
   pub entries : List Entry
@@ -81,7 +78,7 @@ joined : (position len n : ℕ) (bytes x y z : List ℕ) (es : List Entry) → b
     → bytes ≡ log_bytes position len es
 joined position len n bytes x y z es e f g h so_many = rw (e, f, g, h, so_many) refl
 
-pub log_takes : (bytes : List ℕ) (w : What) → IsBytes bytes → entries_of bytes ≡ Some w
+pub log_takes : (bytes : List ℕ) (w : FrameBody) → IsBytes bytes → entries_of bytes ≡ Some w
     → IsLog bytes w
 log_takes bytes w fits e =
     let a = bind_some (log_length_at bytes)

@@ -7,8 +7,8 @@ use Rattle.std.specs.List.{flat_map, AllByRecursion}
 use Rattle.std.proofs.lemmas.Bool.{leb-true, le-leb}
 use Rattle.std.proofs.lemmas.List.{length-append, take_more, flat_map_more}
 use Rattle.acceptor.specs.declared.entry.Entry.{Entry}
-use Rattle.wire.specs.declared.frame.What.{What}
-use Rattle.wire.specs.declared.frame.What.TheVariants.{Decided}
+use Rattle.wire.specs.declared.frame.FrameBody.{FrameBody}
+use Rattle.wire.specs.declared.frame.FrameBody.TheVariants.{Decided}
 use Rattle.wire.specs.declared.values.Version.{Version}
 use Rattle.wire.specs.declared.values.Version.TheVariants.{One, Two, Three, Four, Five}
 use Rattle.wire.specs.Fields.{◌>>=◌, byte_at, all_of}
@@ -58,7 +58,7 @@ entries_field n = many_field entry_bytes IsEntry entry_at entry_field n
 
 -- ---- the whole
 
-pub record IsRun (v : Version) (bytes : List ℕ) (w : What) : Type 0 where
+pub record IsRun (v : Version) (bytes : List ℕ) (w : FrameBody) : Type 0 where
   pub pos : ℕ
   pub entries : List Entry
   pub is : w ≡ Decided pos entries
@@ -71,7 +71,7 @@ joined : (v : Version) (pos n : ℕ) (bytes x y : List ℕ) (es : List Entry) �
     → bytes ≡ decided_bytes v pos es
 joined v pos n bytes x y es e f g so_many = rw (e, f, g, so_many) refl
 
-pub run_takes : (v : Version) (bytes : List ℕ) (w : What) → IsBytes bytes
+pub run_takes : (v : Version) (bytes : List ℕ) (w : FrameBody) → IsBytes bytes
     → decided_of v bytes ≡ Some w → IsRun v bytes w
 run_takes v bytes w fits e =
     let a = bind_some (position_at bytes)

@@ -13,7 +13,7 @@ use Rattle.wire.specs.declared.standing.Difference.{Difference}
 use Rattle.wire.specs.declared.standing.Difference.TheVariants.{OtherEntry, Shorter}
 use Rattle.wire.specs.declared.standing.Lengths.{Lengths}
 use Rattle.wire.specs.declared.standing.Lengths.TheVariants.{OfThree, OfFive}
-use Rattle.wire.specs.declared.standing.Standing.{Standing}
+use Rattle.wire.specs.declared.standing.DeskStatus.{DeskStatus}
 use Rattle.wire.specs.declared.values.DeskRole.{DeskRole}
 use Rattle.wire.specs.declared.values.Version.{Version}
 use Rattle.wire.specs.declared.values.Version.TheVariants.{One, Two, Three, Four, Five}
@@ -326,7 +326,7 @@ parts_at v bytes =
     two log_length_at
     (two byte_at (two role_at (two promised_at (two lengths_at (differs_at v))))) bytes
 
-abbrev pub standing_from : Parts → Standing
+abbrev pub standing_from : Parts → DeskStatus
 standing_from p = record {
   length = p.0;
   waiting = p.1.0;
@@ -379,7 +379,7 @@ differs_short Three x = omega arith
 differs_short Four x = omega arith
 differs_short Five x = difference_short x
 
-pub standing_short : (v : Version) (s : Standing) → IsStanding v s
+pub standing_short : (v : Version) (s : DeskStatus) → IsStanding v s
     → length (standing_bytes v s) ≤ 299992
 standing_short v s fits =
     omega (
@@ -393,14 +393,14 @@ standing_short v s fits =
     )
 
 -- how a desk is, with the fields one in the other as they are read
-abbrev pub nested_bytes : Version → Standing → List ℕ
+abbrev pub nested_bytes : Version → DeskStatus → List ℕ
 nested_bytes v s =
     u32 s.length
     ++ (one s.waiting
     ++ (role_byte s.role
     ++ (promised_bytes s.promised ++ (lengths_bytes s.told ++ differs_bytes v s.differs))))
 
-pub joined_bytes : (v : Version) (s : Standing) → nested_bytes v s ≡ standing_bytes v s
+pub joined_bytes : (v : Version) (s : DeskStatus) → nested_bytes v s ≡ standing_bytes v s
 joined_bytes v s =
     ap (λ z. u32 s.length ++ (one s.waiting ++ (role_byte s.role ++ z)))
     (sym (append_assoc (promised_bytes s.promised) (lengths_bytes s.told)

@@ -12,12 +12,15 @@ use Rattle.wire.specs.declared.frame.Frame.{Frame}
 use Rattle.wire.specs.declared.values.CommandState.{CommandState}
 use Rattle.wire.specs.declared.values.CommandState.TheVariants as states
 use Rattle.wire.specs.declared.values.Version.{Version}
-use Rattle.wire.specs.declared.frame.What.{What}
-use Rattle.wire.specs.declared.frame.What.TheVariants as variant
-use Rattle.wire.specs.declared.frame.What.TheVariants.{Prepare, Promise, Accept, Accepted, Nack}
-use Rattle.wire.specs.declared.frame.What.TheVariants.{Behind, Decided, Submit, Ask, Sheet, Tick}
-use Rattle.wire.specs.declared.frame.What.TheVariants.{Stop, Taken, Told, SheetText, Refused, Fine}
-use Rattle.wire.specs.declared.frame.What.TheVariants.{Status, Log, Await}
+use Rattle.wire.specs.declared.frame.FrameBody.{FrameBody}
+use Rattle.wire.specs.declared.frame.FrameBody.TheVariants as variant
+use Rattle.wire.specs.declared.frame.FrameBody.TheVariants.{Prepare, Promise, Accept, Accepted}
+use Rattle.wire.specs.declared.frame.FrameBody.TheVariants.{Nack}
+use Rattle.wire.specs.declared.frame.FrameBody.TheVariants.{Behind, Decided, Submit, Ask, Sheet}
+use Rattle.wire.specs.declared.frame.FrameBody.TheVariants.{Tick}
+use Rattle.wire.specs.declared.frame.FrameBody.TheVariants.{Stop, Taken, Told, SheetText, Refused}
+use Rattle.wire.specs.declared.frame.FrameBody.TheVariants.{Fine}
+use Rattle.wire.specs.declared.frame.FrameBody.TheVariants.{Status, Log, Await}
 use Rattle.wire.specs.Ranges.{IsReport, IsBody, IsFrame}
 use Rattle.wire.specs.Reading.{between, frame_of}
 use Rattle.wire.specs.Spelling.{report_bytes, state_bytes, body, inside, spelling}
@@ -40,7 +43,7 @@ state_short states.Unknown = omega arith
 state_short states.Pending = omega arith
 state_short (states.Done pos a) = omega arith
 
-body_short : (v : Version) (w : What) → IsBody v w → length (body v w) ≤ 299992
+body_short : (v : Version) (w : FrameBody) → IsBody v w → length (body v w) ≤ 299992
 body_short v (Prepare b pos) h = omega arith
 body_short v (Promise b pos vote) h = omega (arith, report_short vote h.2)
 body_short v (Accept b pos e) h = omega (arith, h.2.1)

@@ -7,7 +7,7 @@ use Rattle.texts.specs.declared.answer.Code.TheVariants.{Unread}
 use Rattle.wire.specs.declared.values.CommandState.{CommandState}
 use Rattle.wire.specs.declared.values.CommandState.TheVariants.{Unknown, Pending, Done}
 use Rattle.wire.specs.declared.values.Version.{Version}
-use Rattle.wire.specs.declared.standing.Standing.{Standing}
+use Rattle.wire.specs.declared.standing.DeskStatus.{DeskStatus}
 use Rattle.wire.specs.declared.values.ClientRefusal.{ClientRefusal}
 use Rattle.wire.specs.declared.values.ClientRefusal.TheVariants.{Down}
 use Rattle.wire.specs.declared.values.Version.TheVariants.{One, Two, Three, Four, Five}
@@ -57,7 +57,7 @@ refusal_told v r = step (leb (refusal_number r) (last_refusal v)) refl
     step true is = leb-true _ _ is
     step false is = down_told v
 
-pub standing_told : (v : Version) (s : Standing) → IsStanding Five s
+pub standing_told : (v : Version) (s : DeskStatus) → IsStanding Five s
     → IsStanding v (standing_in v s)
 standing_told One s fits = record {
   log = fits.log;

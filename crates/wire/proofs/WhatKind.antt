@@ -9,11 +9,11 @@ use Rattle.wire.specs.declared.fault.WireFault.{WireFault}
 use Rattle.wire.specs.declared.fault.WireFault.TheVariants.{BadLength, BadVersion, BadKind, BadBody}
 use Rattle.wire.specs.declared.fault.WireFault.TheVariants.{NoMemory}
 use Rattle.wire.specs.declared.frame.Frame.{Frame}
-use Rattle.wire.specs.declared.frame.What.{What}
+use Rattle.wire.specs.declared.frame.FrameBody.{FrameBody}
 use Rattle.wire.specs.Fields.{◌>>=◌, all_of}
 use Rattle.wire.specs.Ranges.{way_of_kind, way_of}
-use Rattle.wire.specs.declared.frame.What.TheVariants.{Decided}
-use Rattle.wire.specs.declared.frame.What.TheVariants as variant
+use Rattle.wire.specs.declared.frame.FrameBody.TheVariants.{Decided}
+use Rattle.wire.specs.declared.frame.FrameBody.TheVariants as variant
 use Rattle.wire.specs.declared.values.Version.{Version}
 use Rattle.wire.specs.Reading.{position_at, count_at, entries_at, decided_of, what_of, is_kind}
 use Rattle.wire.specs.Reading.{goes, frame_from, frame_in, version_of, frame_of, log_length_at}
@@ -23,30 +23,30 @@ use Rattle.wire.proofs.Taking.{bind_some, some_is}
 use Rattle.wire.specs.model.Gives.{LacksBody, GivesFrame}
 
 -- fields that were read into a kind
-made : {A : Type 0} (o : Option A) (f : A → What) (kind : ℕ) (w : What)
+made : {A : Type 0} (o : Option A) (f : A → FrameBody) (kind : ℕ) (w : FrameBody)
     → ((x : A) → kind_of (f x) ≡ kind)
     → o >>= (λ x. Some (f x)) ≡ Some w → kind_of w ≡ kind
 made (Some x) f kind w number e =
     let same : f x ≡ w = cc in
-    subst (λ (y : What). kind_of y ≡ kind) same (number x)
+    subst (λ (y : FrameBody). kind_of y ≡ kind) same (number x)
 made None f kind w number e = absurd cc
 
-empty_made : (b : Bool) (what : What) (kind : ℕ) (w : What) → kind_of what ≡ kind
+empty_made : (b : Bool) (what : FrameBody) (kind : ℕ) (w : FrameBody) → kind_of what ≡ kind
     → cond b (Some what) None ≡ Some w → kind_of w ≡ kind
 empty_made true what kind w number e =
     let same : what ≡ w = cc in
-    subst (λ (y : What). kind_of y ≡ kind) same number
+    subst (λ (y : FrameBody). kind_of y ≡ kind) same number
 empty_made false what kind w number e = absurd cc
 
 -- one test of the chain: the kind is this one, or the chain goes on
-pick : (kind k : ℕ) (w : What) (x y : Option What) → (x ≡ Some w → kind_of w ≡ k)
+pick : (kind k : ℕ) (w : FrameBody) (x y : Option FrameBody) → (x ≡ Some w → kind_of w ≡ k)
     → (y ≡ Some w → kind_of w ≡ kind) → cond (eqb kind k) x y ≡ Some w → kind_of w ≡ kind
 pick kind k w x y here there e = go (eqb kind k) refl e where
   go : (b : Bool) → eqb kind k ≡ b → cond b x y ≡ Some w → kind_of w ≡ kind
   go true t h = subst (λ (n : ℕ). kind_of w ≡ n) (sym (eqb-true _ _ t)) (here h)
   go false t h = there h
 
-run_made : (v : Version) (bytes : List ℕ) (w : What) → decided_of v bytes ≡ Some w
+run_made : (v : Version) (bytes : List ℕ) (w : FrameBody) → decided_of v bytes ≡ Some w
     → kind_of w ≡ 7
 run_made v bytes w e =
     let a = bind_some (position_at bytes)
@@ -59,7 +59,7 @@ run_made v bytes w e =
     (λ es. cond (leb (a.0.0 + b.0.0) 65536) (Some (Decided a.0.0 es)) None) w b.2 in
     empty_made (leb (a.0.0 + b.0.0) 65536) (Decided a.0.0 c.0) 7 w refl c.2
 
-log_made : (bytes : List ℕ) (w : What) → entries_of bytes ≡ Some w → kind_of w ≡ 38
+log_made : (bytes : List ℕ) (w : FrameBody) → entries_of bytes ≡ Some w → kind_of w ≡ 38
 log_made bytes w e =
     let a = bind_some (log_length_at bytes)
     (λ p. log_length_at p.1 >>= λ l. log_count_at l.1 >>= λ c. all_of (entries_at c.0) c.1
@@ -79,7 +79,7 @@ log_made bytes w e =
     empty_made (eqb c.0.0 0 || leb (a.0.0 + c.0.0) b.0.0) (variant.Entries a.0.0 b.0.0 d.0) 38 w
     refl d.2
 
-pub kind_is : (v : Version) (kind : ℕ) (bytes : List ℕ) (w : What)
+pub kind_is : (v : Version) (kind : ℕ) (bytes : List ℕ) (w : FrameBody)
     → what_of v kind bytes ≡ Some w → kind_of w ≡ kind
 unfolding what_of
 kind_is v kind bytes w e =
@@ -108,8 +108,8 @@ kind_is v kind bytes w e =
     (λ h. absurd cc)))))))))))))))))))))) e
 
 -- a sender or a receiver that does not fit the kind, whatever was read
-pub turned_away : (v : Version) (hall from to kind : ℕ) (o : Option What)
-    → ((w : What) → o ≡ Some w → kind_of w ≡ kind) → goes (way_of_kind kind) from to ≡ false
+pub turned_away : (v : Version) (hall from to kind : ℕ) (o : Option FrameBody)
+    → ((w : FrameBody) → o ≡ Some w → kind_of w ≡ kind) → goes (way_of_kind kind) from to ≡ false
     → frame_from v hall from to o ≡ Err BadBody
 turned_away v hall from to kind None read away = refl
 turned_away v hall from to kind (Some w) read away =
@@ -119,7 +119,7 @@ turned_away v hall from to kind (Some w) read away =
     rw same refl
 
 -- one that fits
-pub let_in : (v : Version) (hall from to kind : ℕ) (w : What) → kind_of w ≡ kind
+pub let_in : (v : Version) (hall from to kind : ℕ) (w : FrameBody) → kind_of w ≡ kind
     → goes (way_of_kind kind) from to ≡ true
     → frame_from v hall from to (Some w) ≡ Ok (record {
       version = v;
@@ -175,7 +175,7 @@ good_is v (version ∷ a ∷ b ∷ c ∷ d ∷ from ∷ to ∷ kind ∷ bytes) g
     read_by_kind v (version_of version) kind (from_be_bytes w32 (a ∷ b ∷ c ∷ d ∷ [])) from to
     bytes g.version g.kind
 
-pub good_read : (v : Version) (bytes : List ℕ) (w : What) → IsGood v bytes
+pub good_read : (v : Version) (bytes : List ℕ) (w : FrameBody) → IsGood v bytes
     → what_of v (get_or bytes 7 0) (drop 8 bytes) ≡ Some w
     → frame_of bytes ≡ Ok (record {
       version = v;
@@ -187,20 +187,21 @@ pub good_read : (v : Version) (bytes : List ℕ) (w : What) → IsGood v bytes
     })
 good_read v bytes w g read =
     good_is v bytes g
-    ∙ ap (λ (o : Option What). frame_from v (hall_at bytes) (get_or bytes 5 0) (get_or bytes 6 0) o)
+    ∙ ap (λ (o : Option FrameBody). frame_from v (hall_at bytes) (get_or bytes 5 0)
+    (get_or bytes 6 0) o)
     read
     ∙ let_in v (hall_at bytes) (get_or bytes 5 0) (get_or bytes 6 0) (get_or bytes 7 0) w
     (kind_is v (get_or bytes 7 0) (drop 8 bytes) w read) g.goes
 
-lacking : (v : Version) (hall from to kind : ℕ) (e : WireFault) (o : Option What)
-    → ((w : What) → o ≡ Some w → kind_of w ≡ kind)
+lacking : (v : Version) (hall from to kind : ℕ) (e : WireFault) (o : Option FrameBody)
+    → ((w : FrameBody) → o ≡ Some w → kind_of w ≡ kind)
     → goes (way_of_kind kind) from to ≡ true → LacksBody e o
     → GivesFrame (Err e) (frame_from v hall from to o)
 lacking v hall from to kind BadLength o read fits lacks = absurd lacks
 lacking v hall from to kind BadVersion o read fits lacks = absurd lacks
 lacking v hall from to kind BadKind o read fits lacks = absurd lacks
 lacking v hall from to kind BadBody o read fits lacks =
-    ap (λ (x : Option What). frame_from v hall from to x) lacks
+    ap (λ (x : Option FrameBody). frame_from v hall from to x) lacks
 lacking v hall from to kind NoMemory None read fits lacks = absurd cc
 lacking v hall from to kind NoMemory (Some w) read fits lacks =
     let there = let_in v hall from to kind w (read w refl) fits in

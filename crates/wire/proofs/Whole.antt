@@ -8,12 +8,15 @@ use Rattle.std.proofs.lemmas.List.{nil_from_length}
 use Rattle.wire.specs.declared.fault.WireFault.{WireFault}
 use Rattle.wire.specs.declared.fault.WireFault.TheVariants.{BadKind, BadBody}
 use Rattle.wire.specs.declared.frame.Frame.{Frame}
-use Rattle.wire.specs.declared.frame.What.{What}
-use Rattle.wire.specs.declared.frame.What.TheVariants as variant
-use Rattle.wire.specs.declared.frame.What.TheVariants.{Prepare, Promise, Accept, Accepted, Nack}
-use Rattle.wire.specs.declared.frame.What.TheVariants.{Behind, Decided, Submit, Ask, Sheet, Tick}
-use Rattle.wire.specs.declared.frame.What.TheVariants.{Stop, Taken, Told, SheetText, Refused, Fine}
-use Rattle.wire.specs.declared.frame.What.TheVariants.{Status, Log, Await}
+use Rattle.wire.specs.declared.frame.FrameBody.{FrameBody}
+use Rattle.wire.specs.declared.frame.FrameBody.TheVariants as variant
+use Rattle.wire.specs.declared.frame.FrameBody.TheVariants.{Prepare, Promise, Accept, Accepted}
+use Rattle.wire.specs.declared.frame.FrameBody.TheVariants.{Nack}
+use Rattle.wire.specs.declared.frame.FrameBody.TheVariants.{Behind, Decided, Submit, Ask, Sheet}
+use Rattle.wire.specs.declared.frame.FrameBody.TheVariants.{Tick}
+use Rattle.wire.specs.declared.frame.FrameBody.TheVariants.{Stop, Taken, Told, SheetText, Refused}
+use Rattle.wire.specs.declared.frame.FrameBody.TheVariants.{Fine}
+use Rattle.wire.specs.declared.frame.FrameBody.TheVariants.{Status, Log, Await}
 use Rattle.std.specs.List.{list_any}
 use Rattle.wire.specs.Ranges.{Way, Between, FromClient, ToClient, way_of, Goes, IsBody, IsFrame}
 use Rattle.wire.specs.declared.values.Version.{Version}
@@ -31,24 +34,24 @@ use Rattle.wire.proofs.Frames.{sheet_takes, taken_takes, told_takes, refused_tak
 use Rattle.wire.proofs.Frames.{position_takes, await_takes, standing_takes, entries_takes}
 
 -- a kind without fields
-empty_takes : (v : Version) (kind : ℕ) (what : What) (bytes : List ℕ) (w : What)
+empty_takes : (v : Version) (kind : ℕ) (what : FrameBody) (bytes : List ℕ) (w : FrameBody)
     → kind_of what ≡ kind → body v what ≡ [] → IsBody v what → empty_of what bytes ≡ Some w
     → IsWhat v kind bytes w
 empty_takes v kind what bytes w number empty fits e =
     let a = passed (eqb (length bytes) 0) what w e in
     let nothing : bytes ≡ [] = nil_from_length bytes (eqb-true _ _ a.0) in
-    subst (λ (y : What). IsWhat v kind bytes y) a.1
+    subst (λ (y : FrameBody). IsWhat v kind bytes y) a.1
     (record { number = number; spelled = nothing ∙ sym empty; fits = fits })
 
-text_takes : (v : Version) (bytes : List ℕ) (w : What) → length bytes ≤ 299992
+text_takes : (v : Version) (bytes : List ℕ) (w : FrameBody) → length bytes ≤ 299992
     → Some (SheetText bytes) ≡ Some w → IsWhat v 34 bytes w
 text_takes v bytes w short e =
     let same : SheetText bytes ≡ w = cc in
-    subst (λ (y : What). IsWhat v 34 bytes y) same
+    subst (λ (y : FrameBody). IsWhat v 34 bytes y) same
     (record { number = refl; spelled = refl; fits = short })
 
 -- one test of the chain: the kind is this one, or the chain goes on
-pick : (v : Version) (kind k : ℕ) (bytes : List ℕ) (w : What) (x y : Option What)
+pick : (v : Version) (kind k : ℕ) (bytes : List ℕ) (w : FrameBody) (x y : Option FrameBody)
     → (x ≡ Some w → IsWhat v k bytes w) → (y ≡ Some w → IsWhat v kind bytes w)
     → cond (eqb kind k) x y ≡ Some w → IsWhat v kind bytes w
 pick v kind k bytes w x y here there e = go (eqb kind k) refl e where
@@ -83,7 +86,7 @@ later_kind Four kind none e = omega arith
 later_kind Five kind none e = omega arith
 
 -- the test of a kind that is none of them
-pick_later : (v : Version) (kind k : ℕ) (bytes : List ℕ) (w : What) (x y : Option What)
+pick_later : (v : Version) (kind k : ℕ) (bytes : List ℕ) (w : FrameBody) (x y : Option FrameBody)
     → is_kind v kind ≡ true → is_first k ≡ false
     → (IsFromThree v → x ≡ Some w → IsWhat v k bytes w) → (y ≡ Some w → IsWhat v kind bytes w)
     → cond (eqb kind k) x y ≡ Some w → IsWhat v kind bytes w
@@ -111,7 +114,7 @@ last_kind Four kind none e = let bad : true ≡ false = sym e ∙ none in absurd
 last_kind Five kind none e = omega arith
 
 -- the test of such a kind
-pick_last : (v : Version) (kind k : ℕ) (bytes : List ℕ) (w : What) (x y : Option What)
+pick_last : (v : Version) (kind k : ℕ) (bytes : List ℕ) (w : FrameBody) (x y : Option FrameBody)
     → is_kind v kind ≡ true → is_earlier k ≡ false
     → (IsFromFive v → x ≡ Some w → IsWhat v k bytes w) → (y ≡ Some w → IsWhat v kind bytes w)
     → cond (eqb kind k) x y ≡ Some w → IsWhat v kind bytes w
@@ -123,7 +126,7 @@ pick_last v kind k bytes w x y has none here there e = go (eqb kind k) refl e wh
       subst (λ (n : ℕ). IsWhat v n bytes w) (sym (eqb-true _ _ t)) (here five h)
   go false t h = there h
 
-pub what_takes : (v : Version) (kind : ℕ) (bytes : List ℕ) (w : What) → is_kind v kind ≡ true
+pub what_takes : (v : Version) (kind : ℕ) (bytes : List ℕ) (w : FrameBody) → is_kind v kind ≡ true
     → IsBytes bytes → length bytes ≤ 299992 → what_of v kind bytes ≡ Some w
     → IsWhat v kind bytes w
 unfolding what_of
@@ -195,7 +198,7 @@ is_last Three five = absurd (omega (arith, five))
 is_last Four five = absurd (omega (arith, five))
 is_last Five five = refl
 
-kind_is : (v : Version) (w : What) → IsBody v w → is_kind v (kind_of w) ≡ true
+kind_is : (v : Version) (w : FrameBody) → IsBody v w → is_kind v (kind_of w) ≡ true
 kind_is v (Prepare b pos) fits = first_kind v 1 refl
 kind_is v (Promise b pos vote) fits = first_kind v 2 refl
 kind_is v (Accept b pos e) fits = first_kind v 3 refl
@@ -235,9 +238,10 @@ pub record IsInside (bytes : List ℕ) (f : Frame) : Type 0 where
   pub fits : IsFrame f
   pub spelled : bytes ≡ inside f
 
-from_takes : (v : Version) (hall from to kind : ℕ) (bytes : List ℕ) (o : Option What) (f : Frame)
+from_takes : (v : Version) (hall from to kind : ℕ) (bytes : List ℕ) (o : Option FrameBody)
+    (f : Frame)
     → hall < 2 ^ 32
-    → ((w : What) → o ≡ Some w → IsWhat v kind bytes w) → frame_from v hall from to o ≡ Ok f
+    → ((w : FrameBody) → o ≡ Some w → IsWhat v kind bytes w) → frame_from v hall from to o ≡ Ok f
     → IsFrame f × (version_number v ∷ to_be_bytes w32 hall ++ from ∷ to ∷ kind ∷ bytes ≡ inside f)
 from_takes v hall from to kind bytes None f small taken e = absurd cc
 from_takes v hall from to kind bytes (Some w) f small taken e =

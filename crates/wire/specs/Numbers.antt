@@ -14,7 +14,7 @@ use Rattle.wire.specs.declared.values.DeskRole.TheVariants.{Idle, Gathering, Pro
 use Rattle.wire.specs.declared.values.SheetStyle.{SheetStyle}
 use Rattle.wire.specs.declared.values.SheetStyle.TheVariants.{Text, Table}
 use Rattle.wire.specs.declared.values.Version.{Version}
-use Rattle.wire.specs.declared.standing.Standing.{Standing}
+use Rattle.wire.specs.declared.standing.DeskStatus.{DeskStatus}
 use Rattle.wire.specs.declared.values.Version.TheVariants.{One, Two, Three, Four, Five}
 
 abbrev pub version_number : Version → ℕ
@@ -97,7 +97,7 @@ refusal_in version r =
     if nat_le (refusal_number r) (last_refusal version) then r else refusal.Down
 
 -- what a version tells of how a desk is: before version 5 nothing of a difference
-abbrev pub standing_in : Version → Standing → Standing
+abbrev pub standing_in : Version → DeskStatus → DeskStatus
 standing_in One s = record s { differs = None }
 standing_in Two s = record s { differs = None }
 standing_in Three s = record s { differs = None }

@@ -8,17 +8,20 @@ use Rattle.acceptor.specs.declared.message.Report.{Report}
 use Rattle.wire.specs.declared.frame.Frame.{Frame}
 use Rattle.wire.specs.declared.values.CommandState.{CommandState}
 use Rattle.wire.specs.declared.values.CommandState.TheVariants.{Unknown, Pending, Done}
-use Rattle.wire.specs.declared.frame.What.{What}
-use Rattle.wire.specs.declared.frame.What.TheVariants as variant
-use Rattle.wire.specs.declared.frame.What.TheVariants.{Prepare, Promise, Accept, Accepted, Nack}
-use Rattle.wire.specs.declared.frame.What.TheVariants.{Behind, Decided, Submit, Ask, Sheet, Tick}
-use Rattle.wire.specs.declared.frame.What.TheVariants.{Stop, Taken, Told, SheetText, Refused, Fine}
-use Rattle.wire.specs.declared.frame.What.TheVariants.{Status, Log, Await}
+use Rattle.wire.specs.declared.frame.FrameBody.{FrameBody}
+use Rattle.wire.specs.declared.frame.FrameBody.TheVariants as variant
+use Rattle.wire.specs.declared.frame.FrameBody.TheVariants.{Prepare, Promise, Accept, Accepted}
+use Rattle.wire.specs.declared.frame.FrameBody.TheVariants.{Nack}
+use Rattle.wire.specs.declared.frame.FrameBody.TheVariants.{Behind, Decided, Submit, Ask, Sheet}
+use Rattle.wire.specs.declared.frame.FrameBody.TheVariants.{Tick}
+use Rattle.wire.specs.declared.frame.FrameBody.TheVariants.{Stop, Taken, Told, SheetText, Refused}
+use Rattle.wire.specs.declared.frame.FrameBody.TheVariants.{Fine}
+use Rattle.wire.specs.declared.frame.FrameBody.TheVariants.{Status, Log, Await}
 use Rattle.wire.specs.declared.standing.Lengths.{Lengths}
 use Rattle.wire.specs.declared.standing.Lengths.TheVariants.{OfThree, OfFive}
 use Rattle.wire.specs.declared.standing.Difference.{Difference}
 use Rattle.wire.specs.declared.standing.Difference.TheVariants.{OtherEntry, Shorter}
-use Rattle.wire.specs.declared.standing.Standing.{Standing}
+use Rattle.wire.specs.declared.standing.DeskStatus.{DeskStatus}
 use Rattle.wire.specs.declared.values.ClientRefusal.{ClientRefusal}
 use Rattle.formats.specs.declared.events.Event.{Event}
 use Rattle.formats.specs.Events.{event_number}
@@ -107,7 +110,7 @@ IsDiffering Five d = IsDifference d
 
 -- how a desk is: its log, its queue of at most 255 commands, its ballots, the hall's logs, and how
 -- another desk differs
-pub record IsStanding (version : Version) (s : Standing) : Type 0 where
+pub record IsStanding (version : Version) (s : DeskStatus) : Type 0 where
   pub log : IsLogLength s.length
   pub queue : s.waiting < 256
   pub promised : IsPromised s.promised
@@ -125,7 +128,7 @@ pub record AreOfLog (position len : ℕ) (entries : List Entry) : Type 0 where
 
 -- the fields of a kind in a version; a sheet and all that is in front of it fill at most 300,000
 -- bytes. Four kinds are of the versions from 3 on, and one is of version 5.
-abbrev pub IsBody : Version → What → Type 0
+abbrev pub IsBody : Version → FrameBody → Type 0
 IsBody v (Prepare b pos) = IsBallot b × IsPosition pos
 IsBody v (Promise b pos vote) = IsBallot b × IsPosition pos × IsReport vote
 IsBody v (Accept b pos e) = IsBallot b × IsPosition pos × IsEntry e
@@ -162,7 +165,7 @@ way_of_kind kind =
     else if nat_le kind 23 then FromClient
     else ToClient
 
-abbrev pub way_of : What → Way
+abbrev pub way_of : FrameBody → Way
 way_of what = way_of_kind (kind_of what)
 
 abbrev pub Goes : Way → ℕ → ℕ → Type 0

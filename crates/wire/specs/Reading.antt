@@ -14,12 +14,15 @@ use Rattle.wire.specs.declared.fault.WireFault.TheVariants.{BadVersion, BadKind,
 use Rattle.wire.specs.declared.frame.Frame.{Frame}
 use Rattle.wire.specs.declared.values.CommandState.{CommandState}
 use Rattle.wire.specs.declared.values.CommandState.TheVariants.{Unknown, Pending, Done}
-use Rattle.wire.specs.declared.frame.What.{What}
-use Rattle.wire.specs.declared.frame.What.TheVariants as variant
-use Rattle.wire.specs.declared.frame.What.TheVariants.{Prepare, Promise, Accept, Accepted, Nack}
-use Rattle.wire.specs.declared.frame.What.TheVariants.{Behind, Decided, Submit, Ask, Sheet, Tick}
-use Rattle.wire.specs.declared.frame.What.TheVariants.{Stop, Taken, Told, SheetText, Refused, Fine}
-use Rattle.wire.specs.declared.frame.What.TheVariants.{Status, Log, Await}
+use Rattle.wire.specs.declared.frame.FrameBody.{FrameBody}
+use Rattle.wire.specs.declared.frame.FrameBody.TheVariants as variant
+use Rattle.wire.specs.declared.frame.FrameBody.TheVariants.{Prepare, Promise, Accept, Accepted}
+use Rattle.wire.specs.declared.frame.FrameBody.TheVariants.{Nack}
+use Rattle.wire.specs.declared.frame.FrameBody.TheVariants.{Behind, Decided, Submit, Ask, Sheet}
+use Rattle.wire.specs.declared.frame.FrameBody.TheVariants.{Tick}
+use Rattle.wire.specs.declared.frame.FrameBody.TheVariants.{Stop, Taken, Told, SheetText, Refused}
+use Rattle.wire.specs.declared.frame.FrameBody.TheVariants.{Fine}
+use Rattle.wire.specs.declared.frame.FrameBody.TheVariants.{Status, Log, Await}
 use Rattle.wire.specs.declared.standing.Difference.{Difference}
 use Rattle.wire.specs.declared.standing.Difference.TheVariants.{OtherEntry, Shorter}
 use Rattle.wire.specs.declared.values.ClientRefusal.{ClientRefusal}
@@ -200,66 +203,66 @@ event_at version bytes = do
   if nat_le (event_number event.0) (last_event version) then Some event else None
 
 -- the fields of each kind
-abbrev pub prepare_of : List ℕ → Option What
+abbrev pub prepare_of : List ℕ → Option FrameBody
 prepare_of bytes = all_of (two ballot_at position_at) bytes >>= λ x. Some (Prepare x.0 x.1)
 
-abbrev pub promise_of : List ℕ → Option What
+abbrev pub promise_of : List ℕ → Option FrameBody
 promise_of bytes =
     all_of (two ballot_at (two position_at report_at)) bytes
     >>= λ x. Some (Promise x.0 x.1.0 x.1.1)
 
-abbrev pub accept_of : List ℕ → Option What
+abbrev pub accept_of : List ℕ → Option FrameBody
 accept_of bytes =
     all_of (two ballot_at (two position_at entry_at)) bytes
     >>= λ x. Some (Accept x.0 x.1.0 x.1.1)
 
-abbrev pub accepted_of : List ℕ → Option What
+abbrev pub accepted_of : List ℕ → Option FrameBody
 accepted_of bytes = all_of (two ballot_at position_at) bytes >>= λ x. Some (Accepted x.0 x.1)
 
-abbrev pub nack_of : List ℕ → Option What
+abbrev pub nack_of : List ℕ → Option FrameBody
 nack_of bytes =
     all_of (two ballot_at (two position_at ballot_at)) bytes
     >>= λ x. Some (Nack x.0 x.1.0 x.1.1)
 
-abbrev pub behind_of : List ℕ → Option What
+abbrev pub behind_of : List ℕ → Option FrameBody
 behind_of bytes = all_of (limited_at 65536) bytes >>= λ x. Some (Behind x)
 
-abbrev pub decided_of : Version → List ℕ → Option What
+abbrev pub decided_of : Version → List ℕ → Option FrameBody
 decided_of version bytes = do
   pos ← position_at bytes
   count ← count_at version pos.1
   entries ← all_of (entries_at count.0) count.1
   if nat_le (pos.0 + count.0) 65536 then Some (Decided pos.0 entries) else None
 
-abbrev pub submit_of : List ℕ → Option What
+abbrev pub submit_of : List ℕ → Option FrameBody
 submit_of bytes = all_of entry_at bytes >>= λ x. Some (Submit x)
 
-abbrev pub ask_of : List ℕ → Option What
+abbrev pub ask_of : List ℕ → Option FrameBody
 ask_of bytes = all_of id_at bytes >>= λ x. Some (Ask x)
 
-abbrev pub sheet_of : Version → List ℕ → Option What
+abbrev pub sheet_of : Version → List ℕ → Option FrameBody
 sheet_of version bytes =
     all_of (two (event_at version)
     (two byte_at (two (number_at w32) (member_at style_number styles))))
     bytes
     >>= λ x. Some (Sheet x.0 x.1.0 x.1.1.0 x.1.1.1)
 
-abbrev pub taken_of : List ℕ → Option What
+abbrev pub taken_of : List ℕ → Option FrameBody
 taken_of bytes = all_of id_at bytes >>= λ x. Some (Taken x)
 
-abbrev pub told_of : Version → List ℕ → Option What
+abbrev pub told_of : Version → List ℕ → Option FrameBody
 told_of version bytes = all_of (two id_at (state_at version)) bytes >>= λ x. Some (Told x.0 x.1)
 
-abbrev pub refused_of : Version → List ℕ → Option What
+abbrev pub refused_of : Version → List ℕ → Option FrameBody
 refused_of version bytes = all_of (refusal_at version) bytes >>= λ x. Some (Refused x)
 
-abbrev pub log_of : List ℕ → Option What
+abbrev pub log_of : List ℕ → Option FrameBody
 log_of bytes = all_of log_length_at bytes >>= λ x. Some (Log x)
 
-abbrev pub await_of : List ℕ → Option What
+abbrev pub await_of : List ℕ → Option FrameBody
 await_of bytes = all_of (two id_at byte_at) bytes >>= λ x. Some (Await x.0 x.1)
 
-abbrev pub standing_of : Version → List ℕ → Option What
+abbrev pub standing_of : Version → List ℕ → Option FrameBody
 standing_of version bytes =
     all_of (two log_length_at
     (two byte_at (two (member_at role_number roles)
@@ -274,7 +277,7 @@ standing_of version bytes =
       differs = x.1.1.1.1.1;
     }))
 
-abbrev pub entries_of : List ℕ → Option What
+abbrev pub entries_of : List ℕ → Option FrameBody
 entries_of bytes = do
   pos ← log_length_at bytes
   len ← log_length_at pos.1
@@ -285,7 +288,7 @@ entries_of bytes = do
       else None
 
 -- a kind without fields
-abbrev pub empty_of : What → List ℕ → Option What
+abbrev pub empty_of : FrameBody → List ℕ → Option FrameBody
 empty_of what bytes = if length bytes == 0 then Some what else None
 
 -- the kinds of every version
@@ -312,7 +315,7 @@ abbrev pub is_kind : Version → ℕ → Bool
 is_kind version kind = list_any (λ k. k == kind) (kinds version)
 
 -- the fields of the kind with this number, in a version that has the kind
-unfoldable pub what_of : Version → ℕ → List ℕ → Option What
+unfoldable pub what_of : Version → ℕ → List ℕ → Option FrameBody
 what_of version kind bytes =
     if kind == 1 then prepare_of bytes
     else if kind == 2 then promise_of bytes
@@ -347,7 +350,7 @@ goes Between from to = is_desk from && is_desk to
 goes FromClient from to = (from == 0) && is_desk to
 goes ToClient from to = is_desk from && (to == 0)
 
-abbrev pub frame_from : Version → ℕ → ℕ → ℕ → Option What → Result Frame WireFault
+abbrev pub frame_from : Version → ℕ → ℕ → ℕ → Option FrameBody → Result Frame WireFault
 frame_from version hall from to None = Err BadBody
 frame_from version hall from to (Some what) =
     if goes (way_of what) from to

@@ -10,17 +10,20 @@ use Rattle.formats.specs.Events.{event_number}
 use Rattle.wire.specs.declared.frame.Frame.{Frame}
 use Rattle.wire.specs.declared.values.CommandState.{CommandState}
 use Rattle.wire.specs.declared.values.CommandState.TheVariants.{Unknown, Pending, Done}
-use Rattle.wire.specs.declared.frame.What.{What}
-use Rattle.wire.specs.declared.frame.What.TheVariants as variant
-use Rattle.wire.specs.declared.frame.What.TheVariants.{Prepare, Promise, Accept, Accepted, Nack}
-use Rattle.wire.specs.declared.frame.What.TheVariants.{Behind, Decided, Submit, Ask, Sheet, Tick}
-use Rattle.wire.specs.declared.frame.What.TheVariants.{Stop, Taken, Told, SheetText, Refused, Fine}
-use Rattle.wire.specs.declared.frame.What.TheVariants.{Status, Log, Await}
+use Rattle.wire.specs.declared.frame.FrameBody.{FrameBody}
+use Rattle.wire.specs.declared.frame.FrameBody.TheVariants as variant
+use Rattle.wire.specs.declared.frame.FrameBody.TheVariants.{Prepare, Promise, Accept, Accepted}
+use Rattle.wire.specs.declared.frame.FrameBody.TheVariants.{Nack}
+use Rattle.wire.specs.declared.frame.FrameBody.TheVariants.{Behind, Decided, Submit, Ask, Sheet}
+use Rattle.wire.specs.declared.frame.FrameBody.TheVariants.{Tick}
+use Rattle.wire.specs.declared.frame.FrameBody.TheVariants.{Stop, Taken, Told, SheetText, Refused}
+use Rattle.wire.specs.declared.frame.FrameBody.TheVariants.{Fine}
+use Rattle.wire.specs.declared.frame.FrameBody.TheVariants.{Status, Log, Await}
 use Rattle.wire.specs.declared.standing.Difference.{Difference}
 use Rattle.wire.specs.declared.standing.Difference.TheVariants.{OtherEntry, Shorter}
 use Rattle.wire.specs.declared.standing.Lengths.{Lengths}
 use Rattle.wire.specs.declared.standing.Lengths.TheVariants.{OfThree, OfFive}
-use Rattle.wire.specs.declared.standing.Standing.{Standing}
+use Rattle.wire.specs.declared.standing.DeskStatus.{DeskStatus}
 use Rattle.wire.specs.declared.values.Version.{Version}
 use Rattle.wire.specs.declared.values.Version.TheVariants.{One, Two, Three, Four, Five}
 use Rattle.wire.specs.Numbers.{answer_number, refusal_number, role_number, style_number}
@@ -46,7 +49,7 @@ state_bytes Pending = 1 ∷ []
 state_bytes (Done pos answer) = 2 ∷ to_be_bytes w32 pos ++ answer_number answer ∷ []
 
 -- the number of a kind of frame
-abbrev pub kind_of : What → ℕ
+abbrev pub kind_of : FrameBody → ℕ
 kind_of (Prepare b pos) = 1
 kind_of (Promise b pos vote) = 2
 kind_of (Accept b pos e) = 3
@@ -112,7 +115,7 @@ differs_bytes Three d = []
 differs_bytes Four d = []
 differs_bytes Five d = difference_bytes d
 
-abbrev pub standing_bytes : Version → Standing → List ℕ
+abbrev pub standing_bytes : Version → DeskStatus → List ℕ
 standing_bytes version s =
     to_be_bytes w32 s.length ++ s.waiting ∷ role_number s.role ∷
     promised_bytes s.promised ++ lengths_bytes s.told ++ differs_bytes version s.differs
@@ -124,7 +127,7 @@ log_bytes position len entries =
     to_be_bytes w16 (length entries) ++ flat_map entry_bytes entries
 
 -- the fields of a frame of a version, in their order
-abbrev pub body : Version → What → List ℕ
+abbrev pub body : Version → FrameBody → List ℕ
 body v (Prepare b pos) = ballot_bytes b ++ to_be_bytes w32 pos
 body v (Promise b pos vote) = ballot_bytes b ++ to_be_bytes w32 pos ++ report_bytes vote
 body v (Accept b pos e) = ballot_bytes b ++ to_be_bytes w32 pos ++ entry_bytes e

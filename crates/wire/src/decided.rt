@@ -6,7 +6,7 @@ ghost use Rattle.wire.specs.model.Gives.{GivesField, GivesBody};
 use crate::entries::Entries;
 use crate::fault::WireFault;
 use crate::fields::{byte_of, end, position_of};
-use crate::frame::What;
+use crate::frame::FrameBody;
 use crate::run::{pass_entries, push_entries};
 use crate::values::Version;
 use acceptor::MOST_ENTRIES;
@@ -39,7 +39,11 @@ fn count_of(version: Version, bytes: &[u8]) -> Result<(u8, &[u8]), WireFault>
 }
 
 /// The fields of a Decided. Memory is taken only where they are good.
-pub(crate) fn decided_of(alloc: Global, version: Version, bytes: &[u8]) -> Result<What, WireFault>
+pub(crate) fn decided_of(
+    alloc: Global,
+    version: Version,
+    bytes: &[u8],
+) -> Result<FrameBody, WireFault>
     ensures { GivesBody result (decided_of version bytes.now) }
 {
     let (pos, rest) = position_of(bytes)?;
@@ -50,5 +54,5 @@ pub(crate) fn decided_of(alloc: Global, version: Version, bytes: &[u8]) -> Resul
     }
     let mut entries = Entries::none(alloc);
     push_entries(alloc, &mut entries, u16::from(count), rest)?;
-    Ok(What::Decided { pos, entries })
+    Ok(FrameBody::Decided { pos, entries })
 }

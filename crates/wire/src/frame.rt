@@ -4,7 +4,7 @@ ghost use Rattle.std.specs.Prelude.{◌≡◌};
 
 use crate::bytes::Bytes;
 use crate::entries::Entries;
-use crate::standing::Standing;
+use crate::standing::DeskStatus;
 use crate::values::{ClientRefusal, CommandState, SheetStyle, Version};
 use acceptor::ballot::Ballot;
 use acceptor::entry::Entry;
@@ -24,7 +24,7 @@ pub struct Frame {
     /// The desk that it is for, 1 to 5, or 0 for a client.
     pub to: u8,
     /// Its kind, with the fields of that kind.
-    pub what: What,
+    pub what: FrameBody,
 }
 
 /// The kinds of frames, with their fields.
@@ -37,7 +37,7 @@ pub struct Frame {
 /// go from a desk to a desk; Submit, Ask, Sheet, Tick, Stop, Status, Log and Await from a client
 /// (0) to a desk; the others from a desk to a client.
 #[derive(PartialEq, Eq, Debug, Drop)]
-pub enum What {
+pub enum FrameBody {
     /// A desk asks for promises.
     Prepare {
         ballot: Ballot,
@@ -128,7 +128,7 @@ pub enum What {
     },
     /// How the desk is.
     Standing {
-        standing: Standing,
+        standing: DeskStatus,
     },
     /// Entries of the desk's log from `position` on, which has `length` entries; both are at most
     /// 65,536. There are at most 400 entries. They end within the log, so there is none where the
@@ -140,7 +140,7 @@ pub enum What {
     },
 }
 
-impl What {
+impl FrameBody {
     ghost use Rattle.wire.specs.Spelling.{kind_of};
 
     /// The number of the kind: 1 to 7 between desks, 16 to 23 from a client, 32 to 38 to a client.
@@ -148,28 +148,28 @@ impl What {
         ensures { result ≡ kind_of self.now }
     {
         match self {
-            What::Prepare { .. } => 1,
-            What::Promise { .. } => 2,
-            What::Accept { .. } => 3,
-            What::Accepted { .. } => 4,
-            What::Nack { .. } => 5,
-            What::Behind { .. } => 6,
-            What::Decided { .. } => 7,
-            What::Submit { .. } => 16,
-            What::Ask { .. } => 17,
-            What::Sheet { .. } => 18,
-            What::Tick => 19,
-            What::Stop => 20,
-            What::Taken { .. } => 32,
-            What::Told { .. } => 33,
-            What::SheetText { .. } => 34,
-            What::Refused { .. } => 35,
-            What::Fine => 36,
-            What::Status => 21,
-            What::Log { .. } => 22,
-            What::Await { .. } => 23,
-            What::Standing { .. } => 37,
-            What::Entries { .. } => 38,
+            FrameBody::Prepare { .. } => 1,
+            FrameBody::Promise { .. } => 2,
+            FrameBody::Accept { .. } => 3,
+            FrameBody::Accepted { .. } => 4,
+            FrameBody::Nack { .. } => 5,
+            FrameBody::Behind { .. } => 6,
+            FrameBody::Decided { .. } => 7,
+            FrameBody::Submit { .. } => 16,
+            FrameBody::Ask { .. } => 17,
+            FrameBody::Sheet { .. } => 18,
+            FrameBody::Tick => 19,
+            FrameBody::Stop => 20,
+            FrameBody::Taken { .. } => 32,
+            FrameBody::Told { .. } => 33,
+            FrameBody::SheetText { .. } => 34,
+            FrameBody::Refused { .. } => 35,
+            FrameBody::Fine => 36,
+            FrameBody::Status => 21,
+            FrameBody::Log { .. } => 22,
+            FrameBody::Await { .. } => 23,
+            FrameBody::Standing { .. } => 37,
+            FrameBody::Entries { .. } => 38,
         }
     }
 }

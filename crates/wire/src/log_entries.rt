@@ -6,7 +6,7 @@ ghost use Rattle.wire.specs.model.Gives.{GivesField, GivesBody};
 use crate::entries::Entries;
 use crate::fault::WireFault;
 use crate::fields::{end, log_length_of, u16_of};
-use crate::frame::What;
+use crate::frame::FrameBody;
 use crate::run::{pass_entries, push_entries};
 use std::alloc::Global;
 
@@ -27,7 +27,7 @@ fn log_count_of(bytes: &[u8]) -> Result<(u16, &[u8]), WireFault>
 }
 
 /// The fields of an Entries. Memory is taken only where they are good.
-pub(crate) fn entries_of(alloc: Global, bytes: &[u8]) -> Result<What, WireFault>
+pub(crate) fn entries_of(alloc: Global, bytes: &[u8]) -> Result<FrameBody, WireFault>
     ensures { GivesBody result (entries_of bytes.now) }
 {
     let (position, rest) = log_length_of(bytes)?;
@@ -39,7 +39,7 @@ pub(crate) fn entries_of(alloc: Global, bytes: &[u8]) -> Result<What, WireFault>
     }
     let mut entries = Entries::none(alloc);
     push_entries(alloc, &mut entries, count, rest)?;
-    Ok(What::Entries {
+    Ok(FrameBody::Entries {
         position,
         length,
         entries,

@@ -2,7 +2,7 @@
 
 ghost use Rattle.std.specs.Prelude.{◌≡◌, IfOk, IfErr};
 ghost use Rattle.wire.specs.declared.fault.WireFault.TheVariants.{NoMemory};
-ghost use Rattle.wire.specs.declared.frame.What.TheVariants.{SheetText};
+ghost use Rattle.wire.specs.declared.frame.FrameBody.TheVariants.{SheetText};
 ghost use Rattle.wire.specs.Ranges.{way_of_kind};
 ghost use Rattle.wire.specs.Reading.{prepare_of, promise_of, accept_of, accepted_of, nack_of};
 ghost use Rattle.wire.specs.Reading.{behind_of, submit_of, ask_of, sheet_of, taken_of, told_of};
@@ -18,23 +18,23 @@ use crate::fields::{
     log_length_of, position_of, promised_of, refusal_of, report_of, role_of, state_of, style_of,
     u32_of,
 };
-use crate::frame::{Frame, What};
+use crate::frame::{Frame, FrameBody};
 use crate::log_entries::entries_of;
-use crate::standing::Standing;
+use crate::standing::DeskStatus;
 use crate::values::Version;
 use acceptor::MOST_ENTRIES;
 use std::alloc::Global;
 
-fn prepare_of(bytes: &[u8]) -> Result<What, WireFault>
+fn prepare_of(bytes: &[u8]) -> Result<FrameBody, WireFault>
     ensures { GivesBody result (prepare_of bytes.now) }
 {
     let (ballot, rest) = ballot_of(bytes)?;
     let (pos, rest) = position_of(rest)?;
     end(rest)?;
-    Ok(What::Prepare { ballot, pos })
+    Ok(FrameBody::Prepare { ballot, pos })
 }
 
-fn promise_of(alloc: Global, bytes: &[u8]) -> Result<What, WireFault>
+fn promise_of(alloc: Global, bytes: &[u8]) -> Result<FrameBody, WireFault>
     ensures { GivesBody result (promise_of bytes.now) }
 {
     let (ballot, rest) = ballot_of(bytes)?;
@@ -45,10 +45,10 @@ fn promise_of(alloc: Global, bytes: &[u8]) -> Result<What, WireFault>
         None => None,
         Some(part) => Some(part.to_report(alloc)?),
     };
-    Ok(What::Promise { ballot, pos, vote })
+    Ok(FrameBody::Promise { ballot, pos, vote })
 }
 
-fn accept_of(alloc: Global, bytes: &[u8]) -> Result<What, WireFault>
+fn accept_of(alloc: Global, bytes: &[u8]) -> Result<FrameBody, WireFault>
     ensures { GivesBody result (accept_of bytes.now) }
 {
     let (ballot, rest) = ballot_of(bytes)?;
@@ -56,58 +56,58 @@ fn accept_of(alloc: Global, bytes: &[u8]) -> Result<What, WireFault>
     let (entry, rest) = entry_of(rest)?;
     end(rest)?;
     let entry = entry.to_entry(alloc)?;
-    Ok(What::Accept { ballot, pos, entry })
+    Ok(FrameBody::Accept { ballot, pos, entry })
 }
 
-fn accepted_of(bytes: &[u8]) -> Result<What, WireFault>
+fn accepted_of(bytes: &[u8]) -> Result<FrameBody, WireFault>
     ensures { GivesBody result (accepted_of bytes.now) }
 {
     let (ballot, rest) = ballot_of(bytes)?;
     let (pos, rest) = position_of(rest)?;
     end(rest)?;
-    Ok(What::Accepted { ballot, pos })
+    Ok(FrameBody::Accepted { ballot, pos })
 }
 
-fn nack_of(bytes: &[u8]) -> Result<What, WireFault>
+fn nack_of(bytes: &[u8]) -> Result<FrameBody, WireFault>
     ensures { GivesBody result (nack_of bytes.now) }
 {
     let (ballot, rest) = ballot_of(bytes)?;
     let (pos, rest) = position_of(rest)?;
     let (promised, rest) = ballot_of(rest)?;
     end(rest)?;
-    Ok(What::Nack {
+    Ok(FrameBody::Nack {
         ballot,
         pos,
         promised,
     })
 }
 
-fn behind_of(bytes: &[u8]) -> Result<What, WireFault>
+fn behind_of(bytes: &[u8]) -> Result<FrameBody, WireFault>
     ensures { GivesBody result (behind_of bytes.now) }
 {
     let (len, rest) = limited_of(MOST_ENTRIES, bytes)?;
     end(rest)?;
-    Ok(What::Behind { len })
+    Ok(FrameBody::Behind { len })
 }
 
-fn submit_of(alloc: Global, bytes: &[u8]) -> Result<What, WireFault>
+fn submit_of(alloc: Global, bytes: &[u8]) -> Result<FrameBody, WireFault>
     ensures { GivesBody result (submit_of bytes.now) }
 {
     let (entry, rest) = entry_of(bytes)?;
     end(rest)?;
     let entry = entry.to_entry(alloc)?;
-    Ok(What::Submit { entry })
+    Ok(FrameBody::Submit { entry })
 }
 
-fn ask_of(bytes: &[u8]) -> Result<What, WireFault>
+fn ask_of(bytes: &[u8]) -> Result<FrameBody, WireFault>
     ensures { GivesBody result (ask_of bytes.now) }
 {
     let (id, rest) = id_of(bytes)?;
     end(rest)?;
-    Ok(What::Ask { id })
+    Ok(FrameBody::Ask { id })
 }
 
-fn sheet_of(version: Version, bytes: &[u8]) -> Result<What, WireFault>
+fn sheet_of(version: Version, bytes: &[u8]) -> Result<FrameBody, WireFault>
     ensures { GivesBody result (sheet_of version bytes.now) }
 {
     let (event, rest) = event_of(version, bytes)?;
@@ -115,7 +115,7 @@ fn sheet_of(version: Version, bytes: &[u8]) -> Result<What, WireFault>
     let (position, rest) = u32_of(rest)?;
     let (style, rest) = style_of(rest)?;
     end(rest)?;
-    Ok(What::Sheet {
+    Ok(FrameBody::Sheet {
         event,
         round,
         position,
@@ -123,49 +123,49 @@ fn sheet_of(version: Version, bytes: &[u8]) -> Result<What, WireFault>
     })
 }
 
-fn taken_of(bytes: &[u8]) -> Result<What, WireFault>
+fn taken_of(bytes: &[u8]) -> Result<FrameBody, WireFault>
     ensures { GivesBody result (taken_of bytes.now) }
 {
     let (id, rest) = id_of(bytes)?;
     end(rest)?;
-    Ok(What::Taken { id })
+    Ok(FrameBody::Taken { id })
 }
 
-fn told_of(version: Version, bytes: &[u8]) -> Result<What, WireFault>
+fn told_of(version: Version, bytes: &[u8]) -> Result<FrameBody, WireFault>
     ensures { GivesBody result (told_of version bytes.now) }
 {
     let (id, rest) = id_of(bytes)?;
     let (state, rest) = state_of(version, rest)?;
     end(rest)?;
-    Ok(What::Told { id, state })
+    Ok(FrameBody::Told { id, state })
 }
 
-fn refused_of(version: Version, bytes: &[u8]) -> Result<What, WireFault>
+fn refused_of(version: Version, bytes: &[u8]) -> Result<FrameBody, WireFault>
     ensures { GivesBody result (refused_of version bytes.now) }
 {
     let (refusal, rest) = refusal_of(version, bytes)?;
     end(rest)?;
-    Ok(What::Refused { refusal })
+    Ok(FrameBody::Refused { refusal })
 }
 
-fn log_of(bytes: &[u8]) -> Result<What, WireFault>
+fn log_of(bytes: &[u8]) -> Result<FrameBody, WireFault>
     ensures { GivesBody result (log_of bytes.now) }
 {
     let (position, rest) = log_length_of(bytes)?;
     end(rest)?;
-    Ok(What::Log { position })
+    Ok(FrameBody::Log { position })
 }
 
-fn await_of(bytes: &[u8]) -> Result<What, WireFault>
+fn await_of(bytes: &[u8]) -> Result<FrameBody, WireFault>
     ensures { GivesBody result (await_of bytes.now) }
 {
     let (id, rest) = id_of(bytes)?;
     let (seconds, rest) = byte_of(rest)?;
     end(rest)?;
-    Ok(What::Await { id, seconds })
+    Ok(FrameBody::Await { id, seconds })
 }
 
-fn standing_of(version: Version, bytes: &[u8]) -> Result<What, WireFault>
+fn standing_of(version: Version, bytes: &[u8]) -> Result<FrameBody, WireFault>
     ensures { GivesBody result (standing_of version bytes.now) }
 {
     let (length, rest) = log_length_of(bytes)?;
@@ -175,7 +175,7 @@ fn standing_of(version: Version, bytes: &[u8]) -> Result<What, WireFault>
     let (told, rest) = lengths_of(rest)?;
     let (differs, rest) = differs_of(version, rest)?;
     end(rest)?;
-    let standing = Standing {
+    let standing = DeskStatus {
         length,
         waiting,
         role,
@@ -183,19 +183,19 @@ fn standing_of(version: Version, bytes: &[u8]) -> Result<What, WireFault>
         told,
         differs,
     };
-    Ok(What::Standing { standing })
+    Ok(FrameBody::Standing { standing })
 }
 
-fn sheet_text_of(alloc: Global, bytes: &[u8]) -> Result<What, WireFault>
+fn sheet_text_of(alloc: Global, bytes: &[u8]) -> Result<FrameBody, WireFault>
     ensures value { IfOk result (λ what. what ≡ SheetText bytes.now) }
     ensures memory { IfErr result (λ e. e ≡ NoMemory) }
 {
     let text = Bytes::new(Vec::from_slice(alloc, bytes)?);
-    Ok(What::SheetText { text })
+    Ok(FrameBody::SheetText { text })
 }
 
 /// A kind without fields.
-fn empty_of(what: What, bytes: &[u8]) -> Result<What, WireFault>
+fn empty_of(what: FrameBody, bytes: &[u8]) -> Result<FrameBody, WireFault>
     ensures { GivesBody result (empty_of what bytes.now) }
 {
     end(bytes)?;
@@ -204,7 +204,7 @@ fn empty_of(what: What, bytes: &[u8]) -> Result<What, WireFault>
 
 /// The fields of the kind with this number, in a version that has the kind.
 #[tactic(auto, unfolding(crate::specs::Reading::what_of))]
-fn what_of(alloc: Global, version: Version, kind: u8, bytes: &[u8]) -> Result<What, WireFault>
+fn what_of(alloc: Global, version: Version, kind: u8, bytes: &[u8]) -> Result<FrameBody, WireFault>
     ensures { GivesBody result (what_of version kind bytes.now) }
 {
     match kind {
@@ -218,16 +218,16 @@ fn what_of(alloc: Global, version: Version, kind: u8, bytes: &[u8]) -> Result<Wh
         16 => submit_of(alloc, bytes),
         17 => ask_of(bytes),
         18 => sheet_of(version, bytes),
-        19 => empty_of(What::Tick, bytes),
-        20 => empty_of(What::Stop, bytes),
-        21 => empty_of(What::Status, bytes),
+        19 => empty_of(FrameBody::Tick, bytes),
+        20 => empty_of(FrameBody::Stop, bytes),
+        21 => empty_of(FrameBody::Status, bytes),
         22 => log_of(bytes),
         23 => await_of(bytes),
         32 => taken_of(bytes),
         33 => told_of(version, bytes),
         34 => sheet_text_of(alloc, bytes),
         35 => refused_of(version, bytes),
-        36 => empty_of(What::Fine, bytes),
+        36 => empty_of(FrameBody::Fine, bytes),
         37 => standing_of(version, bytes),
         38 => entries_of(alloc, bytes),
         _ => Err(WireFault::BadBody),

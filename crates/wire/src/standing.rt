@@ -10,7 +10,7 @@ use acceptor::ballot::Ballot;
 
 /// How a desk is.
 #[derive(Clone, Copy, Debug, PartialEq, Eq)]
-pub struct Standing {
+pub struct DeskStatus {
     /// The number of entries in its log, at most 65,536.
     pub length: u32,
     /// The number of commands in its queue.
@@ -38,16 +38,16 @@ pub enum Difference {
     Shorter { desk: u8, length: u32 },
 }
 
-impl Standing {
+impl DeskStatus {
     ghost use Rattle.wire.specs.Numbers.{standing_in};
 
     /// What a version tells of how a desk is: before version 5 nothing of a difference.
-    pub fn in_version(self, version: Version) -> Standing
+    pub fn in_version(self, version: Version) -> DeskStatus
         ensures { result ≡ standing_in version self }
     {
         match version {
             Version::Five => self,
-            Version::One | Version::Two | Version::Three | Version::Four => Standing {
+            Version::One | Version::Two | Version::Three | Version::Four => DeskStatus {
                 length: self.length,
                 waiting: self.waiting,
                 role: self.role,

@@ -58,7 +58,7 @@ fn front(alloc: Global, bytes: &[u8]) -> Result<Option<(Frame, usize)>, WireFaul
 /// The frames at the front of a stream, the number of their bytes, and the fault that is after
 /// them, if one is.
 #[derive(Drop)]
-pub(crate) struct Taken {
+pub(crate) struct DecodedFrames {
     pub(crate) frames: Vec<Frame>,
     pub(crate) size: usize,
     pub(crate) fault: Option<WireFault>,
@@ -69,7 +69,7 @@ pub(crate) fn take_frames(
     alloc: Global,
     before: Vec<Frame>,
     bytes: &[u8],
-) -> Result<Taken, NoMemory>
+) -> Result<DecodedFrames, NoMemory>
     ensures taken { IfOk result (λ t.
         IsTaken bytes.now before.items t.frames.items t.size t.fault) }
     ensures refused { OnErr result (IsBegun (front bytes.now)) }
@@ -83,7 +83,7 @@ pub(crate) fn take_frames(
                 size += more;
             }
             Ok(None) => {
-                return Ok(Taken {
+                return Ok(DecodedFrames {
                     frames,
                     size,
                     fault: None,
@@ -91,7 +91,7 @@ pub(crate) fn take_frames(
             }
             Err(WireFault::NoMemory) => return Err(NoMemory),
             Err(fault) => {
-                return Ok(Taken {
+                return Ok(DecodedFrames {
                     frames,
                     size,
                     fault: Some(fault),

@@ -11,8 +11,8 @@ ghost use Rattle.wire.specs.Spelling.{report_bytes, state_bytes, body, inside};
 ghost use Rattle.wire.specs.Spelling.{spelling};
 
 use crate::NoMemory;
-use crate::frame::{Frame, What};
-use crate::standing::{Difference, Lengths, Standing};
+use crate::frame::{Frame, FrameBody};
+use crate::standing::{DeskStatus, Difference, Lengths};
 use crate::values::{CommandState, Version, number_of};
 use acceptor::ballot::Ballot;
 use acceptor::entry::Entry;
@@ -194,7 +194,7 @@ fn put_differs(
     }
 }
 
-fn put_standing(out: &mut Vec<u8>, version: Version, standing: Standing) -> Result<(), NoMemory>
+fn put_standing(out: &mut Vec<u8>, version: Version, standing: DeskStatus) -> Result<(), NoMemory>
     ensures { OnOk result (out.new.items ≡ out.old.items ++ standing_bytes version standing) }
 {
     put_u32(out, standing.length)?;
@@ -217,23 +217,23 @@ fn put_log(out: &mut Vec<u8>, position: u32, len: u32, entries: &[Entry]) -> Res
 }
 
 /// The fields of a frame of this version, in their order.
-fn put_body(out: &mut Vec<u8>, version: Version, what: &What) -> Result<(), NoMemory>
+fn put_body(out: &mut Vec<u8>, version: Version, what: &FrameBody) -> Result<(), NoMemory>
     requires { IsBody version what.now }
     ensures { OnOk result (out.new.items ≡ out.old.items ++ body version what.now) }
 {
     match what {
-        What::Prepare { ballot, pos } | What::Accepted { ballot, pos } => {
+        FrameBody::Prepare { ballot, pos } | FrameBody::Accepted { ballot, pos } => {
             put_place(out, *ballot, *pos)
         }
-        What::Promise { ballot, pos, vote } => {
+        FrameBody::Promise { ballot, pos, vote } => {
             put_place(out, *ballot, *pos)?;
             put_report(out, vote)
         }
-        What::Accept { ballot, pos, entry } => {
+        FrameBody::Accept { ballot, pos, entry } => {
             put_place(out, *ballot, *pos)?;
             put_entry(out, entry)
         }
-        What::Nack {
+        FrameBody::Nack {
             ballot,
             pos,
             promised,
@@ -241,15 +241,15 @@ fn put_body(out: &mut Vec<u8>, version: Version, what: &What) -> Result<(), NoMe
             put_place(out, *ballot, *pos)?;
             put_ballot(out, *promised)
         }
-        What::Behind { len } => put_u32(out, *len),
-        What::Decided { pos, entries } => {
+        FrameBody::Behind { len } => put_u32(out, *len),
+        FrameBody::Decided { pos, entries } => {
             put_u32(out, *pos)?;
             put_count(out, version, entries.as_slice().len())?;
             put_entries(out, entries.as_slice())
         }
-        What::Submit { entry } => put_entry(out, entry),
-        What::Ask { id } | What::Taken { id } => put_u64(out, *id),
-        What::Sheet {
+        FrameBody::Submit { entry } => put_entry(out, entry),
+        FrameBody::Ask { id } | FrameBody::Taken { id } => put_u64(out, *id),
+        FrameBody::Sheet {
             event,
             round,
             position,
@@ -260,28 +260,28 @@ fn put_body(out: &mut Vec<u8>, version: Version, what: &What) -> Result<(), NoMe
             out.push(style.number())?;
             Ok(())
         }
-        What::Told { id, state } => {
+        FrameBody::Told { id, state } => {
             put_u64(out, *id)?;
             put_state(out, *state)
         }
-        What::SheetText { text } => out.extend_from_slice(text.as_slice()),
-        What::Refused { refusal } => {
+        FrameBody::SheetText { text } => out.extend_from_slice(text.as_slice()),
+        FrameBody::Refused { refusal } => {
             out.push(refusal.number())?;
             Ok(())
         }
-        What::Log { position } => put_u32(out, *position),
-        What::Await { id, seconds } => {
+        FrameBody::Log { position } => put_u32(out, *position),
+        FrameBody::Await { id, seconds } => {
             put_u64(out, *id)?;
             out.push(*seconds)?;
             Ok(())
         }
-        What::Standing { standing } => put_standing(out, version, *standing),
-        What::Entries {
+        FrameBody::Standing { standing } => put_standing(out, version, *standing),
+        FrameBody::Entries {
             position,
             length,
             entries,
         } => put_log(out, *position, *length, entries.as_slice()),
-        What::Tick | What::Stop | What::Fine | What::Status => Ok(()),
+        FrameBody::Tick | FrameBody::Stop | FrameBody::Fine | FrameBody::Status => Ok(()),
     }
 }
 

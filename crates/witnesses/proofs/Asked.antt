@@ -5,24 +5,24 @@ use Rattle.std.proofs.lemmas.List.{append-nil}
 use Rattle.acceptor.specs.declared.entry.Entry.{Entry}
 use Rattle.client.specs.Standings.{log_request, status_request_in_five}
 use Rattle.desk_talks.specs.Dialogues.{CallsLead}
-use Rattle.desk_talks.specs.Lines.{LineOf, line}
-use Rattle.desk_talks.specs.Talks.{HearsFrames, TalkOf, asking, heard_of, sending, talk}
-use Rattle.desk_talks.specs.declared.line.Stage.TheVariants as line_stage
-use Rattle.desk_talks.specs.declared.talk.Heard.{Heard}
-use Rattle.desk_talks.specs.declared.talk.Heard.TheVariants as heard
-use Rattle.following.specs.Following.{Following}
-use Rattle.following.specs.declared.stages.Stage.{Stage}
-use Rattle.following.specs.declared.stages.Stage.TheVariants as stage
-use Rattle.mirror.specs.declared.mirror.Taken.TheVariants.{Grew}
-use Rattle.mirroring.specs.Histories.{CallLeads}
-use Rattle.mirroring.specs.Mirrorings.{MirroringOf, mirroring, new_mirroring}
-use Rattle.surveying.specs.Surveys.{DialogueLeads, SurveyOf, new_survey, survey}
-use Rattle.surveying.specs.declared.survey.Contact.TheVariants as contact
+use Rattle.desk_talks.specs.KeptConnections.{KeptConnectionOf, line}
+use Rattle.desk_talks.specs.Exchanges.{HearsFrames, ExchangeOf, asking, heard_of, sending, talk}
+use Rattle.desk_talks.specs.declared.kept_connection.ConnectionStage.TheVariants as line_stage
+use Rattle.desk_talks.specs.declared.exchange.AnswerOutcome.{AnswerOutcome}
+use Rattle.desk_talks.specs.declared.exchange.AnswerOutcome.TheVariants as heard
+use Rattle.log_follower.specs.Following.{Following}
+use Rattle.log_follower.specs.declared.stages.FollowStage.{FollowStage}
+use Rattle.log_follower.specs.declared.stages.FollowStage.TheVariants as stage
+use Rattle.mirror.specs.declared.mirror.MirrorGrowth.TheVariants.{Grew}
+use Rattle.kept_mirror.specs.Histories.{CallLeads}
+use Rattle.kept_mirror.specs.Mirrorings.{MirroringOf, mirroring, new_mirroring}
+use Rattle.desk_survey.specs.Surveys.{DialogueLeads, SurveyOf, new_survey, survey}
+use Rattle.desk_survey.specs.declared.survey.Reachability.TheVariants as contact
 use Rattle.wire.specs.Ranges.{IsFrame}
 use Rattle.wire.specs.Spelling.{spelling}
 use Rattle.wire.specs.Stream.{Fed, front, holding}
 use Rattle.wire.specs.declared.frame.Frame.{Frame}
-use Rattle.wire.specs.declared.frame.What.TheVariants as what
+use Rattle.wire.specs.declared.frame.FrameBody.TheVariants as what
 use Rattle.witnesses.specs.Dialogues.{WorksDialogues, first, log_answer, mirror_after}
 use Rattle.witnesses.specs.Dialogues.{mirror_calls, quiet, stands, status_answer, survey_after}
 use Rattle.witnesses.specs.Dialogues.{survey_calls}
@@ -44,7 +44,7 @@ one_comes f good = record {
 }
 
 -- and it is heard where this question waits
-hears : (told : Heard) (asked f : Frame) (unsent : List ℕ) → IsFrame f
+hears : (told : AnswerOutcome) (asked f : Frame) (unsent : List ℕ) → IsFrame f
     → told ≡ heard_of (Some asked) (f ∷ [])
     → HearsFrames told (spelling f) (talk (holding []) (Some asked) unsent)
     (talk (holding []) None unsent)
@@ -90,19 +90,19 @@ status_frame = record {
 
 -- ---- the mirror
 
-abbrev at : Stage → Following
+abbrev at : FollowStage → Following
 at stage = record { desks = 3; desk = 1; stage = stage; held = 0; most = 0; behind = None }
 
-abbrev mirror_at : Stage → TalkOf → MirroringOf
+abbrev mirror_at : FollowStage → ExchangeOf → MirroringOf
 mirror_at stage t = mirroring 7 (at stage) [] (Some t) None
 
 abbrev opening : MirroringOf
 opening = mirroring 7 (at (stage.Opening 0)) [] None None
 
-abbrev asked : TalkOf
+abbrev asked : ExchangeOf
 asked = asking quiet (log_request 7 1 0)
 
-abbrev written : TalkOf
+abbrev written : ExchangeOf
 written = sending asked (length (spelling (log_request 7 1 0)))
 
 mirrors : CallsLead CallLeads (new_mirroring 7 3) mirror_calls mirror_after
@@ -145,13 +145,13 @@ mirrors = (
 
 -- ---- the survey
 
-abbrev survey_at : LineOf → SurveyOf
+abbrev survey_at : KeptConnectionOf → SurveyOf
 survey_at l = survey 7 1 l None contact.NotAsked false
 
-abbrev question : TalkOf
+abbrev question : ExchangeOf
 question = asking quiet (status_request_in_five 7 1)
 
-abbrev asked_so : TalkOf
+abbrev asked_so : ExchangeOf
 asked_so = sending question (length (spelling (status_request_in_five 7 1)))
 
 surveys : CallsLead DialogueLeads (new_survey 7 1) survey_calls survey_after

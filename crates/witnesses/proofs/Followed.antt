@@ -1,10 +1,10 @@
 -- What the calls of a follower lead to.
 use Rattle.std.proofs.Common.{ℕ, refl, None, Some, arith}
-use Rattle.following.specs.Following.{Following, after_action, after_answer, after_lost}
-use Rattle.following.specs.Following.{after_opened, new_following}
-use Rattle.following.specs.Histories.{IsTimed, Leads}
-use Rattle.following.specs.declared.stages.Stage.TheVariants as stage
-use Rattle.mirror.specs.declared.mirror.Taken.TheVariants.{Grew}
+use Rattle.log_follower.specs.Following.{Following, after_action, after_answer, after_lost}
+use Rattle.log_follower.specs.Following.{after_opened, new_following}
+use Rattle.log_follower.specs.Histories.{IsTimed, Leads}
+use Rattle.log_follower.specs.declared.stages.FollowStage.TheVariants as stage
+use Rattle.mirror.specs.declared.mirror.MirrorGrowth.TheVariants.{Grew}
 use Rattle.witnesses.specs.Followed.{WorksFollower, asks, asks_next, at, behind, differs}
 use Rattle.witnesses.specs.Followed.{falls_behind, holding, opens}
 

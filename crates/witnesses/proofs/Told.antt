@@ -44,7 +44,7 @@ agree : LogsOfAgree tellings
 agree i j one other here there =
     either one.log other.log (log_at i one here) (log_at j other there)
 
--- at each position that is held the same was told
+-- at each position that is held the same was reported
 first_held : AreHeldBelow 0 [] 0 (take 1 short_log)
 first_held place mine its below holds tells = absurd (omega (arith, below))
 

@@ -5,27 +5,27 @@ use Rattle.acceptor.specs.declared.entry.Entry.{Entry}
 use Rattle.client.specs.Standings.{log_request, status_request_in_five}
 use Rattle.desk_talks.specs.Dialogues.{Act, CallsLead, Hear, Opened, Sent}
 use Rattle.desk_talks.specs.Dialogues as Dialogues
-use Rattle.desk_talks.specs.Lines.{line}
-use Rattle.desk_talks.specs.Talks.{TalkOf, talk}
-use Rattle.desk_talks.specs.declared.dialogue.Came.TheVariants as came
-use Rattle.desk_talks.specs.declared.dialogue.Wish.TheVariants as wish
-use Rattle.desk_talks.specs.declared.line.Stage.TheVariants as line_stage
-use Rattle.following.specs.declared.stages.Stage.TheVariants as stage
-use Rattle.mirroring.specs.Histories.{Call, CallLeads, InDialogue}
-use Rattle.mirroring.specs.Mirrorings.{MirroringOf, mirroring, new_mirroring}
-use Rattle.surveying.specs.Surveys.{DialogueLeads, SurveyOf, new_survey, survey}
-use Rattle.surveying.specs.declared.survey.Contact.TheVariants as contact
+use Rattle.desk_talks.specs.KeptConnections.{line}
+use Rattle.desk_talks.specs.Exchanges.{ExchangeOf, talk}
+use Rattle.desk_talks.specs.declared.dialogue.ReceiveOutcome.TheVariants as came
+use Rattle.desk_talks.specs.declared.dialogue.DialogueAction.TheVariants as wish
+use Rattle.desk_talks.specs.declared.kept_connection.ConnectionStage.TheVariants as line_stage
+use Rattle.log_follower.specs.declared.stages.FollowStage.TheVariants as stage
+use Rattle.kept_mirror.specs.Histories.{Call, CallLeads, InDialogue}
+use Rattle.kept_mirror.specs.Mirrorings.{MirroringOf, mirroring, new_mirroring}
+use Rattle.desk_survey.specs.Surveys.{DialogueLeads, SurveyOf, new_survey, survey}
+use Rattle.desk_survey.specs.declared.survey.Reachability.TheVariants as contact
 use Rattle.wire.specs.Spelling.{spelling}
 use Rattle.wire.specs.Stream.{holding}
 use Rattle.wire.specs.declared.frame.Frame.{Frame}
-use Rattle.wire.specs.declared.frame.What.TheVariants as what
+use Rattle.wire.specs.declared.frame.FrameBody.TheVariants as what
 use Rattle.wire.specs.declared.standing.Lengths.TheVariants.{OfThree}
-use Rattle.wire.specs.declared.standing.Standing.{Standing}
+use Rattle.wire.specs.declared.standing.DeskStatus.{DeskStatus}
 use Rattle.wire.specs.declared.values.DeskRole.TheVariants.{Idle}
 use Rattle.wire.specs.declared.values.Version.TheVariants.{Three, Five}
 
 -- a talk in which all was said
-abbrev pub quiet : TalkOf
+abbrev pub quiet : ExchangeOf
 quiet = talk (holding []) None []
 
 abbrev pub first : Entry
@@ -56,7 +56,7 @@ mirror_after =
     })
     (first ∷ []) (Some quiet) None
 
-abbrev pub stands : Standing
+abbrev pub stands : DeskStatus
 stands = record {
   length = 1;
   waiting = 0;

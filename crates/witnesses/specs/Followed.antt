@@ -1,14 +1,14 @@
 -- Calls of a follower of three desks that holds nothing at first (the project's own).
 use Rattle.std.specs.Prelude.{◌≡◌, ℕ, true, false, List, [], ◌∷◌, None, Some}
-use Rattle.following.specs.Following.{Following, IsPlace, action_of}
-use Rattle.following.specs.Histories.{Acted, Answered, History, Lost, Opened, Start, Then}
-use Rattle.following.specs.Histories.{behind_since, differed, longest, opening, tried_in_vain}
-use Rattle.following.specs.Histories.{unanswered}
-use Rattle.following.specs.Laws.{IsReached}
-use Rattle.following.specs.declared.stages.Action.TheVariants.{Ask, Close, Open, Stop}
-use Rattle.following.specs.declared.stages.Stage.{Stage}
-use Rattle.following.specs.declared.stages.Stage.TheVariants as stage
-use Rattle.mirror.specs.declared.mirror.Taken.TheVariants.{Differs, Grew, Known}
+use Rattle.log_follower.specs.Following.{Following, IsPlace, action_of}
+use Rattle.log_follower.specs.Histories.{Acted, Answered, History, Lost, Opened, Start, Then}
+use Rattle.log_follower.specs.Histories.{behind_since, differed, longest, opening, tried_in_vain}
+use Rattle.log_follower.specs.Histories.{unanswered}
+use Rattle.log_follower.specs.Laws.{IsReached}
+use Rattle.log_follower.specs.declared.stages.FollowAction.TheVariants.{Ask, Close, Open, Stop}
+use Rattle.log_follower.specs.declared.stages.FollowStage.{FollowStage}
+use Rattle.log_follower.specs.declared.stages.FollowStage.TheVariants as stage
+use Rattle.mirror.specs.declared.mirror.MirrorGrowth.TheVariants.{Differs, Grew, Known}
 
 -- a connection to the first desk is being opened
 abbrev pub opens : History
@@ -33,7 +33,7 @@ abbrev pub differs : History
 differs = Then asks_next (Answered 270 (Some (Differs 0)) 2 2)
 
 -- a follower that has got to this desk
-abbrev pub at : ℕ → Stage → Following
+abbrev pub at : ℕ → FollowStage → Following
 at desk stage = record {
   desks = 3;
   desk = desk;
@@ -44,7 +44,7 @@ at desk stage = record {
 }
 
 -- and has two entries of a log that has two
-abbrev pub holding : Stage → Following
+abbrev pub holding : FollowStage → Following
 holding stage = record {
   desks = 3;
   desk = 2;
@@ -82,7 +82,7 @@ pub record WorksFollower : Type 0 where
   pub behind_reached : IsReached 3 0 falls_behind behind 5270
   pub is_behind : behind_since falls_behind ≡ Some 270
   pub leaves_behind : action_of behind 5270 ≡ Close 2
-  -- one that tells another entry stops all
+  -- one that reports another entry stops all
   pub differs_reached : IsReached 3 0 differs (holding stage.Stopped) 300
   pub has_differed : differed differs ≡ true
   pub stops : action_of (holding stage.Stopped) 300 ≡ Stop

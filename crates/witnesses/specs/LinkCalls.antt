@@ -8,8 +8,8 @@ use Rattle.links.specs.Tellings.{Goes, LeadsTo, Line, Silent, Tale, lines_of}
 use Rattle.links.specs.Tellings as Tellings
 use Rattle.links.specs.declared.notices.Notice.TheVariants as notice
 use Rattle.links.specs.declared.notices.Outage.TheVariants as outage
-use Rattle.links.specs.declared.stages.Pushed.TheVariants.{Waits}
-use Rattle.links.specs.declared.stages.Stage.TheVariants.{Paused}
+use Rattle.links.specs.declared.stages.PushOutcome.TheVariants.{Waits}
+use Rattle.links.specs.declared.stages.LinkStage.TheVariants.{Paused}
 
 abbrev pub one : List ℕ
 one = 1 ∷ 2 ∷ 3 ∷ []

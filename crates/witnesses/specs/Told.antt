@@ -2,7 +2,7 @@
 use Rattle.std.specs.Prelude.{◌≡◌, ℕ, List, [], ◌∷◌, codes, Some}
 use Rattle.acceptor.specs.declared.entry.Entry.{Entry}
 use Rattle.mirror.specs.Fronts.{LogsOfAgree, TakesAll, Telling}
-use Rattle.mirror.specs.declared.mirror.Taken.TheVariants.{Gap, Grew, Known}
+use Rattle.mirror.specs.declared.mirror.MirrorGrowth.TheVariants.{Gap, Grew, Known}
 
 abbrev pub entry : ℕ → List ℕ → Entry
 entry id text = record { id = id; text = text }

@@ -3,8 +3,8 @@
 ghost use Rattle.witnesses.specs.Dialogues.{WorksDialogues};
 
 /// A desk is asked for its log by a mirror that is kept up, and how it is by a survey; both times a
-/// connection is opened, the question is written, and the answer comes. So `mirroring::laws` and
-/// `surveying::laws` say something.
+/// connection is opened, the question is written, and the answer comes. So `kept_mirror::laws` and
+/// `desk_survey::laws` say something.
 pub fn desks_are_asked()
     ensures { WorksDialogues }
 {}

@@ -3,7 +3,7 @@
 ghost use Rattle.witnesses.specs.Followed.{WorksFollower};
 
 /// A hall of three desks is followed: the first desk is asked and answers, is asked again and is
-/// silent, or tells another entry; the second one's log is behind. So `following::laws` say
+/// silent, or reports another entry; the second one's log is behind. So `log_follower::laws` say
 /// something.
 pub fn a_hall_is_followed()
     ensures { WorksFollower }

@@ -1,7 +1,7 @@
 -- One request for a part of a log.
 use Rattle.std.specs.Prelude.{◌≡◌, ◌++◌, ◌∷◌, [], ℕ, ◌≤◌, List, length, Result, Ok}
 use Rattle.acceptor.specs.declared.entry.Entry.{Entry}
-use Rattle.wire.specs.declared.frame.What.{What}
+use Rattle.wire.specs.declared.frame.FrameBody.{FrameBody}
 use Rattle.batch.specs.Asking.{IsAnswer}
 use Rattle.batch.specs.Dialing.{GoesBy, Way, asked_so}
 use Rattle.batch.specs.Logs.{IsNoPart, IsPart, log_of}
@@ -12,7 +12,7 @@ use Rattle.batch.specs.declared.fault.BatchFault.{BatchFault}
 -- them
 pub record AddsPart (w : Way) (r : Receiver) (before : List Entry) (told : ℕ) (after : List Entry)
     (len : ℕ) : Type 0 where
-  pub answer : What
+  pub answer : FrameBody
   pub entries : List Entry
   pub goes : GoesBy w (asked_so (log_of r (length before)) (Ok answer) ∷ [])
   pub comes : IsAnswer (log_of r (length before)) answer
@@ -23,6 +23,6 @@ pub record AddsPart (w : Way) (r : Receiver) (before : List Entry) (told : ℕ) 
 -- it was made, and no part came
 pub record FailsPart (w : Way) (r : Receiver) (before : List Entry) (told : ℕ) (f : BatchFault)
     : Type 0 where
-  pub answer : Result What BatchFault
+  pub answer : Result FrameBody BatchFault
   pub goes : GoesBy w (asked_so (log_of r (length before)) answer ∷ [])
   pub fails : IsNoPart f (length before) told answer

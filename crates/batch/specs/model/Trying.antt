@@ -3,15 +3,16 @@ use Rattle.std.specs.Prelude.{◌≡◌, ◌⊎◌, ◌+◌, ◌/◌, ◌++◌, 
 use Rattle.std.specs.List.{AllByRecursion}
 use Rattle.wire.specs.declared.frame.Frame.{Frame}
 use Rattle.acceptor.specs.declared.entry.Entry.{Entry}
-use Rattle.wire.specs.declared.frame.What.{What}
-use Rattle.wire.specs.declared.frame.What.TheVariants as what
+use Rattle.wire.specs.declared.frame.FrameBody.{FrameBody}
+use Rattle.wire.specs.declared.frame.FrameBody.TheVariants as what
 use Rattle.client.specs.declared.fault.ClientFault.TheVariants.{Refused}
 use Rattle.wire.specs.declared.values.ClientRefusal.TheVariants.{Busy}
-use Rattle.batch.specs.Asking.{AreAllTries, AreAllWaits, AreKnown, Asked, IsAnswer, IsForgotten}
-use Rattle.batch.specs.Asking.{IsFull, IsPending, IsTicked, IsUnknown, IsWaiting, ask_of, submit_of}
-use Rattle.batch.specs.Asking.{tick_of}
+use Rattle.batch.specs.Asking.{AreAllTries, AreAllWaits, AreKnown, Asked, IsAnswer, IsAwaited}
+use Rattle.batch.specs.Asking.{IsForgotten, IsFull, IsPending, IsTaken, IsTakenOf, IsTicked}
+use Rattle.batch.specs.Asking.{IsUnknown, IsWaiting, ask_of, submit_of, tick_of}
 use Rattle.batch.specs.Entering.{IsOther}
-use Rattle.batch.specs.Watching.{Tells, Watched, notices_of}
+use Rattle.batch.specs.Dialing.{AsksBy, Way}
+use Rattle.batch.specs.Watching.{Telling, Tells, Watched, notices_of}
 use Rattle.batch.specs.declared.fault.BatchFault.{BatchFault}
 use Rattle.batch.specs.declared.fault.BatchFault.TheVariants as fault
 use Rattle.batch.specs.declared.asking.Receiver.{Receiver}
@@ -77,7 +78,34 @@ StopsTaking f r id text asked =
 
 -- the desk knew nothing of the command, or did not decide it
 abbrev pub IsUndecided : BatchFault → Receiver → ℕ → Type 0
-IsUndecided fault.Lost r id = (told : What) × IsAnswer (ask_of r id) told × IsUnknown told
+IsUndecided fault.Lost r id = (told : FrameBody) × IsAnswer (ask_of r id) told × IsUnknown told
 IsUndecided fault.StillPending r id =
-    (told : What) × IsAnswer (ask_of r id) told × IsPending told
+    (told : FrameBody) × IsAnswer (ask_of r id) told × IsPending told
 IsUndecided _ r id = ⊥
+
+-- the desk took the text of this request in the end, answered so, and the observer hears of the
+-- tries
+abbrev pub TakesFrame : Receiver → Frame → FrameBody → Way → Watched → Type 0
+TakesFrame r submit answer w v =
+    AsksBy w (λ asked. IsTakenOf r submit answer asked × TellsTries submit v asked)
+
+-- it did not, by this fault
+abbrev pub TurnsOff : BatchFault → Receiver → Frame → Way → Watched → Type 0
+TurnsOff f r submit w v =
+    AsksBy w (λ asked. IsTurnedOff f r submit asked × TellsTries submit v asked)
+
+-- the desk took the text with this id, answered so, and the observer hears so
+abbrev pub TakesText : Receiver → ℕ → List ℕ → FrameBody → Way → Watched → Type 0
+TakesText r id text answer w v = AsksBy w (Telling v notices_of (IsTaken r id text answer))
+
+-- it did not, by this fault
+abbrev pub RefusesText : BatchFault → Receiver → ℕ → List ℕ → Way → Watched → Type 0
+RefusesText f r id text w v = AsksBy w (Telling v notices_of (StopsTaking f r id text))
+
+-- the desk decided the command with this id, answered so, and the observer hears so
+abbrev pub Decides : Receiver → ℕ → FrameBody → Way → Watched → Type 0
+Decides r id told w v = AsksBy w (Telling v notices_of (IsAwaited r id told))
+
+-- it is waited for no longer, by this fault
+abbrev pub StopsWaiting : BatchFault → Receiver → ℕ → Way → Watched → Type 0
+StopsWaiting f r id w v = AsksBy w (Telling v notices_of (EndsWaiting f r id))

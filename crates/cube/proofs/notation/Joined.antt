@@ -4,15 +4,16 @@ use Rattle.std.proofs.Common.{append_assoc, arith, Result, Ok, Err}
 use Rattle.cube.specs.notation.Tokens.{token}
 use Rattle.cube.specs.notation.Notation.{spelling}
 use Rattle.cube.specs.declared.moves.Move.{Move}
-use Rattle.cube.specs.declared.notation.reading.ReadFault.{ReadFault}
+use Rattle.cube.specs.declared.notation.reading.NotationFault.{NotationFault}
 use Rattle.cube.specs.notation.model.Scan.{with_move}
 
-abbrev pub with_moves : List Move → Result (List Move) ReadFault → Result (List Move) ReadFault
+abbrev pub with_moves : List Move → Result (List Move) NotationFault
+    → Result (List Move) NotationFault
 with_moves [] read = read
 with_moves (move ∷ moves) read = with_move move (with_moves moves read)
 
 -- one more move
-pub with_moves_more : (moves : List Move) (move : Move) (read : Result (List Move) ReadFault)
+pub with_moves_more : (moves : List Move) (move : Move) (read : Result (List Move) NotationFault)
     → with_moves (moves ++ move ∷ []) read ≡ with_moves moves (with_move move read)
 with_moves_more [] move read = refl
 with_moves_more (m ∷ moves) move read = ap (with_move m) (with_moves_more moves move read)
@@ -24,7 +25,7 @@ with_moves_last [] move = refl
 with_moves_last (m ∷ moves) move = ap (with_move m) (with_moves_last moves move)
 
 -- a fault stays
-pub with_moves_fault : (moves : List Move) (fault : ReadFault)
+pub with_moves_fault : (moves : List Move) (fault : NotationFault)
     → with_moves moves (Err fault) ≡ Err fault
 with_moves_fault [] fault = refl
 with_moves_fault (m ∷ moves) fault = ap (with_move m) (with_moves_fault moves fault)

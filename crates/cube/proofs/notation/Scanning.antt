@@ -5,9 +5,9 @@ use Rattle.std.proofs.Common.{Option, Some, None, Result, Ok, Err, append_assoc,
 use Rattle.std.proofs.Math.Seq.{take-append_seam, drop-append_seam, take-length}
 use Rattle.std.proofs.lemmas.List.{append-nil, length_push, length-replicate, take-append-drop}
 use Rattle.cube.specs.declared.moves.Move.{Move}
-use Rattle.cube.specs.declared.notation.reading.ReadFault.{ReadFault}
-use Rattle.cube.specs.declared.notation.reading.ReadFault.TheVariants.{Empty, BadToken, TooMany}
-use Rattle.cube.specs.declared.notation.reading.ReadFault.TheVariants.{NoMemory}
+use Rattle.cube.specs.declared.notation.reading.NotationFault.{NotationFault}
+use Rattle.cube.specs.declared.notation.reading.NotationFault.TheVariants.{Empty, BadToken, TooMany}
+use Rattle.cube.specs.declared.notation.reading.NotationFault.TheVariants.{NoMemory}
 use Rattle.cube.specs.notation.Tokens.{token}
 use Rattle.cube.specs.notation.Notation.{AreSpaces, Spells, spelling, Leads, BeginsWithSpace}
 use Rattle.cube.specs.notation.Notation.{IsBehind}
@@ -222,7 +222,7 @@ leads_spells front (first ∷ next ∷ moves) move (between, further, apart, par
 )
 
 -- what an answer says, where these moves are read already
-abbrev Sound : List ℕ → List Move → Result (List Move) ReadFault → Type 0
+abbrev Sound : List ℕ → List Move → Result (List Move) NotationFault → Type 0
 Sound text moves (Ok more) = Spells text (moves ++ more) × (length (moves ++ more) ≤ 400)
 Sound text moves (Err Empty) = ⊥
 Sound text moves (Err (BadToken at)) = IsBadTokenAt text at
@@ -230,7 +230,7 @@ Sound text moves (Err TooMany) = IsTooMany text
 Sound text moves (Err NoMemory) = ⊥
 
 sound_front : (text : List ℕ) (moves : List Move) (move : Move)
-    (answer : Result (List Move) ReadFault) → Sound text (moves ++ move ∷ []) answer
+    (answer : Result (List Move) NotationFault) → Sound text (moves ++ move ∷ []) answer
     → Sound text moves (with_move move answer)
 sound_front text moves move (Ok more) h =
     subst (λ all. Spells text all × (length all ≤ 400)) (append_assoc moves (move ∷ []) more) h
@@ -352,33 +352,33 @@ sound_text text some =
     }) refl
 
 -- what a result says, where it is what is read of the text unless memory ran out
-abbrev pub ReadsText : List ℕ → Result (List Move) ReadFault → Type 0
+abbrev pub ReadsText : List ℕ → Result (List Move) NotationFault → Type 0
 ReadsText text result = IsUnlessNoMemory result (scan (length text) 400 text)
 
-told : (text : List ℕ) → text ≢ [] → (result answer : Result (List Move) ReadFault)
+told : (text : List ℕ) → text ≢ [] → (result answer : Result (List Move) NotationFault)
     → ReadsText text result → result ≡ answer → (answer ≡ Err NoMemory → ⊥) → Sound text [] answer
 told text some result answer (inl reads) is other =
     subst (Sound text []) (sym reads ∙ is) (sound_text text some)
 told text some result answer (inr spent) is other = absurd (other (sym is ∙ spent))
 
-pub told_moves : (text : List ℕ) → text ≢ [] → (result : Result (List Move) ReadFault)
+pub told_moves : (text : List ℕ) → text ≢ [] → (result : Result (List Move) NotationFault)
     → ReadsText text result → (moves : List Move) → result ≡ Ok moves → Spells text moves
     × (length moves ≤ 400)
 told_moves text some result reads moves is = told text some result (Ok moves) reads is (λ e. cc)
 
-pub told_bad : (text : List ℕ) → text ≢ [] → (result : Result (List Move) ReadFault)
+pub told_bad : (text : List ℕ) → text ≢ [] → (result : Result (List Move) NotationFault)
     → ReadsText text result → (at : ℕ) → result ≡ Err (BadToken at) → IsBadTokenAt text at
 told_bad text some result reads at is = told text some result (Err (BadToken at)) reads is (λ e. cc)
 
-pub told_many : (text : List ℕ) → text ≢ [] → (result : Result (List Move) ReadFault)
+pub told_many : (text : List ℕ) → text ≢ [] → (result : Result (List Move) NotationFault)
     → ReadsText text result → result ≡ Err TooMany → IsTooMany text
 told_many text some result reads is = told text some result (Err TooMany) reads is (λ e. cc)
 
-pub told_empty : (text : List ℕ) → text ≢ [] → (result : Result (List Move) ReadFault)
+pub told_empty : (text : List ℕ) → text ≢ [] → (result : Result (List Move) NotationFault)
     → ReadsText text result → result ≡ Err Empty → ⊥
 told_empty text some result reads is = told text some result (Err Empty) reads is (λ e. cc)
 
-pub reads_as : (text : List ℕ) (result answer : Result (List Move) ReadFault)
+pub reads_as : (text : List ℕ) (result answer : Result (List Move) NotationFault)
     → ReadsText text result → scan (length text) 400 text ≡ answer → IsUnlessNoMemory result answer
 reads_as text result answer (inl reads) e = inl (reads ∙ e)
 reads_as text result answer (inr spent) e = inr spent
@@ -409,7 +409,7 @@ spelling_spells (move ∷ next ∷ moves) some = (
   spelling_spells (next ∷ moves) (omega arith),
 )
 
-ok_same : (a b : List Move) (x y : Result (List Move) ReadFault) → x ≡ Ok a → y ≡ Ok b
+ok_same : (a b : List Move) (x y : Result (List Move) NotationFault) → x ≡ Ok a → y ≡ Ok b
     → x ≡ y → a ≡ b
 ok_same a b x y p q h = cc
 

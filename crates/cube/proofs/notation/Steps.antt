@@ -5,8 +5,8 @@ use Rattle.std.proofs.Common.{None, Result, Ok, Err, eq-eqb, append_assoc}
 use Rattle.std.proofs.lemmas.Bool.{eqb-true}
 use Rattle.std.proofs.lemmas.List.{take_more, length-take}
 use Rattle.cube.specs.declared.moves.Move.{Move}
-use Rattle.cube.specs.declared.notation.reading.ReadFault.{ReadFault}
-use Rattle.cube.specs.declared.notation.reading.ReadFault.TheVariants.{BadToken, TooMany}
+use Rattle.cube.specs.declared.notation.reading.NotationFault.{NotationFault}
+use Rattle.cube.specs.declared.notation.reading.NotationFault.TheVariants.{BadToken, TooMany}
 use Rattle.cube.specs.notation.Tokens.{token}
 use Rattle.cube.specs.notation.Notation.{spelling}
 use Rattle.cube.specs.notation.model.Scan.{word_len, behind_word, behind_spaces, move_named}
@@ -39,7 +39,7 @@ scan_one total n rest move named last =
     ∙ ap (λ x. scan_on (Some move) (total - length rest) x
     (scan total n (behind_spaces (behind_word rest)))) last
 
-on_more : (move : Move) (at : ℕ) (more : List ℕ) (further : Result (List Move) ReadFault)
+on_more : (move : Move) (at : ℕ) (more : List ℕ) (further : Result (List Move) NotationFault)
     → more ≢ [] → scan_on (Some move) at more further ≡ with_move move further
 on_more move at [] further some = absurd (some refl)
 on_more move at (c ∷ cs) further some = refl

@@ -1,9 +1,8 @@
 -- Words and the spaces behind them.
-use Rattle.std.proofs.Common.{◌≡◌, ◌⊎◌, inl, inr, ℕ, zero, suc, ◌+◌, ◌<◌, ◌≤◌, Bool, true, false}
+use Rattle.std.proofs.Common.{◌≡◌, ◌⊎◌, inl, inr, ℕ, zero, suc, ◌+◌, ◌<◌, Bool, true, false}
 use Rattle.std.proofs.Common.{not, cond, ◌&&◌, eqb, List, [], ◌∷◌, ◌++◌, length, take, drop}
 use Rattle.std.proofs.Common.{replicate, refl, sym, ap, ◌∙◌, subst, arith, Option, Some, None}
 use Rattle.std.proofs.Common.{eq-eqb}
-use Rattle.std.proofs.lemmas.List.Sums.{prefix_len-le-length}
 use Rattle.std.proofs.lemmas.List.{append-nil}
 use Rattle.std.proofs.lemmas.Bool.{eqb-true, and_parts}
 use Rattle.cube.specs.declared.moves.Side.{Side}
@@ -216,9 +215,6 @@ behind_ends (c ∷ cs) = at (eqb c 32) refl (behind_ends cs)
         → Ends (drop (cond (not b) (1 + word_len cs) 0) (c ∷ cs))
     at true e rest = inr (eqb-true c 32 e)
     at false e rest = subst (λ n. Ends (drop n (c ∷ cs))) (sym (one-add (word_len cs))) rest
-
-pub word_len_within : (bytes : List ℕ) → word_len bytes ≤ length bytes
-word_len_within bytes = prefix_len-le-length (λ c. not (eqb c 32)) bytes
 
 -- the spaces at the front, and what is behind them
 pub spaces_first : (bytes : List ℕ)

@@ -7,8 +7,8 @@ use Rattle.std.specs.List.{join_with_byte}
 use Rattle.cube.specs.declared.moves.Kind.{Kind}
 use Rattle.cube.specs.declared.moves.Kind.TheVariants.{Face, Block, Turn}
 use Rattle.cube.specs.declared.moves.Move.{Move}
-use Rattle.cube.specs.declared.notation.reading.ReadFault.{ReadFault}
-use Rattle.cube.specs.declared.notation.reading.ReadFault.TheVariants.{NoMemory}
+use Rattle.cube.specs.declared.notation.reading.NotationFault.{NotationFault}
+use Rattle.cube.specs.declared.notation.reading.NotationFault.TheVariants.{NoMemory}
 use Rattle.cube.specs.notation.Tokens.{token}
 
 -- one or more spaces
@@ -83,5 +83,6 @@ pub record IsTooMany (text : List ℕ) : Type 0 where
   pub more : rest ≢ []
 
 -- the answer is this one, or memory ran out
-abbrev pub IsUnlessNoMemory : Result (List Move) ReadFault → Result (List Move) ReadFault → Type 0
+abbrev pub IsUnlessNoMemory : Result (List Move) NotationFault → Result (List Move) NotationFault
+    → Type 0
 IsUnlessNoMemory result answer = (result ≡ answer) ⊎ (result ≡ Err NoMemory)

@@ -16,7 +16,7 @@ pub const MOST_MOVES: usize = 400;
 
 /// Why a text is not read. Offsets are in bytes, from 0.
 #[derive(Clone, Copy, PartialEq, Eq, Debug)]
-pub enum ReadFault {
+pub enum NotationFault {
     /// The text has no bytes.
     Empty,
     /// A token was expected at this offset, and no move is there up to the next space or the end.
@@ -27,25 +27,25 @@ pub enum ReadFault {
     NoMemory,
 }
 
-impl From<AllocError> for ReadFault {
+impl From<AllocError> for NotationFault {
     ghost use Rattle.std.specs.Prelude.{◌≡◌};
-    ghost use Rattle.cube.specs.declared.notation.reading.ReadFault.TheVariants.{NoMemory};
+    ghost use Rattle.cube.specs.declared.notation.reading.NotationFault.TheVariants.{NoMemory};
 
     ghost from_gives = { λ _ fault. fault ≡ NoMemory };
 
-    fn from(_: AllocError) -> ReadFault {
-        ReadFault::NoMemory
+    fn from(_: AllocError) -> NotationFault {
+        NotationFault::NoMemory
     }
 }
 
-impl<T: Drop> From<AllocFailed<T>> for ReadFault {
+impl<T: Drop> From<AllocFailed<T>> for NotationFault {
     ghost use Rattle.std.specs.Prelude.{◌≡◌};
-    ghost use Rattle.cube.specs.declared.notation.reading.ReadFault.TheVariants.{NoMemory};
+    ghost use Rattle.cube.specs.declared.notation.reading.NotationFault.TheVariants.{NoMemory};
 
     ghost from_gives = { λ _ fault. fault ≡ NoMemory };
 
-    fn from(_: AllocFailed<T>) -> ReadFault {
-        ReadFault::NoMemory
+    fn from(_: AllocFailed<T>) -> NotationFault {
+        NotationFault::NoMemory
     }
 }
 
@@ -59,28 +59,30 @@ impl<T: Drop> From<AllocFailed<T>> for ReadFault {
 /// that is none is reported as `BadToken`, or, behind 400 moves and a space, the first further byte
 /// as `TooMany`. `NoMemory` comes only where a growth was refused, in place of any of these but
 /// `Empty`.
-pub fn read(alloc: Global, text: &[u8]) -> Result<Moves, ReadFault>
+pub fn read(alloc: Global, text: &[u8]) -> Result<Moves, NotationFault>
     // What is read is spelled so, and has at most 400 moves.
     ensures found { (moves : List Move) → result ≡ Ok moves
         → Spells text.now moves × (length moves ≤ 400) }
     // What is spelled so, with at most 400 moves, is read, unless memory runs out.
     ensures only { (moves : List Move) → Spells text.now moves → length moves ≤ 400
         → IsUnlessNoMemory result (Ok moves) }
-    ensures empty { (result ≡ Err ReadFault.Empty) ↔ (text.now ≡ []) }
-    ensures bad_token { (at : ℕ) → result ≡ Err (ReadFault.BadToken at) → IsBadTokenAt text.now at }
+    ensures empty { (result ≡ Err NotationFault.Empty) ↔ (text.now ≡ []) }
+    ensures bad_token { (at : ℕ) → result ≡ Err (NotationFault.BadToken at)
+        → IsBadTokenAt text.now at }
     ensures bad_token_only { (at : ℕ) → IsBadTokenAt text.now at
-        → IsUnlessNoMemory result (Err (ReadFault.BadToken at)) }
-    ensures too_many { result ≡ Err ReadFault.TooMany → IsTooMany text.now }
-    ensures too_many_only { IsTooMany text.now → IsUnlessNoMemory result (Err ReadFault.TooMany) }
+        → IsUnlessNoMemory result (Err (NotationFault.BadToken at)) }
+    ensures too_many { result ≡ Err NotationFault.TooMany → IsTooMany text.now }
+    ensures too_many_only { IsTooMany text.now
+        → IsUnlessNoMemory result (Err NotationFault.TooMany) }
 {
     if text.is_empty() {
-        return Err(ReadFault::Empty);
+        return Err(NotationFault::Empty);
     }
     read_tokens(alloc, text)
 }
 
 /// Reads a text that is not empty.
-fn read_tokens(alloc: Global, text: &[u8]) -> Result<Moves, ReadFault>
+fn read_tokens(alloc: Global, text: &[u8]) -> Result<Moves, NotationFault>
     ensures { IsUnlessNoMemory result (scan (length text.now) 400 text.now) }
 {
     let mut moves = Vec::new(alloc);
@@ -88,7 +90,7 @@ fn read_tokens(alloc: Global, text: &[u8]) -> Result<Moves, ReadFault>
     for _taken in 0..MOST_MOVES {
         let (word, behind) = rest.split_at(word_len(rest));
         let Some(turn) = move_of(word) else {
-            return Err(ReadFault::BadToken {
+            return Err(NotationFault::BadToken {
                 at: text.len() - rest.len(),
             });
         };
@@ -99,9 +101,9 @@ fn read_tokens(alloc: Global, text: &[u8]) -> Result<Moves, ReadFault>
         rest = without_spaces(behind);
     }
     if rest.is_empty() {
-        Err(ReadFault::BadToken { at: text.len() })
+        Err(NotationFault::BadToken { at: text.len() })
     } else {
-        Err(ReadFault::TooMany)
+        Err(NotationFault::TooMany)
     }
 }
 

@@ -22,7 +22,7 @@ use Rattle.store.specs.Opening.{Opens}
 use Rattle.store.specs.Ranges.{IsHome}
 use Rattle.store.specs.declared.home.Home.{Home}
 use Rattle.desk_file.specs.stored_log.StoredLogs.{HasLog, IsFound, IsReadFrom}
-use Rattle.desk_file.specs.declared.stored_log.fault.LogFault.{LogFault}
+use Rattle.desk_file.specs.declared.stored_log.fault.StoredLogFault.{StoredLogFault}
 use Rattle.desk_file.specs.stored_log.model.Back.{IsBack}
 
 -- ---- what a row that is asked for in a transaction leaves
@@ -101,7 +101,7 @@ found files c fresh live finds = record {
 }
 
 pub read_from : {K : Type 0} (IsHonest : K → Type 0) (files : Image) (c : State)
-    (r : Result LogValue LogFault)
+    (r : Result LogValue StoredLogFault)
     → (HasCleanDisk c → IsFound files c.committed)
     → IfOk r (λ log. (last : K) × (IsHonest last → HasCleanDisk c × HasLog c.committed log.entries))
     → IfOk r (λ log. IsReadFrom IsHonest files log.entries)

@@ -16,8 +16,8 @@ use Rattle.store.specs.Ranges.{IsHome}
 use Rattle.store.specs.declared.fault.OpenFault.{OpenFault}
 use Rattle.store.specs.declared.fault.OpenFault.TheVariants as opening
 use Rattle.store.specs.declared.home.Home.{Home}
-use Rattle.desk_file.specs.declared.stored_log.fault.LogFault.{LogFault}
-use Rattle.desk_file.specs.declared.stored_log.fault.LogFault.TheVariants as fault
+use Rattle.desk_file.specs.declared.stored_log.fault.StoredLogFault.{StoredLogFault}
+use Rattle.desk_file.specs.declared.stored_log.fault.StoredLogFault.TheVariants as fault
 
 -- the archive of a log was written, and a replay of it gives the sheets of that log
 abbrev pub PrintsLog : Option (List ℕ) → Option (List ℕ) → Type 0
@@ -49,7 +49,7 @@ abbrev pub HoldsLog : Image → List Entry → Type 0
 HoldsLog files log = (db : Database) × IsFound files db × HasLog db log
 
 -- The log was read from the two files: they held it, where they have given back what was written to
--- them, as the keeper that read it tells.
+-- them, as the keeper that read it says.
 abbrev pub IsReadFrom : {K : Type 0} → (K → Type 0) → Image → List Entry → Type 0
 IsReadFrom {K} IsHonest files log = (keeper : K) × (IsHonest keeper → HoldsLog files log)
 
@@ -68,8 +68,8 @@ PrintsHeldPart IsHonest files old new =
     (log : List Entry) × IsReadFrom IsHonest files log × AppendsPart old new (archive_text log)
 
 -- What was written at each fault. Where the file is damaged or can't be read, nothing was. Where a
--- write failed, the log had been read. Memory may run out in front of it and behind it.
-abbrev pub FailsLog : {K : Type 0} → LogFault → (K → Type 0) → Image → Option (List ℕ)
+-- write failed, the log had been read. Memory may run out before it and after it.
+abbrev pub FailsLog : {K : Type 0} → StoredLogFault → (K → Type 0) → Image → Option (List ℕ)
     → Option (List ℕ) → Type 0
 FailsLog fault.Damaged IsHonest files old new = Keeps old new
 FailsLog fault.Device IsHonest files old new = Keeps old new
@@ -78,12 +78,12 @@ FailsLog fault.NoMemory IsHonest files old new =
     Keeps old new ⊎ PrintsHeldPart IsHonest files old new
 
 -- the faults of a file
-abbrev pub IsOfFile : LogFault → Type 0
+abbrev pub IsOfFile : StoredLogFault → Type 0
 IsOfFile fault.Write = ⊥
 IsOfFile _ = Unit {0}
 
 -- a store that was not opened or not loaded, where another desk's row is as good as none
-abbrev pub opening_fault : OpenFault → LogFault
+abbrev pub opening_fault : OpenFault → StoredLogFault
 opening_fault opening.WrongDesk = fault.Damaged
 opening_fault opening.Damaged = fault.Damaged
 opening_fault opening.Device = fault.Device

@@ -13,7 +13,7 @@ ghost use Rattle.desk_file.specs.stored_log.StoredLogs.{PrintsHeld, PrintsLog, P
 ghost use Rattle.desk_file.specs.stored_log.model.Back.{IsBack};
 ghost use Rattle.desk_file.specs.stored_log.model.Kept.{IsKeptBy, IsLogOf};
 
-use crate::stored_log::fault::{LogFault, fault_of_open, fault_of_run};
+use crate::stored_log::fault::{StoredLogFault, fault_of_open, fault_of_run};
 use crate::{check_use, fault_of_load, open_file};
 use archive::write_log;
 use learner::log::Log;
@@ -28,16 +28,16 @@ use store::sql::SqlKeeper;
 
 /// Whether the file has something in it. A file that is not there is not made, and in one that has
 /// nothing no tables are made.
-fn has_bytes(rt: &HostRuntime, path: &str) -> Result<bool, LogFault>
+fn has_bytes(rt: &HostRuntime, path: &str) -> Result<bool, StoredLogFault>
     ensures { IfErr result IsOfFile }
 {
     match fs::metadata(rt, path) {
         Ok(data) => Ok(data.len() > 0),
         Err(error) => {
             if error.kind() == ErrorKind::OutOfMemory {
-                return Err(LogFault::NoMemory);
+                return Err(StoredLogFault::NoMemory);
             }
-            Err(LogFault::Device)
+            Err(StoredLogFault::Device)
         }
     }
 }
@@ -85,7 +85,7 @@ fn has_table<S: Alter>(conn: &Connection<S>) -> bool
 }
 
 /// The desk whose store the connection has. The opening of the store looks at the rest.
-fn home_in<S: Alter>(conn: &mut Connection<S>) -> Result<Home, LogFault>
+fn home_in<S: Alter>(conn: &mut Connection<S>) -> Result<Home, StoredLogFault>
     requires { conn.old.in_transaction ≡ false }
     ensures home { IfOk result IsHome }
     ensures err { IfErr result IsOfFile }
@@ -105,16 +105,17 @@ fn home_in<S: Alter>(conn: &mut Connection<S>) -> Result<Home, LogFault>
     };
     // In a database without a table the opening would make them.
     if !has_table(conn) {
-        return Err(LogFault::Damaged);
+        return Err(StoredLogFault::Damaged);
     }
     match home_of(hall, desk, desks) {
         Some(home) => Ok(home),
-        None => Err(LogFault::Damaged),
+        None => Err(StoredLogFault::Damaged),
     }
 }
 
 /// The log that a keeper keeps.
-fn kept_log<K: Keeper + Drop>(alloc: Global, mut keeper: K) -> Result<Log, LogFault>
+fn kept_log<K: Keeper + Drop>(alloc: Global, mut keeper: K) -> Result<Log, StoredLogFault>
+    requires { K.is_settled keeper }
     ensures log { IfOk result (λ log. IsKeptBy K.Keeper keeper log.entries) }
     ensures err { IfErr result IsOfFile }
 {
@@ -125,7 +126,7 @@ fn kept_log<K: Keeper + Drop>(alloc: Global, mut keeper: K) -> Result<Log, LogFa
 }
 
 /// The log that the store over a connection holds.
-fn log_in<S: Alter + Drop>(rt: &HostRuntime, mut conn: Connection<S>) -> Result<Log, LogFault>
+fn log_in<S: Alter + Drop>(rt: &HostRuntime, mut conn: Connection<S>) -> Result<Log, StoredLogFault>
     requires { conn.in_transaction ≡ false }
     ensures log { IfOk result
         (λ log. IsLogOf ⟦<SqlKeeper<S> as Keeper>⟧ (state S.Store conn) log.entries) }
@@ -147,7 +148,7 @@ fn open<S: Start>(
     rt: &HostRuntime,
     path: &str,
     start: S,
-) -> Result<Connection<FileStore<FileFrom<S>>>, LogFault>
+) -> Result<Connection<FileStore<FileFrom<S>>>, StoredLogFault>
     ensures autocommit { IfOk result (λ conn. conn.in_transaction ≡ false) }
     ensures found { IfOk result (λ conn. HasCleanDisk (file_state conn)
         → IsFound (image_at S.Start) (file_state conn).committed) }
@@ -155,7 +156,7 @@ fn open<S: Start>(
 {
     match has_bytes(rt, path) {
         Ok(true) => {}
-        Ok(false) => return Err(LogFault::Damaged),
+        Ok(false) => return Err(StoredLogFault::Damaged),
         Err(fault) => return Err(fault),
     }
     if let Err(fault) = check_use(rt, path, Unknown) {
@@ -168,7 +169,7 @@ fn open<S: Start>(
 }
 
 /// The log that the file held.
-fn log_of<S: Start>(rt: &HostRuntime, path: &str, start: S) -> Result<Log, LogFault>
+fn log_of<S: Start>(rt: &HostRuntime, path: &str, start: S) -> Result<Log, StoredLogFault>
     ensures log { let k = ⟦<SqlKeeper<FileStore<FileFrom<S>>> as Keeper>⟧ in
         IfOk result (λ log. IsReadFrom k.is_honest (image_at S.Start) log.entries) }
     ensures err { IfErr result IsOfFile }
@@ -195,7 +196,7 @@ pub fn write_stored_log<S: Start, W: Write>(
     path: &str,
     start: S,
     writer: &mut W,
-) -> Result<(), LogFault>
+) -> Result<(), StoredLogFault>
     ensures ok { OnOk result (PrintsLog (W.contents writer.old) (W.contents writer.new)) }
     ensures err { OnErr result (PrintsLogPart (W.contents writer.old) (W.contents writer.new)) }
     ensures prints { let k = ⟦<SqlKeeper<FileStore<FileFrom<S>>> as Keeper>⟧ in

@@ -11,7 +11,7 @@ use Rattle.wcif.specs.declared.options.Options.{Options}
 use Rattle.texts.specs.declared.command.Command.{Command}
 use Rattle.wcif.specs.Later.{SaysLater, later_lines}
 use Rattle.wcif.specs.Lines.{lines}
-use Rattle.wcif.specs.declared.later.Later.{Later}
+use Rattle.wcif.specs.declared.later.RoundImport.{RoundImport}
 use Rattle.exports.specs.imports.Printing.{GivesNone, IsFront, IsImported}
 
 -- what was read with a limit
@@ -53,7 +53,7 @@ gives_none file.NoMemory options (Some all) bytes front h = (all, refl, tt)
 
 -- what was written is what those bytes are imported to
 pub imported : (options : Options) (had : Option (List ℕ)) (bytes was : List ℕ)
-    (made : List Command) (later : List Later) (text : List ℕ)
+    (made : List Command) (later : List RoundImport) (text : List ℕ)
     → IsFront had bytes → was ≡ bytes → SetsUp options was made → SaysLater options was later
     → text ≡ lines made ++ later_lines later
     → HasLeft had bytes × IsImported options bytes text

@@ -7,7 +7,7 @@ use Rattle.wcif.specs.Later.{SaysLater, later_lines}
 use Rattle.wcif.specs.Lines.{lines}
 use Rattle.wcif.specs.declared.file.FileFault.{FileFault}
 use Rattle.wcif.specs.declared.file.FileFault.TheVariants as file
-use Rattle.wcif.specs.declared.later.Later.{Later}
+use Rattle.wcif.specs.declared.later.RoundImport.{RoundImport}
 use Rattle.texts.specs.declared.command.Command.{Command}
 use Rattle.wcif.specs.declared.options.Options.{Options}
 use Rattle.exports.specs.declared.imports.fault.ImportsFault.{ImportsFault}
@@ -22,7 +22,7 @@ IsFront (Some all) bytes = bytes ≡ take (most_bytes + 1) all
 -- rounds that they do not open
 pub record IsImported (options : Options) (bytes text : List ℕ) : Type 0 where
   pub made : List Command
-  pub later : List Later
+  pub later : List RoundImport
   pub sets_up : SetsUp options bytes made
   pub says : SaysLater options bytes later
   pub is : text ≡ lines made ++ later_lines later

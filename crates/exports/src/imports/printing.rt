@@ -4,7 +4,7 @@ ghost use Rattle.std.specs.Prelude.{OnOk, IfErr, None};
 ghost use Rattle.exports.specs.imports.Printing.{FailsImport, PrintsImport};
 
 use crate::imports::fault::ImportsFault;
-use crate::imports::reading::{ReadFault, read_bytes};
+use crate::imports::reading::{InputFault, read_bytes};
 use lines::write_text;
 use std::alloc::Global;
 use std::fs::File;
@@ -36,8 +36,8 @@ pub fn print_import<R: Read + Drop, W: Write>(
 {
     let bytes = match read_bytes(alloc, reader) {
         Ok(bytes) => bytes,
-        Err(ReadFault::Read) => return Err(ImportsFault::Read),
-        Err(ReadFault::NoMemory) => return Err(ImportsFault::NoMemory),
+        Err(InputFault::Read) => return Err(ImportsFault::Read),
+        Err(InputFault::NoMemory) => return Err(ImportsFault::NoMemory),
     };
     let made = match import_file(alloc, &bytes, options) {
         Ok(made) => made,

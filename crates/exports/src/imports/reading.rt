@@ -11,7 +11,7 @@ const MOST_READ: u64 = 67_108_865;
 
 /// Why the bytes are not there.
 #[derive(Clone, Copy, Debug, PartialEq, Eq)]
-pub enum ReadFault {
+pub enum InputFault {
     /// A read failed.
     Read,
     /// Memory ran out.
@@ -23,13 +23,13 @@ pub enum ReadFault {
 /// # Errors
 ///
 /// `Read` where a read fails, and `NoMemory` where memory runs out.
-pub fn read_bytes<R: Read + Drop>(alloc: Global, reader: R) -> Result<Vec<u8>, ReadFault>
+pub fn read_bytes<R: Read + Drop>(alloc: Global, reader: R) -> Result<Vec<u8>, InputFault>
     ensures { IfOk result (λ bytes. IsFront (R.remaining reader) bytes.items) }
 {
     let mut bytes = Vec::new(alloc);
     match reader.take(MOST_READ).read_to_end(&mut bytes) {
         Ok(_) => Ok(bytes),
-        Err(error) if error.kind() == ErrorKind::OutOfMemory => Err(ReadFault::NoMemory),
-        Err(_) => Err(ReadFault::Read),
+        Err(error) if error.kind() == ErrorKind::OutOfMemory => Err(InputFault::NoMemory),
+        Err(_) => Err(InputFault::Read),
     }
 }

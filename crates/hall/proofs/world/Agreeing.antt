@@ -13,7 +13,7 @@ use Rattle.sheets.specs.Sheet.{text_sheet, table_sheet}
 use Rattle.sheets.specs.declared.Style.{Style}
 use Rattle.sheets.specs.declared.Style.TheVariants.{Text, Table}
 use Rattle.answers.specs.Answers.{texts, is_queued, told, told_at, told_by, sheet_at}
-use Rattle.answers.specs.declared.answers.Told.TheVariants.{Done, Pending, Unknown}
+use Rattle.answers.specs.declared.answers.IdState.TheVariants.{Done, Pending, Unknown}
 use Rattle.hall.specs.world.Headline.{DesksAgree, log_at}
 
 take_front : (xs rest : List Entry) (p : ℕ) → p ≤ length xs → take p (xs ++ rest) ≡ take p xs

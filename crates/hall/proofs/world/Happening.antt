@@ -2,8 +2,7 @@
 use Rattle.std.proofs.Common.{◌≡◌, ℕ, suc, zero, ◌+◌, ◌==◌, inl, ◌-◌, Bool, true, false}
 use Rattle.std.proofs.Common.{if◌then◌else◌, List, [], ◌∷◌, ◌++◌, Option, Some, None, Result, Ok}
 use Rattle.std.proofs.Common.{Err, IfOk, OnOk, OnErr, set, slice_get, take, length, ◌≤◌, refl, sym}
-use Rattle.std.proofs.Common.{ap, ◌∙◌, subst, arith, append_assoc}
-use Rattle.std.proofs.lemmas.List.{append-nil}
+use Rattle.std.proofs.Common.{ap, ◌∙◌, subst, arith}
 use Rattle.acceptor.specs.declared.entry.Entry.{Entry}
 use Rattle.acceptor.specs.declared.message.Message.{Message}
 use Rattle.proposer.specs.declared.fault.Refusal.{Refusal}
@@ -20,7 +19,7 @@ use Rattle.replica.specs.roles.model.RunningDesks.{RunningDesk}
 use Rattle.hall.specs.world.model.Halls.{HallValue, desk_from, known_by, world_of, AreNumbered}
 use Rattle.hall.specs.world.model.Halls.{Does}
 use Rattle.hall.specs.world.WorldValues.{refusal_of, refusal_at, refusal}
-use Rattle.hall.specs.world.WorldValues.{WorldValue, extended, refused_by, last_refusal}
+use Rattle.hall.specs.world.WorldValues.{refused_by, last_refusal}
 use Rattle.hall.specs.world.model.Halls.{IsAfter}
 use Rattle.hall.proofs.world.Places.{stands, known_at, numbered_set, put_desk, known_same}
 
@@ -238,24 +237,6 @@ pub does_refuse : (x y : RunningDesk) (sent more : List Message) (why : Refusal)
 does_refuse x y sent more why s e desk same =
     subst (λ q. Does x y sent more (Some why) q) (sym e) (desk, same, refl)
 
--- an event at a number that no desk has
-pub nobody_world : (n d : ℕ) (w : World) (event : DeskEvent) → is_desk n d ≡ false
-    → w ≡ at_desk n w d event
-nobody_world n d w event none =
-    sym (ap (λ t. if t then world_after w d (step n d (w.desks d) event) else w) none)
-
-pub nobody_refused : (n d : ℕ) (w : World) (event : DeskEvent) → is_desk n d ≡ false
-    → None ≡ refusal_at n w d event
-nobody_refused n d w event none =
-    sym (ap (λ t. if t then refusal_of (step n d (w.desks d) event) else None) none)
-
-pub nobody_restarts : (n d : ℕ) (w : World) → is_desk n d ≡ false → w ≡ restart_at n w d
-nobody_restarts n d w none =
-    sym
-    (ap
-    (λ t. if t then record { desks = put w.desks d (restarted (w.desks d)); sent = w.sent } else w)
-    none)
-
 -- a desk that there is restarts
 pub restart_world : (n d : ℕ) (places : List RunningDesk) (x y : RunningDesk) (sent : List Message)
     → is_desk n d ≡ true → slice_get places (d - 1) ≡ Some x → y.desk ≡ restarted x.desk
@@ -365,29 +346,8 @@ take_more [] k e h = absurd cc
 take_more (x ∷ xs) zero e h = let same : x ≡ e = cc in ap (λ (y : WorldEvent). y ∷ []) same
 take_more (x ∷ xs) (suc k) e h = ap (λ (ys : List WorldEvent). x ∷ ys) (take_more xs k e h)
 
--- of no events there is nothing to do
-pub extended_none : (h : WorldValue) → h ≡ extended h []
-extended_none h = λ i. record { desks = h.desks; events = sym (append-nil h.events) i }
-
--- one more of the list is done
-pub extended_more : (h s next : WorldValue) (es : List WorldEvent) (k : ℕ) (e : WorldEvent)
-    → s ≡ extended h (take k es) → slice_get es k ≡ Some e → next ≡ extended s (e ∷ [])
-    → next ≡ extended h (take (suc k) es)
-extended_more h s next es k e so_far there more =
-    let events : (h.events ++ take k es) ++ e ∷ [] ≡ h.events ++ take (suc k) es =
-    append_assoc h.events (take k es) (e ∷ [])
-    ∙ ap (λ (ys : List WorldEvent). h.events ++ ys) (sym (take_more es k e there)) in
-    more ∙ ap (λ (z : WorldValue). extended z (e ∷ [])) so_far
-    ∙ (λ i. record { desks = h.desks; events = events i })
-
 whole : (xs : List WorldEvent) (k : ℕ) → length xs ≤ k → take k xs ≡ xs
 whole [] zero h = refl
 whole [] (suc k) h = refl
 whole (x ∷ xs) zero h = absurd (omega arith)
 whole (x ∷ xs) (suc k) h = ap (λ (ys : List WorldEvent). x ∷ ys) (whole xs k (omega arith))
-
--- all of the list is done
-pub extended_all : (h s : WorldValue) (es : List WorldEvent) (k : ℕ) → s ≡ extended h (take k es)
-    → length es ≤ k → s ≡ extended h es
-extended_all h s es k so_far all =
-    so_far ∙ ap (λ (ys : List WorldEvent). extended h ys) (whole es k all)

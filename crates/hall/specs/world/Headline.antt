@@ -10,7 +10,7 @@ use Rattle.learner.specs.Submitted.{IsSubmitted}
 use Rattle.learner.specs.Worlds.{log_of}
 use Rattle.sheets.specs.declared.Style.{Style}
 use Rattle.answers.specs.Answers.{told, sheet_at}
-use Rattle.answers.specs.declared.answers.Told.TheVariants.{Done}
+use Rattle.answers.specs.declared.answers.IdState.TheVariants.{Done}
 
 -- the log of desk d after the first i of these events
 abbrev pub log_at : ℕ → List WorldEvent → ℕ → ℕ → List Entry

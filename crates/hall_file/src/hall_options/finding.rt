@@ -11,7 +11,7 @@ ghost use Rattle.hall_file.specs.hall_options.Found.{IsMistakeOfKey, IsUnknown, 
 ghost use Rattle.hall_file.specs.declared.hall_options.mistakes.Mistake.TheVariants as wrong;
 
 use crate::hall_options::mistakes::Mistake;
-use crate::{HallFault, HallFile, OpenFault, key_path, read_hall_at};
+use crate::{HallFault, HallFile, HallOpenFault, key_path, read_hall_at};
 use clap::ArgMatches;
 use command_line::plain_number;
 use keys::key_file::read_key_at;
@@ -147,7 +147,7 @@ fn file_at<'a>(rt: &HostRuntime, path: &'a str) -> Result<HallFile, Mistake<'a>>
     match read_hall_at(rt, path) {
         Ok(file) => Ok(file),
         Err(
-            OpenFault::Refused {
+            HallOpenFault::Refused {
                 fault: HallFault::NoMemory,
                 ..
             },

@@ -7,7 +7,7 @@ ghost use Rattle.std.specs.IoError.{error_kind};
 ghost use Rattle.hall_file.specs.hall_options.Mistakes.{arguments_status, key_status, status_of};
 ghost use Rattle.hall_file.specs.hall_options.Mistakes.{system_status};
 
-use crate::OpenFault;
+use crate::HallOpenFault;
 use clap::Error;
 use command_line::{NOT_TEXT, PrintFault, print_parser_text};
 use keys::key_file::KeyFileFault;
@@ -23,7 +23,7 @@ pub enum Mistake<'a> {
     /// The text of this option is not a known address.
     Address(&'static str),
     /// The hall's file describes no hall.
-    File(OpenFault<'a>),
+    File(HallOpenFault<'a>),
     /// The key's file gives no key.
     Key(KeyFileFault),
     /// The address that the hall's file has for this desk is not known.

@@ -1,4 +1,4 @@
--- A mirror that takes what desks of a hall answer.
+-- A mirror that is given what desks of a hall answer.
 use Rattle.std.proofs.Common.{◌≡◌, ◌⊎◌, inl, inr, refl, sym, ap, subst, ◌∙◌, ℕ, zero, suc}
 use Rattle.std.proofs.Common.{List, [], ◌∷◌, Some, slice_get}
 use Rattle.acceptor.specs.declared.entry.Entry.{Entry}
@@ -108,7 +108,7 @@ begins_ours k n h ss all after is b =
       ours = a.ours;
     }
 
--- what the mirror holds, and that none was told apart
+-- what the mirror holds, and that none was found to differ
 both : {K : Type 0} (k : Ghosts K) → HallCopiesAreOfLogs k → HallLogsAgree k → MirrorsHoldFronts
     → (n : ℕ) (h : Hall K) (ss : List (HallStep K)) (all : List Mirrored) (after : List Entry)
     → IsHallRun k n h ss → MirrorsHall k n h ss [] all after

@@ -1,4 +1,4 @@
--- A mirror that takes what desks of a hall answer (the project's own).
+-- A mirror that is given what desks of a hall answer (the project's own).
 use Rattle.std.specs.Prelude.{ℕ, ◌≡◌, ◌≤◌, ◌⊎◌, List, [], ◌∷◌, length, Option, Some, slice_get}
 use Rattle.acceptor.specs.declared.entry.Entry.{Entry}
 use Rattle.answers.specs.Answers.{sheet_at}
@@ -8,15 +8,15 @@ use Rattle.learner.specs.Steps.{IsDesk}
 use Rattle.sheets.specs.declared.Style.{Style}
 use Rattle.store.specs.declared.keeper.Keeper.{Ghosts}
 use Rattle.mirror.specs.Fronts.{TakesAs}
-use Rattle.mirror.specs.declared.mirror.Taken.{Taken}
-use Rattle.mirror.specs.declared.mirror.Taken.TheVariants.{Differs}
+use Rattle.mirror.specs.declared.mirror.MirrorGrowth.{MirrorGrowth}
+use Rattle.mirror.specs.declared.mirror.MirrorGrowth.TheVariants.{Differs}
 use Rattle.hall_laws.specs.Copying.{AnswersCopy, Given}
 use Rattle.hall_laws.specs.HallRuns.{Hall, HallStep, IsHallRun, hall_log}
 
 -- an answer, and what came of it at the mirror: nothing is said where memory was refused
 pub record Mirrored : Type 0 where
   pub given : Given
-  pub outcome : Option Taken
+  pub outcome : Option MirrorGrowth
 
 -- A mirror that held the first list holds the last after it took these answers, one after the
 -- other, each of a desk of the hall.

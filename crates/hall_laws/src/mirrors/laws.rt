@@ -6,9 +6,9 @@ use crate::{copies_are_of_logs, halls_are_runs};
 use mirror::mirrors_hold_fronts;
 use store::keeper::Keeper;
 
-/// A mirror that took what desks of a hall answered, from the empty one on, prints what they print:
-/// whichever desks answered, at whatever moments, asked for from whatever positions, and where
-/// memory was refused too.
+/// A mirror that took what desks of a hall answered, from the empty one on, prints what they print.
+/// It does not matter which desks answered, at which moments, from which positions they were asked,
+/// and whether memory was refused.
 ///
 /// A sheet here is `sheet_at` of `answers`: by its definition the Regulations' sheet of a round for
 /// the accepted commands among the entries below a position. It is what `mirror::Mirror::sheet_at`

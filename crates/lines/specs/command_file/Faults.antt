@@ -7,7 +7,7 @@ use Rattle.std.specs.List.{list_any, slice_split}
 use Rattle.std.specs.Option.{option_and_then}
 use Rattle.texts.specs.Fields.{cut, cut_remark}
 use Rattle.texts.specs.Reading.{command_of}
-use Rattle.texts.specs.declared.command.Remarked.{Remarked}
+use Rattle.texts.specs.declared.command.RemarkedCommand.{RemarkedCommand}
 use Rattle.texts.specs.declared.reading.CommandFault.{CommandFault}
 use Rattle.texts.specs.declared.reading.CommandFault.TheVariants as fault
 use Rattle.lines.specs.command_file.Commands.{Numbered}
@@ -141,7 +141,8 @@ abbrev pub line_text : Numbered → CommandFault → List ℕ
 line_text c f = codes "line " ++ decimal c.number ++ codes ": " ++ fault_text c.text f
 
 -- what is said of a command that was read so, where the later ones come to this
-abbrev pub or_fault : Numbered → Result Remarked CommandFault → Option (List ℕ) → Option (List ℕ)
+abbrev pub or_fault : Numbered → Result RemarkedCommand CommandFault → Option (List ℕ)
+    → Option (List ℕ)
 or_fault c (Ok command) later = later
 or_fault c (Err f) later = Some (line_text c f)
 

@@ -7,12 +7,12 @@ use std::marker::Model;
 
 /// A command of an input: the number of its line, counted from 1, and its text.
 #[derive(Debug, Drop)]
-pub struct CommandText {
+pub struct InputCommand {
     number: u32,
     text: Vec<u8>,
 }
 
-impl Model for CommandText {
+impl Model for InputCommand {
     ghost use Rattle.lines.specs.command_file.Commands.{Numbered};
 
     ghost Value = { Numbered };
@@ -20,12 +20,12 @@ impl Model for CommandText {
     ghost view = { λ c. record { number = c.number; text = c.text.items } };
 }
 
-impl CommandText {
+impl InputCommand {
     /// The command of the line with this number, without taking memory.
     pub fn new(number: u32, text: Vec<u8>) -> Self
         ensures { result ≡ numbered number text.items }
     {
-        CommandText { number, text }
+        InputCommand { number, text }
     }
 
     /// The number of its line, counted from 1.

@@ -4,7 +4,7 @@ ghost use Rattle.std.specs.Prelude.{◌≡◌, ◌++◌, ◌≤◌, IfOk, IfErr,
 ghost use Rattle.lines.specs.command_file.Commands.{ReadsCommands, StopsReading, command_in};
 ghost use Rattle.lines.specs.command_file.Commands.{is_left_out, text_of, unmarked, unreturned};
 
-use crate::command_file::command_text::CommandText;
+use crate::command_file::command_text::InputCommand;
 use crate::{LineReader, RunFault};
 use std::alloc::{AllocError, Global};
 use std::io::Read;
@@ -58,7 +58,7 @@ fn is_left_out(text: &[u8]) -> bool
 /// Adds the command of a line, where it has one.
 fn push_command(
     alloc: Global,
-    commands: &mut Vec<CommandText>,
+    commands: &mut Vec<InputCommand>,
     number: u32,
     line: &[u8],
 ) -> Result<(), AllocError>
@@ -70,7 +70,7 @@ fn push_command(
         return Ok(());
     }
     let text = Vec::from_slice(alloc, text)?;
-    commands.push(CommandText::new(number, text))?;
+    commands.push(InputCommand::new(number, text))?;
     Ok(())
 }
 
@@ -83,7 +83,7 @@ fn push_command(
 ///
 /// Those of [`LineReader::read_line`]: `InputTooLong` above a limit, `Read` where a read fails, and
 /// `NoMemory`.
-pub fn read_commands<R: Read>(alloc: Global, reader: &mut R) -> Result<Vec<CommandText>, RunFault>
+pub fn read_commands<R: Read>(alloc: Global, reader: &mut R) -> Result<Vec<InputCommand>, RunFault>
     ensures ok { IfOk result (λ commands. ReadsCommands commands.items
         (R.remaining reader.old) (R.remaining reader.new)) }
     ensures few { IfOk result (λ commands. length commands.items ≤ 65536) }

@@ -9,7 +9,7 @@ ghost use Rattle.lines.specs.command_file.Faults.{left_after, line_text, misspel
 ghost use Rattle.lines.specs.command_file.Faults.{now_text, parts_of, remark_text, values_in};
 ghost use Rattle.lines.specs.command_file.Faults.{quoted, shown, shown_byte, unknown_text, word_of};
 
-use crate::command_file::command_text::CommandText;
+use crate::command_file::command_text::InputCommand;
 use crate::command_file::field_words::{form, is_now, name, verb};
 use attempts::push_decimal;
 use std::alloc::{AllocError, Global};
@@ -297,7 +297,7 @@ fn push_fault(out: &mut Vec<u8>, text: &[u8], fault: CommandFault) -> Result<(),
 /// What is said of a command whose text is at fault.
 fn line_text(
     alloc: Global,
-    command: &CommandText,
+    command: &InputCommand,
     fault: CommandFault,
 ) -> Result<Vec<u8>, AllocError>
     ensures { IfOk result (λ said. said.items ≡ line_text command.now fault) }
@@ -313,7 +313,7 @@ fn line_text(
 /// line, and the field with what is in it (`line 7: the outcome '16.26' is no T:h:p, as T:1626:0`),
 /// without a line feed. None where each is a command. Of a long field the front is shown, and a
 /// question mark in place of a control character.
-pub fn first_fault(alloc: Global, commands: &[CommandText]) -> Result<Option<Vec<u8>>, AllocError>
+pub fn first_fault(alloc: Global, commands: &[InputCommand]) -> Result<Option<Vec<u8>>, AllocError>
     ensures { IfOk result
         (λ said. option_map (λ text. text.items) said ≡ first_fault commands.now) }
 {

@@ -1,29 +1,29 @@
 -- What is asked in the parts of a step.
 use Rattle.std.specs.Prelude.{◌≡◌, ◌⊎◌, ℕ, List, [], ◌∷◌, ◌++◌, length, slice_index_or}
 use Rattle.std.specs.Prelude.{Option, None, Some}
-use Rattle.guarded.specs.Guarding.{Guarding}
+use Rattle.guarded.specs.LockedConnections.{LockedConnectionOf}
 use Rattle.multiplex.specs.Musts.{IsMove, IsWatched, IsWoken}
 use Rattle.answers.specs.Seen.{Seen}
 use Rattle.std.specs.List.{AllByRecursion}
 use Rattle.store.specs.declared.home.Home.{Home}
 use Rattle.multiplex.specs.Requests.{Request, Reading, Writing, Closing}
-use Rattle.polled.specs.declared.answers.Given.{Given}
-use Rattle.polled.specs.declared.answers.Taken.{Taken}
-use Rattle.multiplex.specs.declared.ends.Why.{Why}
+use Rattle.polled.specs.declared.answers.ReadOutcome.{ReadOutcome}
+use Rattle.polled.specs.declared.answers.WriteOutcome.{WriteOutcome}
+use Rattle.multiplex.specs.declared.ends.EndReason.{EndReason}
 use Rattle.multiplex.specs.declared.table.Guest.{Guest}
 
 -- one thing alone is asked
 abbrev pub Offers : ℕ → List ℕ → List Request → Type 0
-Offers k output asked = (t : Taken) × (asked ≡ Writing k (length output) t ∷ [])
+Offers k output asked = (t : WriteOutcome) × (asked ≡ Writing k (length output) t ∷ [])
 
 abbrev pub Hears : ℕ → List Request → Type 0
-Hears k asked = (g : Given) × (asked ≡ Reading k g ∷ [])
+Hears k asked = (g : ReadOutcome) × (asked ≡ Reading k g ∷ [])
 
-abbrev pub AsksMove : ℕ → Guarding → List Request → Type 0
+abbrev pub AsksMove : ℕ → LockedConnectionOf → List Request → Type 0
 AsksMove k c asked = IsMove k c asked
 
 -- it is asked first, and then anything
-abbrev pub BeginsWithMove : ℕ → Guarding → List Request → Type 0
+abbrev pub BeginsWithMove : ℕ → LockedConnectionOf → List Request → Type 0
 BeginsWithMove k c asked =
     (first : List Request) × IsMove k c first
     × ((more : List Request) × (asked ≡ first ++ more))
@@ -33,12 +33,12 @@ abbrev pub AsksSome : List Request → Type 0
 AsksSome asked = Unit {0}
 
 -- what is asked last of a client that stays
-abbrev pub IsWatchedIf : ℕ → Guest → Guest → Option Why → List Request → Type 0
+abbrev pub IsWatchedIf : ℕ → Guest → Guest → Option EndReason → List Request → Type 0
 IsWatchedIf k old g None last = IsWatched k old g last
 IsWatchedIf k old g (Some w) last = last ≡ []
 
 -- a client has its turn, before and after which its connection is so
-pub record AsksHosted (k : ℕ) (old new : Guest) (fate : Option Why) (asked : List Request)
+pub record AsksHosted (k : ℕ) (old new : Guest) (fate : Option EndReason) (asked : List Request)
     : Type 0 where
   pub first : List Request
   pub move : IsMove k old.talk first

@@ -2,15 +2,15 @@
 use Rattle.std.specs.Prelude.{◌≡◌, ◌≤◌, ◌<◌, ℕ, Bool, ◌-◌, ◌==◌, ltb, List, length, slice_index_or}
 use Rattle.std.specs.Prelude.{Option, None, Some, take}
 use Rattle.std.specs.List.{AllByRecursion}
-use Rattle.guarded.specs.Guarding.{begun}
+use Rattle.guarded.specs.LockedConnections.{begun}
 use Rattle.store.specs.declared.home.Home.{Home}
 use Rattle.wire.specs.Ranges.{IsDifference}
 use Rattle.wire.specs.declared.values.Version.{Version}
 use Rattle.multiplex.specs.Silence.{waited_for}
-use Rattle.multiplex.specs.declared.ends.Why.{Why}
-use Rattle.multiplex.specs.declared.ends.Why.TheVariants as why
+use Rattle.multiplex.specs.declared.ends.EndReason.{EndReason}
+use Rattle.multiplex.specs.declared.ends.EndReason.TheVariants as why
 use Rattle.multiplex.specs.declared.table.Guest.{Guest}
-use Rattle.multiplex.specs.declared.table.Table.{Table}
+use Rattle.multiplex.specs.declared.table.ClientTable.{ClientTable}
 
 abbrev pub has_number : ℕ → Guest → Bool
 has_number k g = g.number == k
@@ -31,15 +31,15 @@ pub record IsKept (place : Home) (version : Version) (g : Guest) : Type 0 where
   pub known : AllByRecursion (λ (len : ℕ). len ≤ 65536) g.notes.known
 
 -- all are, and how another desk differs is in range
-pub record AreKept (home : Home) (wire : Version) (t : Table) : Type 0 where
+pub record AreKept (home : Home) (wire : Version) (t : ClientTable) : Type 0 where
   pub guests : AllByRecursion (IsKept home wire) t.guests.items
   pub differs : IsDifference t.differs
 
 -- all that is kept stays so, whatever desk it is
-abbrev pub KeepsKept : Home → Version → Table → Table → Type 0
+abbrev pub KeepsKept : Home → Version → ClientTable → ClientTable → Type 0
 KeepsKept home wire old new = AreKept home wire old → AreKept home wire new
 
-abbrev pub KeepsAll : Table → Table → Type 0
+abbrev pub KeepsAll : ClientTable → ClientTable → Type 0
 KeepsAll old new = (home : Home) (wire : Version) → KeepsKept home wire old new
 
 -- which of the first this many was ready longest ago, if there is one, and when it was
@@ -50,7 +50,7 @@ IsEarliest (Some i) earliest count guests =
     × AllByRecursion (λ (o : Guest). earliest ≤ o.ready) (take count guests)
 
 -- why one is let go so that another can come
-abbrev pub MakesRoom : Why → List Guest → Type 0
+abbrev pub MakesRoom : EndReason → List Guest → Type 0
 MakesRoom why.Crowded guests = 512 ≤ length guests
 MakesRoom why.NoSocket guests = Unit {0}
 MakesRoom why.Done guests = ⊥

@@ -6,7 +6,7 @@ use Rattle.serving.specs.declared.peers.Peers.{Ghosts as PeersOf}
 use Rattle.ticking.specs.Ticking.{Look, Ticking}
 use Rattle.wire.specs.declared.values.Version.{Version}
 use Rattle.multiplex.specs.Passing.{TicksBy, over_if, shown, ticks_after, ticks_at}
-use Rattle.multiplex.specs.declared.ends.Over.{Over}
+use Rattle.multiplex.specs.declared.ends.ServingEnd.{ServingEnd}
 use Rattle.multiplex.specs.declared.own_ticks.OwnTicks.{OwnTicks}
 
 abbrev pub own_of : Option Ticking → Bool → OwnTicks
@@ -21,7 +21,7 @@ abbrev pub desks : {V U : Type 0} → V → U → Desks V U
 desks node peers = record { node = node; peers = peers }
 
 -- no Tick was due
-pub record Waited {V U : Type 0} (l : Look) (over : Option Over) (old new : OwnTicks)
+pub record Waited {V U : Type 0} (l : Look) (over : Option ServingEnd) (old new : OwnTicks)
     (a b : Desks V U) : Type 0 where
   pub early : IsFalse (ticks_at old.ticker l)
   pub own : new ≡ ticks_after old l false
@@ -30,7 +30,7 @@ pub record Waited {V U : Type 0} (l : Look) (over : Option Over) (old new : OwnT
 
 -- a Tick was due, and taken
 pub record HasTicked {V U : Type 0} (d : DeskOf V) (p : PeersOf U) (version : Version) (l : Look)
-    (starved : Bool) (over : Option Over) (old new : OwnTicks) (a b : Desks V U)
+    (starved : Bool) (over : Option ServingEnd) (old new : OwnTicks) (a b : Desks V U)
     : Type 0 where
   pub due : IsTrue (ticks_at old.ticker l)
   pub tick : TicksBy starved (d.home_of a.node) (sides_alone d p version a.node a.peers)
@@ -39,7 +39,8 @@ pub record HasTicked {V U : Type 0} (d : DeskOf V) (p : PeersOf U) (version : Ve
   pub ends : over ≡ over_if (d.seen b.node).is_down
 
 -- the ticker was shown the desk at this moment, and a Tick was taken where one was due
-abbrev pub MayTick : {V U : Type 0} → DeskOf V → PeersOf U → Version → ℕ → Option Over → OwnTicks
+abbrev pub MayTick : {V U : Type 0} → DeskOf V → PeersOf U → Version → ℕ → Option ServingEnd
+    → OwnTicks
     → OwnTicks → Desks V U → Desks V U → Type 0
 MayTick d p version now over old new a b =
     Waited (shown (d.seen a.node) now) over old new a b

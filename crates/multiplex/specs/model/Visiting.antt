@@ -1,5 +1,5 @@
 -- One connection and its client, where no table is yet.
-use Rattle.std.specs.Prelude.{◌≡◌, ◌⊎◌, ◌≤◌, ℕ, Bool, true, false, List, [], ◌∷◌, ◌++◌, length}
+use Rattle.std.specs.Prelude.{◌≡◌, ◌⊎◌, ◌↔◌, ◌≤◌, ℕ, Bool, true, false, List, [], ◌∷◌, ◌++◌, length}
 use Rattle.std.specs.Prelude.{Option, None, Some}
 use Rattle.answers.specs.declared.desk.Desk.{Ghosts as DeskOf}
 use Rattle.serving.specs.declared.peers.Peers.{Ghosts as PeersOf}
@@ -7,36 +7,38 @@ use Rattle.serving.specs.Making.{speaking}
 use Rattle.serving.specs.Sessions.{outside}
 use Rattle.serving.specs.Connection.{Begun}
 use Rattle.serving.specs.TurnLaw.{Turn, begun_in}
-use Rattle.guarded.specs.Guarding.{Guarding, IsDear, IsDone, IsFree, Receives, WantsRead}
-use Rattle.guarded.specs.Guarding.{after_sent}
-use Rattle.guarded.specs.GuardTurns.{Follow, Place}
+use Rattle.guarded.specs.LockedConnections.{LockedConnectionOf, IsDear, IsDone, IsFree, Receives}
+use Rattle.guarded.specs.LockedConnections.{Moment, WantsRead}
+use Rattle.guarded.specs.LockedConnections.{after_sent}
+use Rattle.guarded.specs.LockedTurns.{Follow, Place}
 use Rattle.wire.specs.declared.values.Version.{Version}
 use Rattle.polled.specs.Telling.{Tells}
 use Rattle.multiplex.specs.Happenings.{Happened, Gave, Took, Broke}
 use Rattle.multiplex.specs.Passing.{AreMessages, IsFate, IsLeft, Settled, Shares, SharesLast}
 use Rattle.multiplex.specs.Passing.{pieces, told_why, told_turns}
-use Rattle.answers.specs.Seen.{Seen}
+use Rattle.answers.specs.Seen.{Seen, settled}
 use Rattle.store.specs.declared.home.Home.{Home}
 use Rattle.wire.specs.declared.standing.Difference.{Difference}
 use Rattle.multiplex.specs.Noting.{AreDue, Ears, IsHeard, IsOff, PutsOff, ears, hear_all}
+use Rattle.multiplex.specs.declared.dear.DearTurns.{DearTurns}
 use Rattle.multiplex.specs.declared.notes.Notes.{Notes}
-use Rattle.multiplex.specs.declared.ends.Why.{Why}
-use Rattle.multiplex.specs.declared.ends.Why.TheVariants as why
+use Rattle.multiplex.specs.declared.ends.EndReason.{EndReason}
+use Rattle.multiplex.specs.declared.ends.EndReason.TheVariants as why
 
 -- a node that serves, the other desks of its hall, its clients, and one of its connections
 pub record Spot (V U C : Type 0) : Type 0 where
   pub node : V
   pub peers : U
   pub clients : C
-  pub talk : Guarding
+  pub talk : LockedConnectionOf
 
-abbrev pub spot : {V U C : Type 0} → V → U → C → Guarding → Spot V U C
+abbrev pub spot : {V U C : Type 0} → V → U → C → LockedConnectionOf → Spot V U C
 spot node peers clients talk =
     record { node = node; peers = peers; clients = clients; talk = talk }
 
 -- the connection with its node, where frames are pushed in this version
 abbrev pub place_at : {V U C : Type 0} → (d : DeskOf V) → PeersOf U → (version : Version)
-    → Spot V U C → Place (speaking d.handles version)
+    → Spot V U C → Place (speaking d.handles d.settles version)
 place_at d p version s = record {
   guard = s.talk;
   seen = d.seen s.node;
@@ -45,7 +47,7 @@ place_at d p version s = record {
 
 -- these turns were taken, in which this many pieces came at most, and these frames were begun
 pub record Takes {V U C : Type 0} (d : DeskOf V) (p : PeersOf U)
-    (happened : C → Option (List Happened)) (k : ℕ) (cause : Option Why) (most : ℕ)
+    (happened : C → Option (List Happened)) (k : ℕ) (cause : Option EndReason) (most : ℕ)
     (begun : List Begun) (a b : Spot V U C) (turns : List Turn) : Type 0 where
   pub few : pieces turns ≤ most
   pub begins : begun_in turns ≡ begun
@@ -57,7 +59,7 @@ pub record Takes {V U C : Type 0} (d : DeskOf V) (p : PeersOf U)
   pub wire : b.talk.talk.wire ≡ a.talk.talk.wire
 
 abbrev pub Goes : {V U C : Type 0} → DeskOf V → PeersOf U → (C → Option (List Happened)) → ℕ
-    → Option Why → ℕ → List Begun → Spot V U C → Spot V U C → Type 0
+    → Option EndReason → ℕ → List Begun → Spot V U C → Spot V U C → Type 0
 Goes d p happened k cause most begun a b =
     (turns : List Turn) × Takes d p happened k cause most begun a b turns
 
@@ -81,7 +83,7 @@ pub record Beholds (home : Home) (time : ℕ) (x : Seen) (messages last : List B
 -- messages of desks were begun, and one other frame at most; and the connection goes on, or is to
 -- be ended
 abbrev pub TalksOn : {V U C : Type 0} → DeskOf V → PeersOf U → (C → Option (List Happened)) → ℕ
-    → ℕ → Option Why → Beside → Beside → Spot V U C → Spot V U C → Type 0
+    → ℕ → Option EndReason → Beside → Beside → Spot V U C → Spot V U C → Type 0
 TalksOn d p happened k time fate old new a b =
     (begun : List Begun) × Goes d p happened k fate 1 begun a b
     × (s : Shares begun old.spent new.spent)
@@ -89,14 +91,30 @@ TalksOn d p happened k time fate old new a b =
     × (fate ≡ None → IsLeft (d.seen b.node) time s.last b.talk new.notes.until)
     × IsFate fate b.talk
 
+-- the first becomes the second by a settling
+abbrev pub SettlesNode : {V : Type 0} → DeskOf V → V → Bool → V → Type 0
+SettlesNode d served ok node =
+    d.settles served ok node × (d.seen node ≡ settled ok (d.seen served))
+
+-- so it is, or nothing was to be settled
+abbrev pub Rests : {V : Type 0} → DeskOf V → V → Bool → V → Type 0
+Rests d served ok node = SettlesNode d served ok node ⊎ ((ok ≡ true) × (node ≡ served))
+
+-- What was served is settled then; serving is over where that fails, and only there.
+abbrev pub ThenSettles : {V : Type 0} → DeskOf V → Option EndReason → V → (V → Type 0) → Type 0
+ThenSettles {V} d fate node Serves =
+    (served : V) × (ok : Bool) × Serves served × ((ok ≡ false) ↔ (fate ≡ Some why.Over))
+    × Rests d served ok node
+
 -- true where nothing failed
-abbrev pub broken : Bool → Option Why
+abbrev pub broken : Bool → Option EndReason
 broken true = None
 broken false = Some why.Broke
 
 -- what is done once is all that was told of it
-abbrev pub Sends : {C : Type 0} → (C → Option (List Happened)) → ℕ → Bool → C → C → Guarding
-    → Guarding → Type 0
+abbrev pub Sends : {C : Type 0} → (C → Option (List Happened)) → ℕ → Bool → C → C
+    → LockedConnectionOf
+    → LockedConnectionOf → Type 0
 Sends happened k true c later old new =
     ((bytes : List ℕ) × (old.output ≡ bytes ++ new.output) × (new ≡ after_sent old (length bytes))
     × Tells (happened c) (happened later) (Took k bytes ∷ []))
@@ -104,8 +122,9 @@ Sends happened k true c later old new =
 Sends happened k false c later old new =
     (new ≡ old) × Tells (happened c) (happened later) (Broke k ∷ [])
 
-abbrev pub Reads : {C : Type 0} → (C → Option (List Happened)) → ℕ → Option Why → C → C → Guarding
-    → Guarding → Type 0
+abbrev pub Reads : {C : Type 0} → (C → Option (List Happened)) → ℕ → Option EndReason → C → C
+    → LockedConnectionOf
+    → LockedConnectionOf → Type 0
 Reads happened k None c later old new =
     ((piece : List ℕ) × Receives piece old new
     × Tells (happened c) (happened later) (Gave k piece ∷ []))
@@ -115,40 +134,47 @@ Reads happened k (Some w) c later old new =
     × IsFate (Some w) new
 
 -- all that came is served, or the connection ended and its answers were taken
-abbrev pub SettledOrDone : Guarding → Type 0
+abbrev pub SettledOrDone : LockedConnectionOf → Type 0
 SettledOrDone c = Settled c ⊎ IsDone c
 
 -- whether a frame may be begun that is not put off: it asks for nothing dear, or it is the first in
 -- this round that does; and it is put off where it does and may not
-abbrev pub MayShare : Bool → Guarding → Bool → Bool → Type 0
+abbrev pub MayShare : Bool → LockedConnectionOf → Bool → Bool → Type 0
 MayShare true c spent later =
     ((IsDear c → ⊥) × (later ≡ spent)) ⊎ (IsDear c × (spent ≡ false) × (later ≡ true))
 MayShare false c spent later = IsDear c × (later ≡ spent)
 
 -- an Await that is not to be answered yet is put off whatever else may be begun
-abbrev pub MayBegin : Bool → Home → Seen → ℕ → Guarding → Notes → Notes → Bool → Bool → Type 0
+abbrev pub MayBegin : Bool → Home → Seen → ℕ → LockedConnectionOf → Notes → Notes → Bool → Bool
+    → Type 0
 MayBegin may home x time c old new spent later =
     (off : Bool) × PutsOff off home x time c old new
     × (((off ≡ true) × (may ≡ false) × (later ≡ spent))
     ⊎ ((off ≡ false) × MayShare may c spent later))
 
 -- where no frame was begun: so it is, or the next one was put off
-abbrev pub IsLeftOrDone : Seen → ℕ → List Begun → Guarding → Option ℕ → Type 0
+abbrev pub IsLeftOrDone : Seen → ℕ → List Begun → LockedConnectionOf → Option ℕ → Type 0
 IsLeftOrDone x time [] c until = SettledOrDone c ⊎ (IsDear c ⊎ IsOff x time c until)
 IsLeftOrDone x time (one ∷ more) c until = Unit {0}
 
 -- where a frame was begun, one might be, and this one was due
-abbrev pub BeginsDue : Home → Seen → ℕ → Option ℕ → Guarding → List Begun → Type 0
+abbrev pub BeginsDue : Home → Seen → ℕ → Option ℕ → LockedConnectionOf → List Begun → Type 0
 BeginsDue home x time until c [] = Unit {0}
 BeginsDue home x time until c (one ∷ more) = IsFree c × AreDue home x time until (one ∷ more)
 
+-- a frame of a client was begun
+abbrev pub HasBegun : Bool → List Begun → Type 0
+HasBegun true [] = ⊥
+HasBegun true (one ∷ more) = Unit {0}
+HasBegun false begun = Unit {0}
+
 -- no piece came, and one frame at most was begun
 abbrev pub ServesOne : {V U C : Type 0} → DeskOf V → PeersOf U → (C → Option (List Happened)) → ℕ
-    → ℕ → Option Why → Bool → Bool → Notes → Notes → Spot V U C → Spot V U C → Type 0
-ServesOne d p happened k time cause spent later old new a b =
+    → ℕ → Option EndReason → Bool → Bool → Bool → Notes → Notes → Spot V U C → Spot V U C → Type 0
+ServesOne d p happened k time cause served spent later old new a b =
     (begun : List Begun) × Goes d p happened k cause 0 begun a b × SharesLast begun spent later
     × BeginsDue a.talk.talk.home (d.seen a.node) time old.until a.talk begun
-    × IsLeftOrDone (d.seen b.node) time begun b.talk new.until
+    × IsLeftOrDone (d.seen b.node) time begun b.talk new.until × HasBegun served begun
 
 -- no piece came, and messages of desks were begun, and heard: so it is seen where a frame may be
 -- begun
@@ -161,16 +187,26 @@ HearsDesks d p happened k e known differs a b =
 
 -- no piece came, and messages of desks were begun, and then one frame at most
 abbrev pub ServesNext : {V U C : Type 0} → DeskOf V → PeersOf U → (C → Option (List Happened)) → ℕ
-    → ℕ → Option Why → Beside → Beside → Spot V U C → Spot V U C → Type 0
-ServesNext d p happened k time cause old new a b =
+    → ℕ → Option EndReason → Bool → Beside → Beside → Spot V U C → Spot V U C → Type 0
+ServesNext d p happened k time cause served old new a b =
     (begun : List Begun) × Goes d p happened k cause 0 begun a b
     × (s : Shares begun old.spent new.spent)
     × Beholds a.talk.talk.home time (d.seen a.node) s.messages s.last old new
-    × IsLeftOrDone (d.seen b.node) time s.last b.talk new.notes.until
+    × IsLeftOrDone (d.seen b.node) time s.last b.talk new.notes.until × HasBegun served s.last
+
+-- so it is beside any client: nothing is told meanwhile
+abbrev pub ServesAlone : {V U : Type 0} → DeskOf V → PeersOf U → ℕ → ℕ → Bool → DearTurns
+    → DearTurns → Notes → Notes → Option Difference → Option Difference → Moment V U → Moment V U
+    → Type 0
+ServesAlone d p k time served dear later notes new differs said a b =
+    ServesNext d p Some k time None served
+    (beside dear.spent notes differs) (beside later.spent new said)
+    (spot a.node a.peers [] a.guard) (spot b.node b.peers [] b.guard)
 
 -- a write; or a read, where nothing is to be sent and all that came is served; or nothing
-abbrev pub Moves : {C : Type 0} → (C → Option (List Happened)) → ℕ → Option Why → C → C → Guarding
-    → Guarding → Type 0
+abbrev pub Moves : {C : Type 0} → (C → Option (List Happened)) → ℕ → Option EndReason → C → C
+    → LockedConnectionOf
+    → LockedConnectionOf → Type 0
 Moves happened k cause c later old new =
     ((ok : Bool) × (cause ≡ broken ok) × Sends happened k ok c later old new)
     ⊎ ((WantsRead old × Reads happened k cause c later old new)

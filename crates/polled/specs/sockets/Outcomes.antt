@@ -5,12 +5,12 @@ use Rattle.std.specs.IoError.{error_kind, raw_os_error}
 use Rattle.std.specs.declared.io.Error.{Error}
 use Rattle.std.specs.declared.io.ErrorKind.{ErrorKind}
 use Rattle.std.specs.declared.io.ErrorKind.TheVariants as kind
-use Rattle.polled.specs.declared.answers.Accepted.{Accepted}
-use Rattle.polled.specs.declared.answers.Accepted.TheVariants as accepted
-use Rattle.polled.specs.declared.answers.Given.{Given}
-use Rattle.polled.specs.declared.answers.Given.TheVariants as given
-use Rattle.polled.specs.declared.answers.Taken.{Taken}
-use Rattle.polled.specs.declared.answers.Taken.TheVariants as taken
+use Rattle.polled.specs.declared.answers.AcceptedPeer.{AcceptedPeer}
+use Rattle.polled.specs.declared.answers.AcceptedPeer.TheVariants as accepted
+use Rattle.polled.specs.declared.answers.ReadOutcome.{ReadOutcome}
+use Rattle.polled.specs.declared.answers.ReadOutcome.TheVariants as given
+use Rattle.polled.specs.declared.answers.WriteOutcome.{WriteOutcome}
+use Rattle.polled.specs.declared.answers.WriteOutcome.TheVariants as taken
 
 -- a call that would wait, or was interrupted, is to be made again once the socket is ready
 abbrev pub waits : ErrorKind → Bool
@@ -22,11 +22,11 @@ abbrev pub is_waiting : Error → Bool
 is_waiting e = waits (error_kind e)
 
 -- a read of no byte is the end of what the peer sends
-abbrev pub given_by : Result ℕ Error → Given
+abbrev pub given_by : Result ℕ Error → ReadOutcome
 given_by (Ok count) = if count == 0 then given.Ended else given.Bytes count
 given_by (Err e) = if is_waiting e then given.Later else given.Broke
 
-abbrev pub taken_by : Result ℕ Error → Taken
+abbrev pub taken_by : Result ℕ Error → WriteOutcome
 taken_by (Ok count) = if count == 0 then taken.Later else taken.Bytes count
 taken_by (Err e) = if is_waiting e then taken.Later else taken.Broke
 
@@ -42,6 +42,6 @@ number_of None = None
 number_of (Some (pos n)) = Some n
 number_of (Some _) = None
 
-abbrev pub accepted_by : Error → Accepted
+abbrev pub accepted_by : Error → AcceptedPeer
 accepted_by e =
     if is_full (number_of (raw_os_error e)) then accepted.Full else accepted.Nobody

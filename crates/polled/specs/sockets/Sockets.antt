@@ -3,8 +3,8 @@ use Rattle.std.specs.Prelude.{◌≡◌, ◌≢◌, ℕ, Bool, false, true, is_s
 use Rattle.std.specs.Prelude.{List, [], length}
 use Rattle.std.specs.Map.{lookup}
 use Rattle.mio.specs.declared.net.stream.TcpStream.{TcpStream}
-use Rattle.polled.specs.declared.answers.Accepted.{Accepted}
-use Rattle.polled.specs.declared.answers.Accepted.TheVariants as accepted_is
+use Rattle.polled.specs.declared.answers.AcceptedPeer.{AcceptedPeer}
+use Rattle.polled.specs.declared.answers.AcceptedPeer.TheVariants as accepted_is
 use Rattle.polled.specs.sockets.Agendas.{RoundOf, agenda, round}
 
 -- how many connections may be open at once, which ones are, each by its peer's number, and what is
@@ -47,7 +47,7 @@ OthersStay k old new = (j : ℕ) → j ≢ k → stays new j ≡ stays old j
 
 -- whether the connection of a peer that is accepted was open, and is: that of one that came is, and
 -- nobody else is let in
-abbrev pub LetsIn : Accepted → Bool → Bool → Type 0
+abbrev pub LetsIn : AcceptedPeer → Bool → Bool → Type 0
 LetsIn accepted_is.Came was is = is ≡ true
 LetsIn accepted_is.Nobody was is = is ≡ was
 LetsIn accepted_is.Full was is = is ≡ was

@@ -2,7 +2,7 @@
 use Rattle.std.specs.Prelude.{◌≡◌, ◌≢◌, ◌==◌, ◌-◌, ℕ, Bool, false, is_some, nat_eq, nat_le, nat_lt}
 use Rattle.std.specs.Prelude.{not, if◌then◌else◌, List, [], ◌∷◌}
 use Rattle.indexmap.specs.IndexMap.{get, index_map_len}
-use Rattle.polled.specs.declared.sockets.streams.Ending.{Ending}
+use Rattle.polled.specs.declared.sockets.streams.EndingStream.{EndingStream}
 use Rattle.polled.specs.declared.sockets.streams.Streams.{Streams}
 
 -- the connection of the peer with this number is open
@@ -32,11 +32,11 @@ SameOpen old new = (k : ℕ) → is_open new k ≡ is_open old k
 -- ---- connections that are ending, in the order in which their ends began
 
 -- the first one is ending for longer than two seconds
-abbrev pub has_late : ℕ → List (ℕ × Ending) → Bool
+abbrev pub has_late : ℕ → List (ℕ × EndingStream) → Bool
 has_late now [] = false
 has_late now (e ∷ es) = nat_lt 2000 (now - e.1.since)
 
 -- without those in front that are
-abbrev pub without_late : ℕ → List (ℕ × Ending) → List (ℕ × Ending)
+abbrev pub without_late : ℕ → List (ℕ × EndingStream) → List (ℕ × EndingStream)
 without_late now [] = []
 without_late now (e ∷ es) = if nat_lt 2000 (now - e.1.since) then without_late now es else e ∷ es

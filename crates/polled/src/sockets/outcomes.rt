@@ -4,7 +4,7 @@ ghost use Rattle.std.specs.Prelude.{◌≡◌};
 ghost use Rattle.polled.specs.sockets.Outcomes.{accepted_by, given_by, is_full, is_waiting};
 ghost use Rattle.polled.specs.sockets.Outcomes.{number_of, taken_by};
 
-use crate::{Accepted, Given, Taken};
+use crate::{AcceptedPeer, ReadOutcome, WriteOutcome};
 use std::io;
 use std::io::ErrorKind;
 
@@ -17,34 +17,34 @@ pub fn is_waiting(error: &io::Error) -> bool
 }
 
 /// What came of a read.
-pub fn given_by(answer: io::Result<usize>) -> Given
+pub fn given_by(answer: io::Result<usize>) -> ReadOutcome
     ensures { result ≡ given_by answer }
 {
     match answer {
-        Ok(0) => Given::Ended,
-        Ok(count) => Given::Bytes { count },
+        Ok(0) => ReadOutcome::Ended,
+        Ok(count) => ReadOutcome::Bytes { count },
         Err(error) => {
             if is_waiting(&error) {
-                Given::Later
+                ReadOutcome::Later
             } else {
-                Given::Broke
+                ReadOutcome::Broke
             }
         }
     }
 }
 
 /// What came of a write. One that takes no byte of some is like one that would wait.
-pub fn taken_by(answer: io::Result<usize>) -> Taken
+pub fn taken_by(answer: io::Result<usize>) -> WriteOutcome
     ensures { result ≡ taken_by answer }
 {
     match answer {
-        Ok(0) => Taken::Later,
-        Ok(count) => Taken::Bytes { count },
+        Ok(0) => WriteOutcome::Later,
+        Ok(count) => WriteOutcome::Bytes { count },
         Err(error) => {
             if is_waiting(&error) {
-                Taken::Later
+                WriteOutcome::Later
             } else {
-                Taken::Broke
+                WriteOutcome::Broke
             }
         }
     }
@@ -60,12 +60,12 @@ fn is_full(code: Option<i32>) -> bool
 }
 
 /// What came of an accept that failed: there are no more sockets, or nobody waits any more.
-pub fn accepted_by(error: &io::Error) -> Accepted
+pub fn accepted_by(error: &io::Error) -> AcceptedPeer
     ensures { result ≡ accepted_by error.now }
 {
     if is_full(error.raw_os_error()) {
-        Accepted::Full
+        AcceptedPeer::Full
     } else {
-        Accepted::Nobody
+        AcceptedPeer::Nobody
     }
 }

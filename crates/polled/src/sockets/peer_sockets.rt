@@ -10,8 +10,8 @@ ghost use Rattle.polled.specs.sockets.Sockets.{SameStay, is_full, stays};
 use crate::sockets::agenda::Agenda;
 use crate::sockets::outcomes::accepted_by;
 use crate::sockets::streams::{MOST_ENDING, Streams};
-use crate::sockets::tokens::{Source, listener_token, peer_token, source_of};
-use crate::{Accepted, Given, Ready, Taken};
+use crate::sockets::tokens::{PolledSocket, listener_token, peer_token, source_of};
+use crate::{AcceptedPeer, ReadOutcome, Ready, WriteOutcome};
 use mio::net::{TcpListener, TcpStream};
 use mio::{Events, Interest, Poll, Registry};
 use std::alloc::Global;
@@ -70,9 +70,9 @@ fn note_all(events: &Events, registry: &Registry, streams: &mut Streams, agenda:
 {
     for event in events.iter() {
         match source_of(event.token()) {
-            Source::Listener => agenda.add_listener(),
-            Source::Other => {}
-            Source::Peer { number } => {
+            PolledSocket::Listener => agenda.add_listener(),
+            PolledSocket::Other => {}
+            PolledSocket::Peer { number } => {
                 if streams.is_open(number) {
                     let _noted = agenda.add(number);
                 } else {
@@ -168,7 +168,7 @@ impl<R> PeerSockets<'_, R> {
         match self.listener.accept() {
             Ok((stream, _)) => Ok(stream),
             Err(error) => {
-                if accepted_by(&error) == Accepted::Full && self.streams.close_ending() {
+                if accepted_by(&error) == AcceptedPeer::Full && self.streams.close_ending() {
                     let (stream, _) = self.listener.accept()?;
                     return Ok(stream);
                 }
@@ -178,21 +178,21 @@ impl<R> PeerSockets<'_, R> {
     }
 
     /// Lets the peer in that waits.
-    fn let_in(&mut self, number: u64) -> Accepted
-        ensures full { is_full self.old ≡ true → result ≡ Accepted.Full }
+    fn let_in(&mut self, number: u64) -> AcceptedPeer
+        ensures full { is_full self.old ≡ true → result ≡ AcceptedPeer.Full }
         ensures came { LetsIn result (stays self.old number) (stays self.new number) }
         ensures others { OthersStay number self.old self.new }
         ensures same { SameElse self.old self.new }
     {
         if self.streams.is_full() || peer_token(number).is_none() {
-            return Accepted::Full;
+            return AcceptedPeer::Full;
         }
         match self.take() {
             Ok(stream) => {
                 if self.streams.enter(self.poll.registry(), number, stream) {
-                    Accepted::Came
+                    AcceptedPeer::Came
                 } else {
-                    Accepted::Full
+                    AcceptedPeer::Full
                 }
             }
             Err(error) => accepted_by(&error),
@@ -204,14 +204,14 @@ impl<R> PeerSockets<'_, R> {
     // The system tells anew that somebody waits once it is asked anew. Where it has no more sockets
     // and no peer can be let go, it is asked once it has nothing else to tell, so that nobody asks
     // again and again.
-    pub fn accept(&mut self, number: u64) -> Accepted
-        ensures full { is_full self.old ≡ true → result ≡ Accepted.Full }
+    pub fn accept(&mut self, number: u64) -> AcceptedPeer
+        ensures full { is_full self.old ≡ true → result ≡ AcceptedPeer.Full }
         ensures came { LetsIn result (stays self.old number) (stays self.new number) }
         ensures others { OthersStay number self.old self.new }
         ensures same { SameElse self.old self.new }
     {
         let accepted = self.let_in(number);
-        self.scarce = accepted == Accepted::Full;
+        self.scarce = accepted == AcceptedPeer::Full;
         if self.scarce && self.streams.is_empty() {
             self.deaf = true;
         } else {
@@ -221,18 +221,18 @@ impl<R> PeerSockets<'_, R> {
     }
 
     /// Reads once of a peer.
-    pub fn read(&mut self, number: u64, buffer: &mut [u8; 4096]) -> Given
+    pub fn read(&mut self, number: u64, buffer: &mut [u8; 4096]) -> ReadOutcome
         ensures count { CountsGiven (length buffer.new) result }
-        ensures closed { stays self.old number ≡ false → result ≡ Given.Broke }
+        ensures closed { stays self.old number ≡ false → result ≡ ReadOutcome.Broke }
         ensures same { self.new ≡ self.old }
     {
         self.streams.read(number, buffer)
     }
 
     /// Writes to a peer as much of the bytes as it takes.
-    pub fn write(&mut self, number: u64, bytes: &[u8]) -> Taken
+    pub fn write(&mut self, number: u64, bytes: &[u8]) -> WriteOutcome
         ensures count { CountsTaken (length bytes.now) result }
-        ensures closed { stays self.old number ≡ false → result ≡ Taken.Broke }
+        ensures closed { stays self.old number ≡ false → result ≡ WriteOutcome.Broke }
         ensures same { self.new ≡ self.old }
     {
         self.streams.write(number, bytes)

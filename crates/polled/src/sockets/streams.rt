@@ -6,7 +6,7 @@ ghost use Rattle.indexmap.specs.IndexMap.{index_map_len};
 
 use crate::sockets::outcomes::{given_by, is_waiting, taken_by};
 use crate::sockets::tokens::peer_token;
-use crate::{Given, Taken};
+use crate::{ReadOutcome, WriteOutcome};
 use indexmap::IndexMap;
 use mio::net::TcpStream;
 use mio::{Interest, Registry};
@@ -27,7 +27,7 @@ const MOST_READS: u32 = 16;
 /// read and dropped, since bytes that were not read would reset the connection, and what it was
 /// sent would be lost.
 #[derive(Drop)]
-struct Ending {
+struct EndingStream {
     stream: TcpStream,
     /// The time from which on it is ending, in milliseconds.
     since: u64,
@@ -51,7 +51,7 @@ fn goes_on(mut stream: &TcpStream) -> bool {
 #[derive(Drop)]
 pub struct Streams {
     staying: IndexMap<u64, TcpStream>,
-    ending: IndexMap<u64, Ending>,
+    ending: IndexMap<u64, EndingStream>,
     /// The most connections that are open at once.
     pub most: usize,
     ghost few: { index_map_len staying ≤ most },
@@ -119,26 +119,26 @@ impl Streams {
     }
 
     /// Reads once of a peer.
-    pub fn read(&mut self, number: u64, buffer: &mut [u8; 4096]) -> Given
+    pub fn read(&mut self, number: u64, buffer: &mut [u8; 4096]) -> ReadOutcome
         ensures count { CountsGiven (length buffer.new) result }
-        ensures closed { is_open self.old number ≡ false → result ≡ Given.Broke }
+        ensures closed { is_open self.old number ≡ false → result ≡ ReadOutcome.Broke }
         ensures same { self.new ≡ self.old }
     {
         match self.staying.get(&number) {
             Some(mut stream) => given_by(stream.read(buffer)),
-            None => Given::Broke,
+            None => ReadOutcome::Broke,
         }
     }
 
     /// Writes once to a peer.
-    pub fn write(&mut self, number: u64, bytes: &[u8]) -> Taken
+    pub fn write(&mut self, number: u64, bytes: &[u8]) -> WriteOutcome
         ensures count { CountsTaken (length bytes.now) result }
-        ensures closed { is_open self.old number ≡ false → result ≡ Taken.Broke }
+        ensures closed { is_open self.old number ≡ false → result ≡ WriteOutcome.Broke }
         ensures same { self.new ≡ self.old }
     {
         match self.staying.get(&number) {
             Some(mut stream) => taken_by(stream.write(bytes)),
-            None => Taken::Broke,
+            None => WriteOutcome::Broke,
         }
     }
 
@@ -195,7 +195,7 @@ impl Streams {
         if self.ending.len() >= MOST_ENDING {
             let _closed = self.ending.shift_remove_index(0);
         }
-        let ending = Ending { stream, since: now };
+        let ending = EndingStream { stream, since: now };
         let _kept = self.ending.insert(number, ending);
     }
 

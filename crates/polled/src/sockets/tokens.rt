@@ -11,7 +11,7 @@ pub const FIRST_OTHER: usize = usize::MAX - 256;
 
 /// A socket of the poll.
 #[derive(Clone, Copy, PartialEq, Eq, Debug)]
-pub enum Source {
+pub enum PolledSocket {
     Peer { number: u64 },
     /// A socket of the program's own.
     Other,
@@ -20,14 +20,14 @@ pub enum Source {
 
 /// The listener's token.
 pub fn listener_token() -> Token
-    ensures { source_of result.0 ≡ Source.Listener }
+    ensures { source_of result.0 ≡ PolledSocket.Listener }
 {
     Token(usize::MAX)
 }
 
 /// The token of a socket of the program's own, for each number of one byte another one.
 pub fn own_token(number: u8) -> Token
-    ensures other { source_of result.0 ≡ Source.Other }
+    ensures other { source_of result.0 ≡ PolledSocket.Other }
     ensures place { result.0 ≡ 2 ^ 64 - 257 + number }
 {
     Token(FIRST_OTHER + usize::from(number))
@@ -36,7 +36,7 @@ pub fn own_token(number: u8) -> Token
 /// The token of the peer with this number. None: the number is one of the last 257.
 pub fn peer_token(number: u64) -> Option<Token>
     ensures known { IsSome result ↔ (number < 2 ^ 64 - 257) }
-    ensures names { IfSome result (λ token. source_of token.0 ≡ Source.Peer number) }
+    ensures names { IfSome result (λ token. source_of token.0 ≡ PolledSocket.Peer number) }
 {
     let token = number as usize;
     if token < FIRST_OTHER {
@@ -47,16 +47,16 @@ pub fn peer_token(number: u64) -> Option<Token>
 }
 
 /// The socket that a token names.
-pub fn source_of(token: Token) -> Source
+pub fn source_of(token: Token) -> PolledSocket
     ensures { result ≡ source_of token.0 }
 {
     if token.0 < FIRST_OTHER {
-        Source::Peer {
+        PolledSocket::Peer {
             number: token.0 as u64,
         }
     } else if token.0 < usize::MAX {
-        Source::Other
+        PolledSocket::Other
     } else {
-        Source::Listener
+        PolledSocket::Listener
     }
 }

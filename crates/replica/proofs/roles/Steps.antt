@@ -9,12 +9,10 @@ use Rattle.proposer.specs.Plans.{Passing, queue_after, only_say}
 use Rattle.proposer.specs.Proposing.{start, tick}
 use Rattle.proposer.specs.Refusals.{RefusesAs}
 use Rattle.proposer.specs.declared.fault.StepFault.{StepFault}
-use Rattle.learner.specs.Desks.{Desk, adopt, passing}
-use Rattle.learner.specs.Laws.{StepsStayInRange}
-use Rattle.learner.specs.Ranges.{DeskIsInRange, AreInRange, DoneIsInRange}
+use Rattle.learner.specs.Desks.{Desk, passing}
 use Rattle.learner.specs.Steps.{Done, done, idle, planned, passed, is_heeded, on_body, step}
 use Rattle.learner.specs.declared.event.DeskEvent.TheVariants.{Start, Tick, Deliver}
-use Rattle.replica.specs.roles.model.RunningDesks.{RunningDesk, IsRunning, IsStep, delivery}
+use Rattle.replica.specs.roles.model.RunningDesks.{RunningDesk, IsStep, delivery}
 
 queue_stays : (es : List Entry) → queue_after es false ≡ es
 queue_stays [] = refl
@@ -81,13 +79,6 @@ pub refuses_passed : {A : Type 0} (x : Desk) (result : Result A StepFault)
     → RefusesAs result r → RefusesAs result (passed x r)
 refuses_passed x result r h why =
     let p = passed_refused x r why in let k = h why in (λ e. p.0 (k.0 e), λ e. k.1 (p.1 e))
-
--- the plan of a step of a desk in range leaves it in range
-pub step_stays : StepsStayInRange → (x : RunningDesk) (p : Plan) → IsRunning x → IsStep x p
-    → DeskIsInRange x.desks (adopt x.desk p) × AreInRange x.desks x.number p.messages
-step_stays law x p h s =
-    subst (λ r. DoneIsInRange x.desks x.number r) s.1
-    (law x.desks x.number x.desk s.0 h.ours h.desk)
 
 pub start_is_step : (x : RunningDesk) (len : ℕ) (p : Plan) → len ≡ length x.desk.log
     → start x.desks x.number x.desk.stored len (passing x.desk) ≡ Ok p → IsStep x p

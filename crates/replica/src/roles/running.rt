@@ -10,7 +10,7 @@ use acceptor::ballot::Ballot;
 use acceptor::entry::Entry;
 use acceptor::message::{Body, Message, Messages};
 use acceptor::sending::to_one;
-use acceptor::steps::{Here, on_accept, on_prepare};
+use acceptor::steps::{LogView, on_accept, on_prepare};
 use acceptor::stored::{Change, Stored};
 use learner::laws::steps_stay_in_range;
 use learner::learning::{on_behind, on_decided};
@@ -293,7 +293,7 @@ impl Running {
         ensures { let x = self.now in
             IfOk result (λ p. p ≡ on_body x.desks x.number x.desk from (Prepare ballot pos)) }
     {
-        let here = Here {
+        let here = LogView {
             len: self.log.len(),
             entry: self.log.entry(pos),
         };
@@ -307,7 +307,7 @@ impl Running {
             IfOk result
             (λ p. p ≡ on_body x.desks x.number x.desk from (Accept ballot pos entry.now)) }
     {
-        let here = Here {
+        let here = LogView {
             len: self.log.len(),
             entry: self.log.entry(pos),
         };

@@ -2,8 +2,8 @@
 use Rattle.std.specs.Prelude.{◌≡◌, ◌⊎◌, ℕ, ◌+◌, ◌-◌, ◌<◌, ◌≤◌, List, ◌++◌, length, take, Some}
 use Rattle.std.specs.Prelude.{slice_range}
 use Rattle.seal.specs.declared.channel.Channel.{Channel}
-use Rattle.seal.specs.declared.front.Front.{Front}
-use Rattle.seal.specs.declared.front.Front.TheVariants.{Waits, Fits, Breaks}
+use Rattle.seal.specs.declared.front.RecordFront.{RecordFront}
+use Rattle.seal.specs.declared.front.RecordFront.TheVariants.{Waits, Fits, Breaks}
 use Rattle.seal.specs.Records.{IsLength, IsBody, record_of}
 use Rattle.seal.specs.Streams.{length_at, Ends, Opening, Reads}
 use Rattle.seal.specs.Streams as Streams
@@ -31,7 +31,7 @@ pub record IsRecord (channel : Channel) (number : ℕ) (bytes : List ℕ) : Type
   pub good : IsBody number (slice_range bytes 2 (length bytes - 32))
   pub sealed : bytes ≡ record_of channel number (slice_range bytes 2 (length bytes - 32))
 
-abbrev pub IsFront : Front → Channel → ℕ → List ℕ → Type 0
+abbrev pub IsFront : RecordFront → Channel → ℕ → List ℕ → Type 0
 IsFront Waits channel number bytes = Streams.Waits bytes
 IsFront Fits channel number bytes = IsRecord channel number bytes
 IsFront (Breaks e) channel number bytes = Ends channel number (Some e) bytes

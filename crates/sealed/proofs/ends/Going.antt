@@ -9,16 +9,18 @@ use Rattle.seal.specs.declared.channel.Direction.TheVariants.{ToServer}
 use Rattle.seal.specs.Records.{key_of, preface_of}
 use Rattle.seal.specs.Sealing.{Sealing}
 use Rattle.seal.specs.Streams.{Opening, Reads}
-use Rattle.sealed.specs.Callings.{CallingOf, SendsBy, SendsOn, StandsBy, StandsOpen}
+use Rattle.sealed.specs.ClientSeals.{ClientSealOf, SendsBy, SendsOn, StandsBy, StandsOpen}
 use Rattle.sealed.specs.Sent.{SentOver, from_start}
 use Rattle.sealed.specs.Trials.{SealsOver}
 use Rattle.sealed.specs.Tunnels.{SealsAll, TunnelOf, channel_of}
 use Rattle.sealed.proofs.Fronting.{prefaced_more}
 use Rattle.sealed.proofs.Lawful.{seals_on}
 use Rattle.sealed.proofs.Sealings.{seals_none}
-use Rattle.sealed.specs.ends.Calls.{CallOf, Gives, GivesBy, IsSameKey, ReadsBy, Receives, SealsBy}
-use Rattle.sealed.specs.ends.Calls.{calling_of, first_output, fresh_call, is_open, is_ready}
-use Rattle.sealed.specs.ends.Calls.{is_there, open_by}
+use Rattle.sealed.specs.ends.ClientStreams.{ClientStreamOf, Gives, GivesBy, IsSameKey, ReadsBy}
+use Rattle.sealed.specs.ends.ClientStreams.{Receives, SealsBy}
+use Rattle.sealed.specs.ends.ClientStreams.{calling_of, first_output, fresh_client_stream, is_open}
+use Rattle.sealed.specs.ends.ClientStreams.{is_ready}
+use Rattle.sealed.specs.ends.ClientStreams.{is_there, open_by}
 use Rattle.sealed.specs.ends.Given.{SentAs, SentBy, SentSealed}
 use Rattle.sealed.specs.ends.Laws.{IsCall, IsOf, StaysCall}
 
@@ -38,7 +40,7 @@ sent_begins None random = refl
 sent_begins (Some k) random = (refl, refl)
 
 begins : (key : Option (List ℕ)) (random : List ℕ)
-    → IsCall key random (fresh_call key random) [] [] [] []
+    → IsCall key random (fresh_client_stream key random) [] [] [] []
 begins key random = record {
   side = side_begins key random;
   stands = record { front = refl; heard = refl; reads = reads_begins key random };
@@ -47,7 +49,7 @@ begins key random = record {
 
 -- ---- a piece comes
 
-side_stays : (o n : Option CallingOf) (key : Option (List ℕ)) (random : List ℕ) → IsSameKey o n
+side_stays : (o n : Option ClientSealOf) (key : Option (List ℕ)) (random : List ℕ) → IsSameKey o n
     → IsOf o key random → IsOf n key random
 side_stays None None key random same is = is
 side_stays None (Some u) key random same is = absurd same
@@ -56,7 +58,7 @@ side_stays (Some s) (Some u) key random same is =
     (is.0 ∙ ap (λ (k : List ℕ). Some k) (sym same.key), is.1 ∙ sym same.random)
 
 -- the connection opens: nothing was sent over it
-opens_sent : (t : TunnelOf) (s : CallingOf) (came given sent handed random : List ℕ)
+opens_sent : (t : TunnelOf) (s : ClientSealOf) (came given sent handed random : List ℕ)
     → SendsOn None (Some t) → StandsOpen s t came handed → given ≡ [] → sent ≡ preface_of random
     → s.random ≡ random → SentSealed t s came given sent
 opens_sent t s came given sent handed random sends h none whole same =
@@ -80,7 +82,7 @@ opens_sent t s came given sent handed random sends h none whole same =
     }
 
 -- it is open
-keeps_sent : (t v : TunnelOf) (s u : CallingOf) (came piece given sent : List ℕ) → u.key ≡ s.key
+keeps_sent : (t v : TunnelOf) (s u : ClientSealOf) (came piece given sent : List ℕ) → u.key ≡ s.key
     → u.random ≡ s.random → SendsOn (Some t) (Some v) → SentSealed t s came given sent
     → SentSealed v u (came ++ piece) given sent
 keeps_sent t v s u came piece given sent key random sends h = record {
@@ -96,7 +98,7 @@ keeps_sent t v s u came piece given sent key random sends h = record {
   whole = h.whole ∙ ap (λ (r : List ℕ). preface_of r ++ h.sealed) (sym random);
 }
 
-tunnel_stays : (o n : Option TunnelOf) (s u : CallingOf) (came piece handed given sent : List ℕ)
+tunnel_stays : (o n : Option TunnelOf) (s u : ClientSealOf) (came piece handed given sent : List ℕ)
     → u.key ≡ s.key → u.random ≡ s.random → SendsOn o n → StandsBy n u (came ++ piece) handed
     → SentAs o s came given sent → SentAs n u (came ++ piece) given sent
 tunnel_stays None None s u came piece handed given sent key random sends h gone =
@@ -107,7 +109,7 @@ tunnel_stays (Some t) None s u came piece handed given sent key random sends h g
 tunnel_stays (Some t) (Some v) s u came piece handed given sent key random sends h gone =
     keeps_sent t v s u came piece given sent key random sends gone
 
-sent_stays : (o n : Option CallingOf) (came piece handed given sent : List ℕ) → IsSameKey o n
+sent_stays : (o n : Option ClientSealOf) (came piece handed given sent : List ℕ) → IsSameKey o n
     → ReadsBy n (came ++ piece) handed → SentBy o came given sent
     → SentBy n (came ++ piece) given sent
 sent_stays None None came piece handed given sent same h gone = gone
@@ -118,7 +120,7 @@ sent_stays (Some s) (Some u) came piece handed given sent same h gone =
     h gone
 
 receives : (key : Option (List ℕ)) (random piece more came handed given sent : List ℕ)
-    (old new : CallOf) → Receives piece old new more
+    (old new : ClientStreamOf) → Receives piece old new more
     → IsCall key random old came handed given sent
     → IsCall key random new (came ++ piece) (handed ++ more) given sent
 receives key random piece more came handed given sent old new r h =
@@ -135,7 +137,7 @@ receives key random piece more came handed given sent old new r h =
 -- ---- bytes are given
 
 -- bytes are sealed over the connection
-sealed_reads : (t v : TunnelOf) (s : CallingOf) (bytes out came handed : List ℕ)
+sealed_reads : (t v : TunnelOf) (s : ClientSealOf) (bytes out came handed : List ℕ)
     → SealsOver bytes t v out → StandsOpen s t came handed
     → StandsOpen (record s { tunnel = Some v }) v came handed
 sealed_reads t v s bytes out came handed over h = record {
@@ -146,7 +148,7 @@ sealed_reads t v s bytes out came handed over h = record {
   reads = subst (λ (o : Opening). Reads o.channel 0 h.stream handed o) (sym over.opener) h.reads;
 }
 
-sealed_sent : (t v : TunnelOf) (s : CallingOf) (bytes out came given sent : List ℕ)
+sealed_sent : (t v : TunnelOf) (s : ClientSealOf) (bytes out came given sent : List ℕ)
     → SealsOver bytes t v out → SentSealed t s came given sent
     → SentSealed v (record s { tunnel = Some v }) came (given ++ bytes) (sent ++ out)
 sealed_sent t v s bytes out came given sent over h =
@@ -170,28 +172,28 @@ sealed_sent t v s bytes out came given sent over h =
     }
 
 -- a caller's end with this side and this output
-abbrev with_both : CallOf → Option CallingOf → List ℕ → CallOf
+abbrev with_both : ClientStreamOf → Option ClientSealOf → List ℕ → ClientStreamOf
 with_both c o out = record { calling = o; front = c.front; heard = c.heard; output = out }
 
-takes_tunnel : (o : Option TunnelOf) (s u : CallingOf) (key : Option (List ℕ))
-    (random bytes out came handed given sent : List ℕ) (c : CallOf) → s.tunnel ≡ o
+takes_tunnel : (o : Option TunnelOf) (s u : ClientSealOf) (key : Option (List ℕ))
+    (random bytes out came handed given sent : List ℕ) (c : ClientStreamOf) → s.tunnel ≡ o
     → is_there o ≡ true → SendsBy o bytes s u out → c.calling ≡ Some s → c.output ≡ []
     → IsCall key random c came handed given sent
     → IsCall key random (with_both c (Some u) out) came handed (given ++ bytes) sent
 takes_tunnel None s u key random bytes out came handed given sent c is there h has nothing call =
     absurd cc
 takes_tunnel (Some t) s u key random bytes out came handed given sent c is there h has none call =
-    let now : CallingOf = record s { tunnel = Some h.0 } in
-    let side = subst (λ (o : Option CallingOf). IsOf o key random) has call.side in
+    let now : ClientSealOf = record s { tunnel = Some h.0 } in
+    let side = subst (λ (o : Option ClientSealOf). IsOf o key random) has call.side in
     let reads = subst (λ (o : Option TunnelOf). StandsBy o s came handed) is
-    (subst (λ (o : Option CallingOf). ReadsBy o came handed) has call.stands.reads) in
+    (subst (λ (o : Option ClientSealOf). ReadsBy o came handed) has call.stands.reads) in
     let gone = subst (λ (o : Option TunnelOf). SentAs o s came given (sent ++ c.output)) is
-    (subst (λ (o : Option CallingOf). SentBy o came given (sent ++ c.output)) has call.gone) in
+    (subst (λ (o : Option ClientSealOf). SentBy o came given (sent ++ c.output)) has call.gone) in
     let sent_all : sent ++ c.output ≡ sent =
     ap (λ (x : List ℕ). sent ++ x) none ∙ append-nil sent in
     let gone_all = subst (λ (x : List ℕ). SentSealed t s came given x) sent_all gone in
     subst
-    (λ (x : CallingOf). IsCall key random (with_both c (Some x) out) came handed (given ++ bytes)
+    (λ (x : ClientSealOf). IsCall key random (with_both c (Some x) out) came handed (given ++ bytes)
     sent)
     (sym h.2)
     (record {
@@ -204,20 +206,21 @@ takes_tunnel (Some t) s u key random bytes out came handed given sent c is there
       gone = sealed_sent t h.0 s bytes out came given sent h.1 gone_all;
     })
 
-takes_by : (o : Option CallingOf) (key : Option (List ℕ))
-    (random bytes out came handed given sent : List ℕ) (c mid : CallOf) → c.calling ≡ o
+takes_by : (o : Option ClientSealOf) (key : Option (List ℕ))
+    (random bytes out came handed given sent : List ℕ) (c mid : ClientStreamOf) → c.calling ≡ o
     → open_by o ≡ true → SealsBy o bytes c mid out → c.output ≡ []
     → IsCall key random c came handed given sent
     → IsCall key random (record mid { output = out }) came handed (given ++ bytes) sent
 takes_by None key random bytes out came handed given sent c mid is opened h nothing call =
-    let gone = subst (λ (o : Option CallingOf). SentBy o came given (sent ++ c.output)) is
+    let gone = subst (λ (o : Option ClientSealOf). SentBy o came given (sent ++ c.output)) is
     call.gone in
     let sent_all : sent ++ out ≡ given ++ bytes =
     ap (λ (x : List ℕ). sent ++ x) h.0
     ∙ ap (λ (x : List ℕ). x ++ bytes)
     (sym (append-nil sent) ∙ ap (λ (x : List ℕ). sent ++ x) (sym nothing) ∙ gone) in
     subst
-    (λ (m : CallOf). IsCall key random (record m { output = out }) came handed (given ++ bytes)
+    (λ (m : ClientStreamOf). IsCall key random (record m { output = out }) came handed
+    (given ++ bytes)
     sent)
     (sym h.1)
     (record {
@@ -228,12 +231,13 @@ takes_by None key random bytes out came handed given sent c mid is opened h noth
         reads = call.stands.reads;
       };
       gone =
-          subst (λ (o : Option CallingOf). SentBy o came (given ++ bytes) (sent ++ out)) (sym is)
+          subst (λ (o : Option ClientSealOf). SentBy o came (given ++ bytes) (sent ++ out)) (sym is)
           sent_all;
     })
 takes_by (Some s) key random bytes out came handed given sent c mid is opened h nothing call =
     subst
-    (λ (m : CallOf). IsCall key random (record m { output = out }) came handed (given ++ bytes)
+    (λ (m : ClientStreamOf). IsCall key random (record m { output = out }) came handed
+    (given ++ bytes)
     sent)
     (sym h.2)
     (takes_tunnel s.tunnel s h.0 key random bytes out came handed given sent c refl opened h.1 is
@@ -250,30 +254,32 @@ no_bytes (b ∷ bytes) h =
     absurd (omega arith)
 
 gives_by : (b : Bool) (key : Option (List ℕ)) (random bytes came handed given sent : List ℕ)
-    (count : ℕ) (old new : CallOf) → is_ready old ≡ b → GivesBy b bytes count old new
+    (count : ℕ) (old new : ClientStreamOf) → is_ready old ≡ b → GivesBy b bytes count old new
     → IsCall key random old came handed given sent
     → IsCall key random new came handed (given ++ take count bytes) sent
 gives_by false key random bytes came handed given sent count old new is h call =
     let same : given ≡ given ++ take count bytes =
     sym (append-nil given) ∙ ap (λ (n : ℕ). given ++ take n bytes) (sym h.0) in
-    subst (λ (c : CallOf). IsCall key random c came handed (given ++ take count bytes) sent)
+    subst (λ (c : ClientStreamOf). IsCall key random c came handed (given ++ take count bytes) sent)
     (sym h.1) (subst (λ (g : List ℕ). IsCall key random old came handed g sent) same call)
 gives_by true key random bytes came handed given sent count old new is h call =
     let both = and_both (is_open old) (length old.output == 0) is in
-    subst (λ (c : CallOf). IsCall key random c came handed (given ++ take count bytes) sent)
+    subst (λ (c : ClientStreamOf). IsCall key random c came handed (given ++ take count bytes) sent)
     (sym h.1.same)
     (takes_by old.calling key random (take count bytes) new.output came handed given sent old
     h.1.mid refl both.0 h.1.seals (no_bytes old.output both.1) call)
 
 gives : (key : Option (List ℕ)) (random bytes came handed given sent : List ℕ) (count : ℕ)
-    (old new : CallOf) → Gives bytes count old new → IsCall key random old came handed given sent
+    (old new : ClientStreamOf) → Gives bytes count old new
+    → IsCall key random old came handed given sent
     → IsCall key random new came handed (given ++ take count bytes) sent
 gives key random bytes came handed given sent count old new h call =
     gives_by (is_ready old) key random bytes came handed given sent count old new refl h call
 
 -- ---- bytes are sent
 
-sends : (key : Option (List ℕ)) (random came handed given sent : List ℕ) (count : ℕ) (c : CallOf)
+sends : (key : Option (List ℕ)) (random came handed given sent : List ℕ) (count : ℕ)
+    (c : ClientStreamOf)
     → IsCall key random c came handed given sent
     → IsCall key random (record c { output = drop count c.output }) came handed given
     (sent ++ take count c.output)

@@ -3,14 +3,14 @@ use Rattle.std.proofs.Common.{ℕ, List, ◌++◌, Option, Some, None}
 use Rattle.std.proofs.Common.{sym, ap, subst, ◌∙◌, inl, inr}
 use Rattle.seal.specs.declared.channel.Channel.{Channel}
 use Rattle.seal.specs.Records.{preface_of, records}
-use Rattle.sealed.specs.Callings.{CallingOf}
+use Rattle.sealed.specs.ClientSeals.{ClientSealOf}
 use Rattle.sealed.specs.Tunnels.{TunnelOf}
 use Rattle.sealed.proofs.Lawful.{opens}
-use Rattle.sealed.specs.ends.Calls.{ReadsBy}
+use Rattle.sealed.specs.ends.ClientStreams.{ReadsBy}
 use Rattle.sealed.specs.ends.Given.{SentAs, SentBy}
 use Rattle.sealed.specs.ends.Laws.{CallsSpeak, IsHanded, IsOf, IsSent}
 
-handed_by : (o : Option CallingOf) (key : Option (List ℕ)) (random came handed : List ℕ)
+handed_by : (o : Option ClientSealOf) (key : Option (List ℕ)) (random came handed : List ℕ)
     → IsOf o key random → ReadsBy o came handed → IsHanded key random came handed
 handed_by None key random came handed is h =
     subst (λ (k : Option (List ℕ)). IsHanded k random came handed) (sym is) h
@@ -19,7 +19,7 @@ handed_by (Some s) key random came handed is h =
     (subst (λ (r : List ℕ). IsHanded (Some s.key) r came handed) (sym is.1)
     (opens s.tunnel s came handed h))
 
-sent_as : (o : Option TunnelOf) (s : CallingOf) (came given sent : List ℕ)
+sent_as : (o : Option TunnelOf) (s : ClientSealOf) (came given sent : List ℕ)
     → SentAs o s came given sent → IsSent (Some s.key) s.random came given sent
 sent_as None s came given sent h = inl h
 sent_as (Some t) s came given sent h =
@@ -36,7 +36,7 @@ sent_as (Some t) s came given sent h =
           (h.over.sealed ∙ ap (λ (c : Channel). records c 0 h.over.bodies) h.goes);
     })
 
-sent_by : (o : Option CallingOf) (key : Option (List ℕ)) (random came given sent : List ℕ)
+sent_by : (o : Option ClientSealOf) (key : Option (List ℕ)) (random came given sent : List ℕ)
     → IsOf o key random → SentBy o came given sent → IsSent key random came given sent
 sent_by None key random came given sent is h =
     subst (λ (k : Option (List ℕ)). IsSent k random came given sent) (sym is) h

@@ -5,14 +5,14 @@ use Rattle.std.proofs.Common.{if◌then◌else◌, bytes_eq}
 use Rattle.std.proofs.lemmas.Bool.Decides.{Decides-eqb}
 use Rattle.std.proofs.lemmas.Slice.Eq.{bytes_eq-Decides}
 use Rattle.seal.specs.declared.channel.Channel.{Channel}
-use Rattle.seal.specs.declared.fault.OpenFault.{OpenFault}
+use Rattle.seal.specs.declared.fault.StreamFault.{StreamFault}
 use Rattle.seal.specs.Records.{mark}
 use Rattle.seal.specs.Streams.{HandsOn}
 use Rattle.seal.proofs.Reading.{reads_all}
-use Rattle.sealed.specs.Callings.{CallingOf, StandsOpen, StandsBy}
-use Rattle.sealed.specs.Callings as Callings
+use Rattle.sealed.specs.ClientSeals.{ClientSealOf, StandsOpen, StandsBy}
+use Rattle.sealed.specs.ClientSeals as Callings
 use Rattle.sealed.specs.Tunnels.{TunnelOf}
-use Rattle.sealed.specs.ends.Calls.{ReadsBy, sealed_trouble, trouble_by}
+use Rattle.sealed.specs.ends.ClientStreams.{ReadsBy, sealed_trouble, trouble_by}
 use Rattle.sealed.specs.ends.Laws.{IsOf, IsOpenedTo, IsWrong, TellsTrouble}
 use Rattle.sealed.specs.ends.Plain.{begins_mark, is_mark}
 use Rattle.sealed.specs.declared.ends.trouble.CallTrouble.TheVariants.{HasKey}
@@ -31,7 +31,7 @@ mark_is bytes h =
 is_the_mark : (bytes : List ℕ) → bytes ≡ mark → is_mark bytes ≡ true
 is_the_mark bytes is = ap (λ (s : List ℕ). is_mark s) is
 
-opened_to : (s : CallingOf) (t : TunnelOf) (came handed : List ℕ) (fault : Option OpenFault)
+opened_to : (s : ClientSealOf) (t : TunnelOf) (came handed : List ℕ) (fault : Option StreamFault)
     → t.opener.fault ≡ fault → StandsOpen s t came handed
     → IsOpenedTo s.key s.random came handed fault
 opened_to s t came handed fault is h = record {
@@ -43,20 +43,20 @@ opened_to s t came handed fault is h = record {
       (reads_all t.opener.channel h.stream handed t.opener fault h.reads (sym is));
 }
 
-wrong_fault : (f : Option OpenFault) (s : CallingOf) (t : TunnelOf) (came handed : List ℕ)
+wrong_fault : (f : Option StreamFault) (s : ClientSealOf) (t : TunnelOf) (came handed : List ℕ)
     → t.opener.fault ≡ f → StandsOpen s t came handed
     → IsWrong (sealed_trouble (Callings.fault_trouble f)) (Some s.key) s.random came handed
 wrong_fault None s t came handed is h = inr (opened_to s t came handed None is h)
 wrong_fault (Some e) s t came handed is h =
     (s.key, refl, e, opened_to s t came handed (Some e) is h)
 
-wrong_closed : (b : Bool) (s : CallingOf) (came handed : List ℕ)
+wrong_closed : (b : Bool) (s : ClientSealOf) (came handed : List ℕ)
     → Callings.StandsClosed b s came handed
     → IsWrong (sealed_trouble (Callings.unsealed_trouble b)) (Some s.key) s.random came handed
 wrong_closed true s came handed h = (λ none. absurd cc, h.0)
 wrong_closed false s came handed h = inl h.0
 
-wrong_sealed : (o : Option TunnelOf) (s : CallingOf) (came handed : List ℕ)
+wrong_sealed : (o : Option TunnelOf) (s : ClientSealOf) (came handed : List ℕ)
     → StandsBy o s came handed
     → IsWrong (sealed_trouble (Callings.trouble_by o s.unsealed)) (Some s.key) s.random came handed
 wrong_sealed None s came handed h = wrong_closed s.unsealed s came handed h
@@ -72,7 +72,7 @@ wrong_plain false random came handed front is first =
     subst (λ (b : Bool). IsWrong (if b then Some HasKey else None) None random came handed) (sym is)
     (λ same. let never = is_the_mark front (first ∙ same) in absurd cc)
 
-wrong_by : (o : Option CallingOf) (key : Option (List ℕ)) (random came handed front : List ℕ)
+wrong_by : (o : Option ClientSealOf) (key : Option (List ℕ)) (random came handed front : List ℕ)
     → IsOf o key random → front ≡ take 4 came → ReadsBy o came handed
     → IsWrong (trouble_by o front) key random came handed
 wrong_by None key random came handed front is first h =

@@ -2,28 +2,28 @@
 use Rattle.std.specs.Prelude.{◌≡◌, ◌≢◌, ◌⊎◌, ℕ, List, [], ◌++◌, drop, take}
 use Rattle.std.specs.Prelude.{Option, None, Some}
 use Rattle.seal.specs.declared.channel.Direction.TheVariants.{ToServer, ToClient}
-use Rattle.seal.specs.declared.fault.OpenFault.{OpenFault}
+use Rattle.seal.specs.declared.fault.StreamFault.{StreamFault}
 use Rattle.seal.specs.Records.{AreBodies, key_of, mark, preface_of, records}
 use Rattle.seal.specs.Streams.{HandsOn, joined}
-use Rattle.sealed.specs.Callings.{CallingOf, IsOpened}
+use Rattle.sealed.specs.ClientSeals.{ClientSealOf, IsOpened}
 use Rattle.sealed.specs.Fronts.{IsPrefaced, IsShort, IsUnsealed}
 use Rattle.sealed.specs.Tunnels.{channel_of}
 use Rattle.sealed.specs.declared.ends.trouble.CallTrouble.{CallTrouble}
 use Rattle.sealed.specs.declared.ends.trouble.CallTrouble.TheVariants.{NoKey, OtherKey, HasKey}
-use Rattle.sealed.specs.ends.Calls.{CallOf, Gives, Receives, Stands}
-use Rattle.sealed.specs.ends.Calls.{fresh_call, trouble_of}
+use Rattle.sealed.specs.ends.ClientStreams.{ClientStreamOf, Gives, Receives, Stands}
+use Rattle.sealed.specs.ends.ClientStreams.{fresh_client_stream, trouble_of}
 use Rattle.sealed.specs.ends.Given.{HasSent}
 use Rattle.sealed.specs.ends.Plain.{handed_plain}
 
 -- ---- a connection from its beginning on
 
 -- the caller has this key, or none, and these random bytes
-abbrev pub IsOf : Option CallingOf → Option (List ℕ) → List ℕ → Type 0
+abbrev pub IsOf : Option ClientSealOf → Option (List ℕ) → List ℕ → Type 0
 IsOf None key random = key ≡ None
 IsOf (Some s) key random = (key ≡ Some s.key) × (random ≡ s.random)
 
 -- one connection of a caller: what came and was handed on, and what was given and sent
-pub record IsCall (key : Option (List ℕ)) (random : List ℕ) (c : CallOf)
+pub record IsCall (key : Option (List ℕ)) (random : List ℕ) (c : ClientStreamOf)
     (came handed given sent : List ℕ) : Type 0 where
   pub side : IsOf c.calling key random
   pub stands : Stands c came handed
@@ -32,19 +32,20 @@ pub record IsCall (key : Option (List ℕ)) (random : List ℕ) (c : CallOf)
 -- it holds at the beginning, and through each call
 pub record StaysCall : Type 0 where
   pub begins : (key : Option (List ℕ)) (random : List ℕ)
-      → IsCall key random (fresh_call key random) [] [] [] []
+      → IsCall key random (fresh_client_stream key random) [] [] [] []
   pub receives :
       (key : Option (List ℕ)) (random piece more came handed given sent : List ℕ)
-      (old new : CallOf) → Receives piece old new more
+      (old new : ClientStreamOf) → Receives piece old new more
       → IsCall key random old came handed given sent
       → IsCall key random new (came ++ piece) (handed ++ more) given sent
   pub gives :
       (key : Option (List ℕ)) (random bytes came handed given sent : List ℕ) (count : ℕ)
-      (old new : CallOf) → Gives bytes count old new
+      (old new : ClientStreamOf) → Gives bytes count old new
       → IsCall key random old came handed given sent
       → IsCall key random new came handed (given ++ take count bytes) sent
   pub sends :
-      (key : Option (List ℕ)) (random came handed given sent : List ℕ) (count : ℕ) (c : CallOf)
+      (key : Option (List ℕ)) (random came handed given sent : List ℕ) (count : ℕ)
+      (c : ClientStreamOf)
       → IsCall key random c came handed given sent
       → IsCall key random (record c { output = drop count c.output }) came handed given
       (sent ++ take count c.output)
@@ -81,14 +82,14 @@ pub record IsSpoken (key : Option (List ℕ)) (random came handed given sent : L
   pub gone : IsSent key random came given sent
 
 abbrev pub CallsSpeak : Type 0
-CallsSpeak = (key : Option (List ℕ)) (random came handed given sent : List ℕ) (c : CallOf)
+CallsSpeak = (key : Option (List ℕ)) (random came handed given sent : List ℕ) (c : ClientStreamOf)
     → IsCall key random c came handed given sent
     → IsSpoken key random came handed given (sent ++ c.output)
 
 -- ---- what is wrong
 
 -- records came up to one that does not fit, or up to less than one
-pub record IsOpenedTo (key random came handed : List ℕ) (fault : Option OpenFault) : Type 0 where
+pub record IsOpenedTo (key random came handed : List ℕ) (fault : Option StreamFault) : Type 0 where
   pub server : List ℕ
   pub stream : List ℕ
   pub prefaced : IsPrefaced came server stream
@@ -99,13 +100,13 @@ abbrev pub IsWrong : Option CallTrouble → Option (List ℕ) → List ℕ → L
 IsWrong (Some HasKey) key random came handed = (key ≡ None) × (take 4 came ≡ mark)
 IsWrong (Some NoKey) key random came handed = (key ≢ None) × IsUnsealed came
 IsWrong (Some OtherKey) key random came handed =
-    (own : List ℕ) × (key ≡ Some own) × (fault : OpenFault)
+    (own : List ℕ) × (key ≡ Some own) × (fault : StreamFault)
     × IsOpenedTo own random came handed (Some fault)
 IsWrong None None random came handed = ¬ (take 4 came ≡ mark)
 IsWrong None (Some own) random came handed =
     IsShort came ⊎ IsOpenedTo own random came handed None
 
 abbrev pub TellsTrouble : Type 0
-TellsTrouble = (key : Option (List ℕ)) (random came handed given sent : List ℕ) (c : CallOf)
+TellsTrouble = (key : Option (List ℕ)) (random came handed given sent : List ℕ) (c : ClientStreamOf)
     → IsCall key random c came handed given sent
     → IsWrong (trouble_of c) key random came handed

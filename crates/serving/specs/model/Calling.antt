@@ -2,7 +2,7 @@
 use Rattle.std.specs.Prelude.{◌≡◌, List}
 use Rattle.acceptor.specs.declared.message.Message.{Message}
 use Rattle.learner.specs.declared.event.DeskEvent.{DeskEvent}
-use Rattle.serving.specs.declared.calls.Answer.{Answer}
+use Rattle.serving.specs.declared.calls.NodeAnswer.{NodeAnswer}
 use Rattle.store.specs.declared.home.Home.{Home}
 use Rattle.answers.specs.Seen.{Seen}
 use Rattle.serving.specs.Nodes.{Fate, reply}
@@ -13,7 +13,7 @@ use Rattle.serving.specs.Serving.{waiting_after}
 -- the call came to this fate
 pub record Calls (home : Home) (event : DeskEvent) (fate : Fate) (x y : Seen)
     (ms more : List Message)
-    (answer : Answer) : Type 0 where
+    (answer : NodeAnswer) : Type 0 where
   pub answer_is : answer ≡ answer_of (reply home x event fate).result
   pub seen : y ≡ (reply home x event fate).seen
   pub waits : more ≡ waiting_after ms (reply home x event fate).result

@@ -5,7 +5,7 @@ use Rattle.learner.specs.declared.event.DeskEvent.{DeskEvent}
 use Rattle.store.specs.declared.home.Home.{Home}
 use Rattle.answers.specs.Seen.{Seen}
 use Rattle.serving.specs.Nodes.{Fate, reply}
-use Rattle.serving.specs.declared.calls.Answer.{Answer}
+use Rattle.serving.specs.declared.calls.NodeAnswer.{NodeAnswer}
 use Rattle.serving.specs.Answering.{answer_of}
 use Rattle.serving.specs.Making.{Way, Outside, Makes}
 use Rattle.serving.specs.Serving.{Act, Called, Service, seen_after, call, settle_by, take}
@@ -73,7 +73,7 @@ DoesPart home all first last old new =
 
 -- an event was taken with all that comes of it, and the node's answer is that of the first fate
 pub record DoesCall {V : Type 0} {way : Way V} (home : Home) (left last : ℕ) (event : DeskEvent)
-    (answer : Answer) (x y : Seen)
+    (answer : NodeAnswer) (x y : Seen)
     (acts : List Act) (past : List Fate) (old new : Outside way) : Type 0 where
   pub did : Did home (λ s. settle_by home left (call home event s)) (at x [] left) (at y [] last)
       acts past old new
@@ -84,7 +84,7 @@ pub record DoesCall {V : Type 0} {way : Way V} (home : Home) (left last : ℕ) (
 
 -- the same, with Start where the log grew
 pub record DoesTake {V : Type 0} {way : Way V} (home : Home) (last : ℕ) (event : DeskEvent)
-    (answer : Answer) (x y : Seen)
+    (answer : NodeAnswer) (x y : Seen)
     (acts : List Act) (past : List Fate) (old new : Outside way) : Type 0 where
   pub did : Did home (take home event) (at x [] 16) (at y [] last) acts past old new
   pub fate : Fate

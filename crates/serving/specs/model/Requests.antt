@@ -1,6 +1,6 @@
 -- How a request and a frame are served.
 use Rattle.std.specs.Prelude.{◌≡◌, List, ◌++◌, Option}
-use Rattle.wire.specs.declared.frame.What.{What}
+use Rattle.wire.specs.declared.frame.FrameBody.{FrameBody}
 use Rattle.store.specs.declared.home.Home.{Home}
 use Rattle.serving.specs.declared.request.Request.{Request}
 use Rattle.serving.specs.Making.{Way, Outside, Makes}
@@ -10,7 +10,7 @@ use Rattle.serving.specs.Serving.{Act, served, answer, seen_after}
 
 -- all calls and pushes of the request were made, and this is its answer
 pub record Answers {V : Type 0} {way : Way V} (home : Home) (x y : Seen) (fates : List Fate)
-    (r : Request) (w : Option What)
+    (r : Request) (w : Option FrameBody)
     (old new : Outside way) : Type 0 where
   pub answer_is : w ≡ answer home x fates r
   pub made : Makes home.hall old new (served home x fates r).done
@@ -26,7 +26,8 @@ pub record AnswersPart {V : Type 0} {way : Way V} (home : Home) (x y : Seen) (fa
   pub made : Makes home.hall old new acts
   pub node : y ≡ seen_after home x acts fates
 
-abbrev pub AnswersSome : {V : Type 0} → {way : Way V} → Home → Seen → Seen → Request → Option What
+abbrev pub AnswersSome : {V : Type 0} → {way : Way V} → Home → Seen → Seen → Request
+    → Option FrameBody
     → Outside way
     → Outside way → Type 0
 AnswersSome home x y r w old new = (fates : List Fate) × Answers home x y fates r w old new

@@ -8,20 +8,20 @@ use Rattle.learner.specs.declared.event.DeskEvent.{DeskEvent}
 use Rattle.learner.specs.declared.event.DeskEvent.TheVariants.{Deliver, Start}
 use Rattle.store.specs.declared.home.Home.{Home}
 use Rattle.wire.specs.declared.frame.Frame.{Frame}
-use Rattle.wire.specs.declared.frame.What.{What}
+use Rattle.wire.specs.declared.frame.FrameBody.{FrameBody}
 use Rattle.wire.specs.declared.standing.Difference.{Difference}
 use Rattle.wire.specs.declared.values.Version.{Version}
 use Rattle.serving.specs.Adding.{Push, Hands}
-use Rattle.serving.specs.declared.calls.Answer.{Answer}
-use Rattle.serving.specs.declared.ends.Close.{Close}
-use Rattle.serving.specs.declared.ends.End.{End}
+use Rattle.serving.specs.declared.calls.NodeAnswer.{NodeAnswer}
+use Rattle.serving.specs.declared.ends.FrameEnd.{FrameEnd}
+use Rattle.serving.specs.declared.ends.ConnectionEnd.{ConnectionEnd}
 use Rattle.serving.specs.declared.ends.FrameFault.TheVariants as fault
 use Rattle.serving.specs.declared.permission.Permission.{Permission}
 use Rattle.serving.specs.declared.peers.Peers.{Ghosts as PeersOf}
 use Rattle.serving.specs.declared.request.Request.{Request}
 use Rattle.serving.specs.declared.request.Request.TheVariants.{Heard, Lagging, Learned, Entered}
 use Rattle.serving.specs.declared.request.Request.TheVariants.{Ticked}
-use Rattle.serving.specs.declared.request.Run.{Run}
+use Rattle.serving.specs.declared.request.DecidedRun.{DecidedRun}
 use Rattle.serving.specs.declared.session.Session.{Session}
 use Rattle.serving.specs.Connection.{Begun, Sides, sides, ServesOne, FailsIn}
 use Rattle.serving.specs.Making.{outside_of, speaking}
@@ -41,7 +41,7 @@ use Rattle.serving.specs.model.Turning.{EndsBy}
 
 -- it came to a fate, and these messages wait
 abbrev pub IsCalled : {V : Type 0} → DeskOf V → DeskEvent → V → V → List Message → List Message
-    → Answer → Type 0
+    → NodeAnswer → Type 0
 IsCalled d event x y ms more answer =
     (fate : Fate) × Calls (d.home_of x) event fate (d.seen x) (d.seen y) ms more answer
     × IsCall d.handles (d.home_of x) event fate (d.seen x) x y
@@ -113,7 +113,7 @@ SettlesPart d p s a b = ComesPart d p s (settle_by s.home a.left) a b
 
 -- an event, with all that comes of it
 abbrev pub Meets : {V U : Type 0} → DeskOf V → PeersOf U → Session → DeskEvent → Point V U
-    → Point V U → Answer → Type 0
+    → Point V U → NodeAnswer → Type 0
 Meets d p s event a b answer =
     (acts : List Act) × (past : List Fate)
     × DoesCall s.home a.left b.left event answer (d.seen a.node) (d.seen b.node) acts past
@@ -134,7 +134,7 @@ StartsPart d p s before a b = ComesPart d p s (start_if_grown s.home before) a b
 
 -- an event, with all that comes of it and of Start
 abbrev pub TakesIn : {V U : Type 0} → DeskOf V → PeersOf U → Session → DeskEvent → Desks V U
-    → Desks V U → Answer → Type 0
+    → Desks V U → NodeAnswer → Type 0
 TakesIn d p s event a b answer =
     (left : ℕ) × (acts : List Act) × (past : List Fate)
     × DoesTake s.home left event answer (d.seen a.node) (d.seen b.node) acts past
@@ -159,29 +159,31 @@ StartsNextPart d p s a b ms =
 -- ---- a run of entries
 
 -- each entry was delivered, whatever the version and the other desks
-abbrev pub Delivers : {V : Type 0} → DeskOf V → Home → Run → V → List Message → V → List Message
+abbrev pub Delivers : {V : Type 0} → DeskOf V → Home → DecidedRun → V → List Message → V
+    → List Message
     → Type 0
 Delivers d home run x ms y more =
     (wire : Version) (handed : Option (List Push))
     → Does home (learn home run.from run.to run.pos run.entries) (at (d.seen x) ms 16)
-    (at (d.seen y) more 16) (outside_of (speaking d.handles wire) x handed)
-    (outside_of (speaking d.handles wire) y handed)
+    (at (d.seen y) more 16) (outside_of (speaking d.handles d.settles wire) x handed)
+    (outside_of (speaking d.handles d.settles wire) y handed)
 
-abbrev pub DeliversPart : {V : Type 0} → DeskOf V → Home → Run → V → List Message → V → Type 0
+abbrev pub DeliversPart : {V : Type 0} → DeskOf V → Home → DecidedRun → V → List Message → V
+    → Type 0
 DeliversPart d home run x ms y =
     (wire : Version) (handed : Option (List Push))
     → DoesPart home (learn home run.from run.to run.pos run.entries) (at (d.seen x) ms 16)
-    (d.seen y) (outside_of (speaking d.handles wire) x handed)
-    (outside_of (speaking d.handles wire) y handed)
+    (d.seen y) (outside_of (speaking d.handles d.settles wire) x handed)
+    (outside_of (speaking d.handles d.settles wire) y handed)
 
 -- with all that comes of the last one
-abbrev pub LearnsAll : {V U : Type 0} → DeskOf V → PeersOf U → Session → Run → Desks V U
+abbrev pub LearnsAll : {V U : Type 0} → DeskOf V → PeersOf U → Session → DecidedRun → Desks V U
     → Point V U → Type 0
 LearnsAll d p s run a b =
     Comes d p s (λ t. settle_by s.home 16 (learn s.home run.from run.to run.pos run.entries t))
     (idle a.node a.peers 16) b
 
-abbrev pub LearnsPart : {V U : Type 0} → DeskOf V → PeersOf U → Session → Run → Desks V U
+abbrev pub LearnsPart : {V U : Type 0} → DeskOf V → PeersOf U → Session → DecidedRun → Desks V U
     → Desks V U → Type 0
 LearnsPart d p s run a b =
     ComesPart d p s (λ t. settle_by s.home 16 (learn s.home run.from run.to run.pos run.entries t))
@@ -204,7 +206,7 @@ TellsPart d p s message a b =
 
 -- it was served, with this answer
 abbrev pub Serves : {V U : Type 0} → DeskOf V → PeersOf U → Session → Request → Desks V U
-    → Desks V U → Option What → Type 0
+    → Desks V U → Option FrameBody → Type 0
 Serves d p s request a b answer =
     AnswersSome s.home (d.seen a.node) (d.seen b.node) request answer
     (outside d p s.wire a.node a.peers) (outside d p s.wire b.node b.peers)
@@ -232,15 +234,16 @@ abbrev pub FailsToTell : {V U : Type 0} → DeskOf V → PeersOf U → Session �
     → Desks V U → Type 0
 FailsToTell d p s message a b = ServesPart d p s (Lagging message) a b
 
-abbrev pub Learns : {V U : Type 0} → DeskOf V → PeersOf U → Session → Run → Desks V U
+abbrev pub Learns : {V U : Type 0} → DeskOf V → PeersOf U → Session → DecidedRun → Desks V U
     → Desks V U → Type 0
 Learns d p s run a b = Serves d p s (Learned run) a b None
 
-abbrev pub FailsToLearn : {V U : Type 0} → DeskOf V → PeersOf U → Session → Run → Desks V U
+abbrev pub FailsToLearn : {V U : Type 0} → DeskOf V → PeersOf U → Session → DecidedRun → Desks V U
     → Desks V U → Type 0
 FailsToLearn d p s run a b = ServesPart d p s (Learned run) a b
 
-abbrev pub Ticks : {V U : Type 0} → DeskOf V → PeersOf U → Session → Desks V U → Desks V U → What
+abbrev pub Ticks : {V U : Type 0} → DeskOf V → PeersOf U → Session → Desks V U → Desks V U
+    → FrameBody
     → Type 0
 Ticks d p s a b answer = Serves d p s Ticked a b (Some answer)
 
@@ -249,7 +252,7 @@ abbrev pub TicksPart : {V U : Type 0} → DeskOf V → PeersOf U → Session →
 TicksPart d p s a b = ServesPart d p s Ticked a b
 
 abbrev pub Enters : {V U : Type 0} → DeskOf V → PeersOf U → Session → Entry → Desks V U
-    → Desks V U → What → Type 0
+    → Desks V U → FrameBody → Type 0
 Enters d p s entry a b answer = Serves d p s (Entered entry) a b (Some answer)
 
 abbrev pub EntersPart : {V U : Type 0} → DeskOf V → PeersOf U → Session → Entry → Desks V U
@@ -260,13 +263,13 @@ EntersPart d p s entry a b = ServesPart d p s (Entered entry) a b
 
 -- what serving changes, where this was written of answers
 abbrev pub sides_with : {V U : Type 0} → (d : DeskOf V) → PeersOf U → (version : Version)
-    → Desks V U → List ℕ → Sides (speaking d.handles version)
+    → Desks V U → List ℕ → Sides (speaking d.handles d.settles version)
 sides_with d p version a written =
     sides (d.seen a.node) (Some written) (outside d p version a.node a.peers)
 
 -- a frame was served: the bytes of its answer, and how it ends the connection
 abbrev pub ServesFrame : {V U : Type 0} → DeskOf V → PeersOf U → Session → Permission
-    → Option Difference → Frame → Desks V U → Desks V U → List ℕ → Option Close → Type 0
+    → Option Difference → Frame → Desks V U → Desks V U → List ℕ → Option FrameEnd → Type 0
 ServesFrame d p s may differs frame a b answer close =
     (fates : List Fate)
     × ServesOne s.home (sides_with d p s.wire a []) (sides_with d p s.wire b answer)
@@ -282,9 +285,9 @@ FailsFrame d p s may differs frame a b =
 
 -- the frames that waited in a connection
 abbrev pub ServesWaiting : {V U X : Type 0} → DeskOf V → PeersOf U → WriteOf X → Permission
-    → Option End → Talk → Talk → Line V U X → Line V U X → Type 0
+    → Option ConnectionEnd → Talk → Talk → Line V U X → Line V U X → Type 0
 ServesWaiting d p w may result old new a b =
-    (how : Option End) × (begun : List Begun) × (left : List Frame)
+    (how : Option ConnectionEnd) × (begun : List Begun) × (left : List Frame)
     × IsBatch may how old.home (sides_of d p w old.wire a) (sides_of d p w old.wire b) old.waiting
     begun
     left old.frames new.frames
@@ -292,7 +295,7 @@ ServesWaiting d p w may result old new a b =
 
 -- a piece of the stream, after what a connection held of the stream before
 abbrev pub ServesPiece : {V U X : Type 0} → DeskOf V → PeersOf U → WriteOf X → Permission
-    → Option End → List ℕ → Talk → Talk → Line V U X → Line V U X → Type 0
+    → Option ConnectionEnd → List ℕ → Talk → Talk → Line V U X → Line V U X → Type 0
 ServesPiece d p w may result piece old new a b =
     (begun : List Begun) × (rest : List ℕ)
     × IsPiece may result old.home (sides_of d p w old.wire a) (sides_of d p w old.wire b)

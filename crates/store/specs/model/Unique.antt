@@ -16,10 +16,13 @@ use Rattle.acceptor.specs.declared.entry.Entry.{Entry}
 use Rattle.store.specs.declared.home.Home.{Home}
 use Rattle.acceptor.specs.declared.stored.Vote.{Vote}
 use Rattle.acceptor.specs.declared.stored.Stored.{Stored}
+use Rattle.acceptor.specs.declared.stored.Change.{Change}
 use Rattle.sqlite.specs.Effect.{Database}
 use Rattle.sqlite.specs.State.{State}
 use Rattle.store.specs.Kept.{Keeps, MayBreak}
 use Rattle.store.specs.Keeping.{HoldsOnly}
+use Rattle.store.specs.Changes.{Leads, stored_after_all, log_after_all}
+use Rattle.store.specs.Waiting.{KeepsBefore, MayLeaveBefore}
 use Rattle.store.specs.Holding.{Holds, desk_values, vote_values, log_values}
 
 -- the position that a shown row names
@@ -148,6 +151,12 @@ one_state home away db s t log more a b =
       same_log log more (IsPermutation-trans _ _ _ a.entries (IsPermutation-sym _ _ b.entries)),
     )
 
+-- no change leads from a state to that state alone
+pub leads_nowhere : (changes : List Change) (s : Stored) (log : List Entry) → changes ≡ []
+    → Leads changes s log s log
+leads_nowhere changes s log none =
+    subst (λ cs. Leads cs s log s log) (sym none) (record { stored = refl; log = refl })
+
 -- While a connection keeps a state, a crash leaves that state and no other.
 pub alone : (c : State) (home : Home) (s : Stored) (log : List Entry)
     → ((db : Trees) → IsTrue c.is_open → c.may_leave db → db ≡ c.committed.trees)
@@ -169,4 +178,24 @@ alone c home s log settles stays k =
           λ broken.
           broken.2 s log
           (subst (λ d. Holds home d s log) (sym (settles broken.0 k.is_open broken.1)) here);
+    }
+
+-- and so it is of the state after the changes that wait
+pub alone_after : (c : State) (home : Home) (len : ℕ) (changes : List Change) (s : Stored)
+    (log : List Entry)
+    → ((db : Trees) → IsTrue c.is_open → c.may_leave db → db ≡ c.committed.trees)
+    → (IsTrue c.is_open → c.may_leave c.committed.trees)
+    → KeepsBefore home len changes c s log
+    → HoldsOnly (MayLeaveBefore changes c home) (MayBreak c home) s log
+alone_after c home len changes s log settles stays k =
+    let first = alone c home k.before k.past settles stays k.keeps in
+    record {
+      holds = (k.before, k.past, first.holds, k.leads);
+      only =
+          λ t more h.
+          let same = first.only h.0 h.1 h.2 in (
+            h.3.stored ∙ ap (λ u. stored_after_all u changes) same.0 ∙ sym k.leads.stored,
+            h.3.log ∙ ap (λ u. log_after_all u changes) same.1 ∙ sym k.leads.log,
+          );
+      whole = first.whole;
     }

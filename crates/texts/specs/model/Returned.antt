@@ -5,7 +5,7 @@ use Rattle.std.specs.Borrow.{Bor}
 use Rattle.std.specs.List.{list_any}
 use Rattle.std.specs.Option.{option_copied}
 use Rattle.texts.specs.declared.command.Entered.{Entered}
-use Rattle.texts.specs.declared.command.Remarked.{Remarked}
+use Rattle.texts.specs.declared.command.RemarkedCommand.{RemarkedCommand}
 use Rattle.texts.specs.declared.reading.CommandFault.{CommandFault}
 use Rattle.texts.specs.declared.reading.CommandFault.TheVariants as fault
 use Rattle.texts.specs.declared.table.FieldKind.{FieldKind}
@@ -57,11 +57,12 @@ GivesValues view ks (Err fault.NoMemory) said = TakesForValues ks said
 GivesValues view ks (Err e) said = said ≡ Err e
 
 -- the same of the remark: memory is taken for one that is right
-abbrev pub TakesForRemark : Result Remarked CommandFault → Type 0
+abbrev pub TakesForRemark : Result RemarkedCommand CommandFault → Type 0
 TakesForRemark (Ok c) = IsTrue (is_some c.remark)
 TakesForRemark (Err e) = ⊥
 
-abbrev pub GivesRemark : Result Remarked CommandFault → Result Remarked CommandFault → Type 0
+abbrev pub GivesRemark : Result RemarkedCommand CommandFault → Result RemarkedCommand CommandFault
+    → Type 0
 GivesRemark (Ok c) said = said ≡ Ok c
 GivesRemark (Err fault.NoMemory) said = TakesForRemark said
 GivesRemark (Err e) said = said ≡ Err e

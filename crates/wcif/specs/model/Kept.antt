@@ -12,7 +12,7 @@ use Rattle.wcif.specs.declared.people.Numbers.{Numbers}
 use Rattle.wcif.specs.declared.people.Names.{Names}
 use Rattle.wcif.specs.declared.people.People.{People}
 use Rattle.std.specs.Prelude.{[], ◌∷◌, ◌++◌}
-use Rattle.wcif.specs.declared.fault.Fault.{Fault}
+use Rattle.wcif.specs.declared.fault.CompetitionFault.{CompetitionFault}
 use Rattle.wcif.specs.Faults.{person_faults}
 use Rattle.wcif.specs.Told.{place}
 use Rattle.wcif.specs.Persons.{has_given, has_number, has_name, last_number}
@@ -39,7 +39,8 @@ pub record AreKept (how : SameNames) (everyone earlier : List Data) (kept : Peop
   pub names : AreNames how everyone earlier kept.names
 
 -- what is added of a person at a place: what a desk cannot hold of him, given those in front
-abbrev pub AddsFaults : SameNames → List Data → ℕ → Data → People → List Fault → List Fault → Type 0
+abbrev pub AddsFaults : SameNames → List Data → ℕ → Data → People → List CompetitionFault
+    → List CompetitionFault → Type 0
 AddsFaults how events at p kept old new =
     (everyone earlier : List Data) → AreKept how everyone earlier kept → at ≡ place earlier
     → new ≡ old ++ person_faults how events everyone earlier p

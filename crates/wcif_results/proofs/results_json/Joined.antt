@@ -15,7 +15,7 @@ use Rattle.commands.specs.Accepted.{name_of, seen_of}
 use Rattle.formats.specs.declared.events.Event.{Event}
 use Rattle.formats.specs.declared.results.Averaged.{Averaged}
 use Rattle.formats.specs.Events.{event_name, format_name}
-use Rattle.rounds.specs.declared.table.Row.{Row}
+use Rattle.rounds.specs.declared.table.EntrantRow.{EntrantRow}
 use Rattle.rounds.specs.Rows.{IsRow}
 use Rattle.rounds.specs.Tables.{Entrant, Table, place, standings}
 use Rattle.sheets.specs.Sheet.{is_marked}
@@ -57,7 +57,7 @@ row_of n name vs place average marked =
     ∷ end_object ∷ []))))))))))
 
 pub row_tokens : (cs : List Command) (settings : Settings) (t : Table) (marks : ℕ → Bool) (n : ℕ)
-    (e : Entrant) (row : Row) → IsRow t n e row → (name : Option (Bor (List ℕ)))
+    (e : Entrant) (row : EntrantRow) → IsRow t n e row → (name : Option (Bor (List ℕ)))
     → option_map (λ s. s.now) name ≡ name_of cs n
     → (marked : Bool) → marked ≡ marks n
     → row_of n (option_map (λ s. s.now) name) row.values.now row.place row.average marked

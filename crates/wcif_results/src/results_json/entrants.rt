@@ -5,22 +5,27 @@ ghost use Rattle.json.specs.Tree.{json_tokens};
 ghost use Rattle.formats.specs.Results.{best_of};
 ghost use Rattle.rounds.specs.Rows.{IsRow};
 ghost use Rattle.rounds.specs.Tables.{Entrant, standings};
-ghost use Rattle.wcif_results.specs.model.Marks.{IsOpened, TellsOpened, marks_of};
-ghost use Rattle.wcif_results.specs.results_json.Entrants.{entrant_json, entrant_list};
+ghost use Rattle.wcif_results.specs.model.Marks.{IsOpened, TellsOpened, entrant_in, marks_of};
+ghost use Rattle.wcif_results.specs.results_json.Entrants.{entrant_list};
 ghost use Rattle.wcif_results.specs.results_json.Entrants.{entrants_json};
 ghost use Rattle.wcif_results.specs.Written.{Adds};
 
-use crate::results_json::rounds_written::Opened;
+use crate::results_json::rounds_written::ExportedRound;
 use crate::results_json::values::{
     write_average, write_best, write_name, write_number, write_place, write_values,
 };
 use attempts::NoMemory;
 use json::Writer;
-use rounds::Row;
-use sheets::GoingOn;
+use rounds::EntrantRow;
+use sheets::AdvancingEntrants;
 
 /// Whether the sheet marks the entrant of a row as one who advances.
-fn is_marked(round: Opened<'_>, going_on: &GoingOn, number: u16, row: Row<'_>) -> bool
+fn is_marked(
+    round: ExportedRound<'_>,
+    going_on: &AdvancingEntrants,
+    number: u16,
+    row: EntrantRow<'_>,
+) -> bool
     requires { TellsOpened round going_on.now }
     ensures { (e : Entrant) → IsRow round.entry.table.now number e row.entry
         → result ≡ marks_of round.entry number }
@@ -31,16 +36,15 @@ fn is_marked(round: Opened<'_>, going_on: &GoingOn, number: u16, row: Row<'_>) -
 /// Writes what the sheet has of an entrant, given its row.
 fn write_row(
     out: &mut Writer,
-    round: Opened<'_>,
-    going_on: &GoingOn,
+    round: ExportedRound<'_>,
+    going_on: &AdvancingEntrants,
     number: u16,
-    row: Row<'_>,
+    row: EntrantRow<'_>,
 ) -> Result<(), NoMemory>
     requires best { row.best ≡ best_of row.values.now }
     requires who { TellsOpened round going_on.now }
     ensures { OnOk result ((e : Entrant) → IsRow round.entry.table.now number e row.entry
-        → Adds out.old out.new (json_tokens (entrant_json round.entry.meet.now.accepted
-        round.entry.settings round.entry.table.now (marks_of round.entry) number e))) }
+        → Adds out.old out.new (json_tokens (entrant_in round.entry number e))) }
 {
     out.begin_object()?;
     out.key("number")?;
@@ -63,8 +67,8 @@ fn write_row(
 /// Writes what the sheet has of the entrant with a number.
 fn write_entrant(
     out: &mut Writer,
-    round: Opened<'_>,
-    going_on: &GoingOn,
+    round: ExportedRound<'_>,
+    going_on: &AdvancingEntrants,
     number: u16,
 ) -> Result<(), NoMemory>
     requires { TellsOpened round going_on.now }
@@ -81,8 +85,8 @@ fn write_entrant(
 /// Writes the list of a round's entrants, given their order and who goes on.
 fn write_list(
     out: &mut Writer,
-    round: Opened<'_>,
-    going_on: &GoingOn,
+    round: ExportedRound<'_>,
+    going_on: &AdvancingEntrants,
     numbers: &[u16],
 ) -> Result<(), NoMemory>
     requires who { TellsOpened round going_on.now }
@@ -99,7 +103,7 @@ fn write_list(
 }
 
 /// Writes the list of a round's entrants, by place, and at one place in the order of entry.
-pub(crate) fn write_entrants(out: &mut Writer, round: Opened<'_>) -> Result<(), NoMemory>
+pub(crate) fn write_entrants(out: &mut Writer, round: ExportedRound<'_>) -> Result<(), NoMemory>
     requires { IsOpened round }
     ensures { OnOk result (Adds out.old out.new (json_tokens (entrants_json
         round.entry.meet.now.accepted round.entry.settings round.entry.table.now
@@ -107,6 +111,6 @@ pub(crate) fn write_entrants(out: &mut Writer, round: Opened<'_>) -> Result<(), 
 {
     let numbers = round.table.standings()?;
     let alloc = *numbers.allocator();
-    let going_on = GoingOn::from_round(alloc, round.meet, round.event, round.number)?;
+    let going_on = AdvancingEntrants::from_round(alloc, round.meet, round.event, round.number)?;
     write_list(out, round, &going_on, &numbers)
 }

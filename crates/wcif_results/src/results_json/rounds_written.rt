@@ -18,7 +18,7 @@ use rounds::RoundTable;
 
 /// A round that was opened, and the meet that it belongs to.
 #[derive(Clone, Copy)]
-pub(crate) struct Opened<'m> {
+pub(crate) struct ExportedRound<'m> {
     pub(crate) meet: &'m Meet,
     pub(crate) event: Event,
     pub(crate) number: u8,
@@ -27,7 +27,7 @@ pub(crate) struct Opened<'m> {
 }
 
 /// The round of an event with a number, where it was opened.
-fn opened_round(meet: &Meet, event: Event, number: u8) -> Option<Opened<'_>>
+fn opened_round(meet: &Meet, event: Event, number: u8) -> Option<ExportedRound<'_>>
     ensures meet { IfSome result (λ round. round.meet.now ≡ meet.now) }
     ensures event { IfSome result (λ round. round.event ≡ event) }
     ensures number { IfSome result (λ round. round.number ≡ number) }
@@ -39,7 +39,7 @@ fn opened_round(meet: &Meet, event: Event, number: u8) -> Option<Opened<'_>>
     else {
         return None;
     };
-    Some(Opened {
+    Some(ExportedRound {
         meet,
         event,
         number,
@@ -60,7 +60,7 @@ fn unit_name(unit: Unit) -> &'static str
 }
 
 /// Writes the members of a round after its event and its number, and the end of its object.
-fn write_members(out: &mut Writer, round: Opened<'_>) -> Result<(), NoMemory>
+fn write_members(out: &mut Writer, round: ExportedRound<'_>) -> Result<(), NoMemory>
     requires { IsOpened round }
     ensures { OnOk result (Adds out.old out.new (members_tokens (later_members
         round.entry.meet.now.accepted (marks_of round.entry)
@@ -84,7 +84,7 @@ fn write_members(out: &mut Writer, round: Opened<'_>) -> Result<(), NoMemory>
 }
 
 /// Writes a round.
-fn write_round(out: &mut Writer, round: Opened<'_>) -> Result<(), NoMemory>
+fn write_round(out: &mut Writer, round: ExportedRound<'_>) -> Result<(), NoMemory>
     requires { IsOpened round }
     ensures { OnOk result (Adds out.old out.new (json_tokens (round_json
         round.entry.meet.now.accepted round.entry.event round.entry.number

@@ -5,7 +5,7 @@ use Rattle.wire.specs.declared.fault.WireFault.{WireFault}
 use Rattle.wire.specs.declared.fault.WireFault.TheVariants.{BadLength, BadVersion, BadKind, BadBody}
 use Rattle.wire.specs.declared.fault.WireFault.TheVariants.{NoMemory}
 use Rattle.wire.specs.declared.frame.Frame.{Frame}
-use Rattle.wire.specs.declared.frame.What.{What}
+use Rattle.wire.specs.declared.frame.FrameBody.{FrameBody}
 
 -- a field, seen by view; without a value it is a fault of the body
 abbrev pub Lacks : {A : Type 0} → WireFault → Option A → Type 0
@@ -20,14 +20,14 @@ GivesField view (Ok x) read = read ≡ Some (view x)
 GivesField view (Err e) read = Lacks e read
 
 -- the fields of a kind; memory is wanted only where they are good
-abbrev pub LacksBody : WireFault → Option What → Type 0
+abbrev pub LacksBody : WireFault → Option FrameBody → Type 0
 LacksBody BadLength read = ⊥
 LacksBody BadVersion read = ⊥
 LacksBody BadKind read = ⊥
 LacksBody BadBody read = read ≡ None
 LacksBody NoMemory read = IsSome read
 
-abbrev pub GivesBody : Result What WireFault → Option What → Type 0
+abbrev pub GivesBody : Result FrameBody WireFault → Option FrameBody → Type 0
 GivesBody (Ok what) read = read ≡ Some what
 GivesBody (Err e) read = LacksBody e read
 

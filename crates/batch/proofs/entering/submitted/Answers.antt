@@ -1,6 +1,6 @@
 use Rattle.std.proofs.Common.{◌∙◌, inr, ap, [], rules}
 use Rattle.acceptor.specs.declared.entry.Entry.{Entry}
-use Rattle.wire.specs.declared.frame.What.TheVariants as what
+use Rattle.wire.specs.declared.frame.FrameBody.TheVariants as what
 use Rattle.batch.specs.Dialing.{place_of}
 use Rattle.batch.specs.Asking.{request_to}
 use Rattle.batch.proofs.Going.{goes_none, grows_none}

@@ -12,29 +12,29 @@ use Rattle.batch.proofs.lines_entered.enter_line.Goals as goal
 
 pub returns-in_default-clause-err : goal.returns-in_default-clause-err
 returns-in_default-clause-err g c =
-    let id = c.args.batch.first_id + c.args.number in
+    let id = c.args.batch.first_id + c.args.n in
     let beyond : ¬ IsId id = search rules in
-    unprinted IsOfAsking fault.NoMoreIds c.args.batch id id c.args.command.now.text _ refl
+    unprinted IsOfAsking fault.NoMoreIds c.args.batch id id c.args.line.now.text _ refl
     (inr beyond)
 
 pub returns-in_default-clause-asked : goal.returns-in_default-clause-asked
 returns-in_default-clause-asked g c =
-    let id = c.args.batch.first_id + c.args.number in
+    let id = c.args.batch.first_id + c.args.n in
     let beyond : 2 ^ 64 ≤ id = search rules in
-    beyond_so (place_of c.args.contact) c.args.batch id c.args.command.now.text _ _ beyond
+    beyond_so (place_of c.args.contact) c.args.batch id c.args.line.now.text _ _ beyond
 
 pub returns-in_err-answer-clause-err : goal.returns-in_err-answer-clause-err
 returns-in_err-answer-clause-err g c =
-    let id : c.in-Some.id ≡ c.args.batch.first_id + c.args.number = search rules in
+    let id : c.in-Some.id ≡ c.args.batch.first_id + c.args.n = search rules in
     let f = c.in_err-answer.field-0.0 in
     fails_by _ c.from_residual.result f (search rules)
-    (unprinted IsOfAsking f c.args.batch c.in-Some.id _ c.args.command.now.text _ id
+    (unprinted IsOfAsking f c.args.batch c.in-Some.id _ c.args.line.now.text _ id
     (subst (λ t. IsOfAsking f ⊎ Hinders f c.args.batch.waits c.args.batch.receiver c.in-Some.id t)
     c.text.ensures c.in_err-answer.ensures.cause))
 
 pub returns-in_err-answer-clause-asked : goal.returns-in_err-answer-clause-asked
 returns-in_err-answer-clause-asked g c =
-    let id : c.in-Some.id ≡ c.args.batch.first_id + c.args.number = search rules in
+    let id : c.in-Some.id ≡ c.args.batch.first_id + c.args.n = search rules in
     let f = c.in_err-answer.field-0.0 in
     fails_by _ c.from_residual.result f (search rules)
     (stops_so c.args.batch c.in-Some.id _ _ _ _ _ _ _ _ f id c.text.ensures
@@ -42,11 +42,11 @@ returns-in_err-answer-clause-asked g c =
 
 pub returns-in_err-print_answer-clause-err : goal.returns-in_err-print_answer-clause-err
 returns-in_err-print_answer-clause-err g c =
-    let id : c.in-Some.id ≡ c.args.batch.first_id + c.args.number = search rules in
+    let id : c.in-Some.id ≡ c.args.batch.first_id + c.args.n = search rules in
     let f = c.in_err-print_answer.field-0.0 in
     let b = c.args.batch in
     fails_by _ c.from_residual-in_err-print_answer.result f (search rules)
-    (printed_part IsOfAsking f b c.in-Some.id _ c.args.command.now.text c.in_ok-answer.answer _ _ id
+    (printed_part IsOfAsking f b c.in-Some.id _ c.args.line.now.text c.in_ok-answer.answer _ _ id
     c.in_err-print_answer.ensures.fault
     (subst (λ t. IsEntered b.waits b.receiver c.in-Some.id t c.in_ok-answer.answer)
     c.text.ensures c.in_ok-answer.ensures.answer)
@@ -54,7 +54,7 @@ returns-in_err-print_answer-clause-err g c =
 
 pub returns-in_err-print_answer-clause-asked : goal.returns-in_err-print_answer-clause-asked
 returns-in_err-print_answer-clause-asked g c =
-    let id : c.in-Some.id ≡ c.args.batch.first_id + c.args.number = search rules in
+    let id : c.in-Some.id ≡ c.args.batch.first_id + c.args.n = search rules in
     let f = c.in_err-print_answer.field-0.0 in
     fails_by _ c.from_residual-in_err-print_answer.result f (search rules)
     (unprinted_so c.args.batch c.in-Some.id _ _ _ c.in_ok-answer.answer _ _ _ _ _ f id
@@ -62,19 +62,19 @@ returns-in_err-print_answer-clause-asked g c =
 
 pub returns-then-ends-clause-err : goal.returns-then-ends-clause-err
 returns-then-ends-clause-err g c =
-    let id : c.in-Some.id ≡ c.args.batch.first_id + c.args.number = search rules in
+    let id : c.in-Some.id ≡ c.args.batch.first_id + c.args.n = search rules in
     let b = c.args.batch in
     let ends : ends_run b c.in_ok-answer.answer ≡ true =
     ap (ends_after b) (sym c.told_answer-said.ensures) ∙ sym c.ends_after-ends.ensures
     ∙ c.if-ends.true in
-    refused IsOfAsking b c.in-Some.id _ c.args.command.now.text c.in_ok-answer.answer _ _ id
+    refused IsOfAsking b c.in-Some.id _ c.args.line.now.text c.in_ok-answer.answer _ _ id
     (subst (λ t. IsEntered b.waits b.receiver c.in-Some.id t c.in_ok-answer.answer)
     c.text.ensures c.in_ok-answer.ensures.answer)
     c.in_ok-print_answer.ensures.ok ends
 
 pub returns-then-ends-clause-asked : goal.returns-then-ends-clause-asked
 returns-then-ends-clause-asked g c =
-    let id : c.in-Some.id ≡ c.args.batch.first_id + c.args.number = search rules in
+    let id : c.in-Some.id ≡ c.args.batch.first_id + c.args.n = search rules in
     let b = c.args.batch in
     let ends : ends_run b c.in_ok-answer.answer ≡ true =
     ap (ends_after b) (sym c.told_answer-said.ensures) ∙ sym c.ends_after-ends.ensures
@@ -85,12 +85,12 @@ returns-then-ends-clause-asked g c =
 
 pub returns-clause-ok : goal.returns-clause-ok
 returns-clause-ok g c =
-    let id : c.in-Some.id ≡ c.args.batch.first_id + c.args.number = search rules in
+    let id : c.in-Some.id ≡ c.args.batch.first_id + c.args.n = search rules in
     let b = c.args.batch in
     let on : ends_run b c.in_ok-answer.answer ≡ false =
     ap (ends_after b) (sym c.told_answer-said.ensures) ∙ sym c.ends_after-ends.ensures
     ∙ c.if-ends.false in
-    enters_line b c.in-Some.id c.args.number _ c.args.command.now.text c.in_ok-answer.answer _ _ _
+    enters_line b c.in-Some.id c.args.n _ c.args.line.now.text c.in_ok-answer.answer _ _ _
     _ _ _ c.told_answer-said.result _ _ id c.text.ensures c.told_answer-said.ensures
     (subst (λ t. IsEntered b.waits b.receiver c.in-Some.id t c.in_ok-answer.answer)
     c.text.ensures c.in_ok-answer.ensures.answer)

@@ -4,7 +4,7 @@ use Rattle.scorecard.specs.Spelling.{trimmed}
 use Rattle.texts.specs.Table.{plain}
 use Rattle.card_forms.specs.declared.command_faults.Field.TheVariants as field
 use Rattle.card_forms.specs.declared.command_faults.FieldFault.TheVariants as at
-use Rattle.card_forms.specs.declared.command_faults.Wrong.TheVariants as wrong
+use Rattle.card_forms.specs.declared.command_faults.FieldError.TheVariants as wrong
 use Rattle.card_forms.proofs.Refused.{no_row, row_asks, row_blames, row_wrong}
 use Rattle.card_forms.proofs.asking.asked_by_fields.Goals as goal
 

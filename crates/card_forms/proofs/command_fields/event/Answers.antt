@@ -4,7 +4,7 @@ use Rattle.formats.specs.Events.{event_of_name}
 use Rattle.scorecard.specs.Spelling.{trimmed}
 use Rattle.card_forms.specs.declared.command_faults.Field.TheVariants as field
 use Rattle.card_forms.specs.declared.command_faults.FieldFault.TheVariants as at
-use Rattle.card_forms.specs.declared.command_faults.Wrong.TheVariants as wrong
+use Rattle.card_forms.specs.declared.command_faults.FieldError.TheVariants as wrong
 use Rattle.card_forms.specs.Asking.{field as value_in}
 use Rattle.card_forms.proofs.Lacking.{event_lacks, ok_or_lacks}
 use Rattle.card_forms.proofs.command_fields.event.Goals as goal

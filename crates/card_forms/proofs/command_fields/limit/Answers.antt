@@ -1,7 +1,7 @@
 use Rattle.std.proofs.Common.{◌∙◌, ap, refl, subst, sym}
 use Rattle.scorecard.specs.Spelling.{trimmed}
 use Rattle.card_forms.specs.declared.command_faults.Field.TheVariants as field
-use Rattle.card_forms.specs.declared.command_faults.Wrong.TheVariants as wrong
+use Rattle.card_forms.specs.declared.command_faults.FieldError.TheVariants as wrong
 use Rattle.card_forms.specs.Asking.{HasLimit}
 use Rattle.card_forms.specs.Faults.{LacksAs}
 use Rattle.card_forms.proofs.Lacking.{no_limit}

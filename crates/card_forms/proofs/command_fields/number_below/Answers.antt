@@ -1,7 +1,7 @@
 use Rattle.std.proofs.Common.{◌∙◌, ℕ, ap, refl, subst, sym}
 use Rattle.texts.specs.Fields.{number_between}
 use Rattle.card_forms.specs.declared.command_faults.Field.TheVariants as field
-use Rattle.card_forms.specs.declared.command_faults.Wrong.TheVariants as wrong
+use Rattle.card_forms.specs.declared.command_faults.FieldError.TheVariants as wrong
 use Rattle.card_forms.specs.Asking.{IsNumberBelow}
 use Rattle.card_forms.specs.Faults.{LacksAs}
 use Rattle.card_forms.proofs.Lacking.{no_number}

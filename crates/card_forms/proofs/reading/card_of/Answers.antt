@@ -1,7 +1,7 @@
 use Rattle.std.proofs.Common.{◌≡◌, List, [], ◌∷◌, Err, ap, subst, sym, refl, rules, ◌∙◌}
 use Rattle.attempts.specs.declared.Value.{Value}
 use Rattle.formats.specs.Events.{unit_of}
-use Rattle.card_forms.specs.declared.reading.Said.{Said}
+use Rattle.card_forms.specs.declared.reading.FieldContent.{FieldContent}
 use Rattle.card_forms.specs.Readings.{AllSay, IsUnfitAs, number_of, unfit}
 use Rattle.card_forms.proofs.FiveFields.{all_say, not_fit, said, say_same}
 use Rattle.card_forms.proofs.reading.card_of.Goals as goal
@@ -13,7 +13,7 @@ returns-in_err-now-clause-unread c =
     let given = c.as_slice-filled.result.now in
     let texts = c.as_slice-texts.result.now in
     let unit = unit_of form.round.event in
-    let says : List Said =
+    let says : List FieldContent =
     c.in-Ok-first.first ∷ c.in-Ok-second.second ∷ c.in-Ok-third.third
     ∷ c.in-Ok-fourth.fourth ∷ c.in-Ok-fifth.fifth ∷ [] in
     let all : AllSay unit form.was form.filled 0 form.attempts says =
@@ -48,7 +48,7 @@ returns-clause-read c =
     let given = c.as_slice-filled.result.now in
     let texts = c.as_slice-texts.result.now in
     let unit = unit_of form.round.event in
-    let says : List Said =
+    let says : List FieldContent =
     c.in-Ok-first.first ∷ c.in-Ok-second.second ∷ c.in-Ok-third.third
     ∷ c.in-Ok-fourth.fourth ∷ c.in-Ok-fifth.fifth ∷ [] in
     let all : AllSay unit form.was form.filled 0 form.attempts says =

@@ -10,8 +10,8 @@ use Rattle.cube.specs.declared.moves.Kind.TheVariants.{Face, Block, Turn}
 use Rattle.cube.specs.declared.moves.Quarter.{Quarter}
 use Rattle.cube.specs.declared.moves.Quarter.TheVariants.{Clockwise, Half, Anticlockwise}
 use Rattle.cube.specs.declared.moves.Move.{Move}
-use Rattle.cube.specs.declared.notation.reading.ReadFault.{ReadFault}
-use Rattle.cube.specs.declared.notation.reading.ReadFault.TheVariants.{BadToken, TooMany}
+use Rattle.cube.specs.declared.notation.reading.NotationFault.{NotationFault}
+use Rattle.cube.specs.declared.notation.reading.NotationFault.TheVariants.{BadToken, TooMany}
 
 -- the side that a letter names
 abbrev pub side_named : ℕ → Option Side
@@ -70,26 +70,26 @@ abbrev pub behind_spaces : List ℕ → List ℕ
 behind_spaces bytes = drop (space_len bytes) bytes
 
 -- a move in front of what is read
-abbrev pub with_move : Move → Result (List Move) ReadFault → Result (List Move) ReadFault
+abbrev pub with_move : Move → Result (List Move) NotationFault → Result (List Move) NotationFault
 with_move move (Ok moves) = Ok (move ∷ moves)
 with_move move (Err fault) = Err fault
 
 -- a word of the rest names a move or none, the word is at this offset, and this is behind it; what
 -- is read behind that
-abbrev pub scan_on : Option Move → ℕ → List ℕ → Result (List Move) ReadFault
-    → Result (List Move) ReadFault
+abbrev pub scan_on : Option Move → ℕ → List ℕ → Result (List Move) NotationFault
+    → Result (List Move) NotationFault
 scan_on None at more further = Err (BadToken at)
 scan_on (Some move) at [] further = Ok (move ∷ [])
 scan_on (Some move) at (c ∷ cs) further = with_move move further
 
 -- where no more moves may come: the end is where a token was expected, anything else is too much
-abbrev pub scan_end : ℕ → List ℕ → Result (List Move) ReadFault
+abbrev pub scan_end : ℕ → List ℕ → Result (List Move) NotationFault
 scan_end total [] = Err (BadToken total)
 scan_end total (c ∷ cs) = Err TooMany
 
 -- what is read from the rest of a text of this many bytes, where this many more moves may come and
 -- a token is expected
-unfoldable pub scan : ℕ → ℕ → List ℕ → Result (List Move) ReadFault
+unfoldable pub scan : ℕ → ℕ → List ℕ → Result (List Move) NotationFault
 scan total zero rest = scan_end total rest
 scan total (suc n) rest =
     scan_on (move_named (take (word_len rest) rest)) (total - length rest) (behind_word rest)

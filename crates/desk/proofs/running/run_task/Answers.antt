@@ -1,7 +1,7 @@
 use Rattle.std.proofs.Common.{inl, inr, refl, sym, subst, ap, ◌∙◌}
 use Rattle.std.proofs.KnownBytes.{Keeps-refl}
 use Rattle.desk.specs.Statuses.{Ends, calls}
-use Rattle.errands.specs.Statuses.{status_of}
+use Rattle.desk_requests.specs.Statuses.{status_of}
 use Rattle.lines.specs.Bytes.{sides}
 use Rattle.replay.specs.Apart.{told}
 use Rattle.desk.proofs.Endings.{import_not_zero, not_zero, prints_at_most}

@@ -3,7 +3,7 @@ use Rattle.std.proofs.Common.{true}
 use Rattle.arguments.specs.declared.task.HallService.{HallService}
 use Rattle.batch.specs.Dialing.{Dialed}
 use Rattle.hall_file.specs.declared.hall_file.HallFile.{HallFile}
-use Rattle.tasks.specs.Begun.{AsksFirst, HasAsked}
+use Rattle.subcommands.specs.Begun.{AsksFirst, HasAsked}
 use Rattle.desk.proofs.served.may_serve.Goals as goal
 
 asked_by : (may : Bool) (file : Bor (List ℕ)) (wanted : HallService) (hall : HallFile)

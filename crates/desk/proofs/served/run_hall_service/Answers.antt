@@ -1,12 +1,12 @@
 use Rattle.std.proofs.Common.{◌≡◌, ◌∙◌, Bor, List, ℕ, ap, false, inl, inr, map, option_map, refl}
 use Rattle.std.proofs.Common.{string_bytes, subst, true}
 use Rattle.std.proofs.KnownBytes.{Keeps-refl}
-use Rattle.addressing.specs.Keys.{key_file_of, naming}
-use Rattle.errands.specs.declared.fault.DeskFault.TheVariants as fault
+use Rattle.desk_choice.specs.Keys.{key_file_of, naming}
+use Rattle.desk_requests.specs.declared.fault.DeskFault.TheVariants as fault
 use Rattle.hall_file.specs.Halls.{texts_of}
 use Rattle.lines.specs.declared.fault.RunFault.TheVariants as run
-use Rattle.tasks.specs.Begun.{AsksFirst}
-use Rattle.tasks.specs.Services.{IsServiceOf}
+use Rattle.subcommands.specs.Begun.{AsksFirst}
+use Rattle.subcommands.specs.Services.{IsServiceOf}
 use Rattle.desk.proofs.served.run_hall_service.Goals as goal
 
 pub returns-in_default-clause-ends : goal.returns-in_default-clause-ends

@@ -9,9 +9,9 @@ returns-in-Ok-close_whole g c =
       c.in-Some.keeper,
       some_is _ c.in-Ok.made c.in-Some.keeper c.in-Some.is c.in-Ok.ensures.made,
       c.in-Ok-close_whole.files,
-      λ clean s log keeps. (
+      λ clean settled s log keeps. (
         conn.committed.trees,
         (c.in-Ok-close_whole.ensures.copied clean).seen,
-        held_before conn _ s log (c.into_connection.ensures.kept s log keeps),
+        held_before conn _ s log (c.into_connection.ensures.kept settled s log keeps),
       ),
     )

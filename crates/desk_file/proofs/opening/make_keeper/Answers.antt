@@ -9,7 +9,7 @@ returns-in-Ok-open g c =
           first_on _ _ c.args.home (file_state c.in-Ok.conn) c.in-Ok-open.keeper
           c.in-Ok.ensures.opened c.in-Ok.ensures.found
           (c.has_nothing.ensures.0 c.if-not-has_nothing.false) c.in-Ok-open.ensures.home
-          c.in-Ok-open.ensures.failures c.in-Ok-open.ensures.opened;
+          c.in-Ok-open.ensures.failures c.in-Ok-open.ensures.settled c.in-Ok-open.ensures.opened;
       there = tt;
     }
 

@@ -7,7 +7,7 @@ returns-clause-opened g c =
     there_on _ _ c.args.home (file_state c.in-Ok.conn) c.open.result c.in-Ok.ensures.opened
     c.in-Ok.ensures.found
     (is_there c.has_nothing.result _ c.has_nothing.ensures.1 c.if-has_nothing.false)
-    c.open.ensures.home c.open.ensures.failures c.open.ensures.opened
+    c.open.ensures.home c.open.ensures.failures c.open.ensures.settled c.open.ensures.opened
 
 pub returns-clause-wrong : goal.returns-clause-wrong
 returns-clause-wrong g c =

@@ -8,10 +8,10 @@ returns-in-Ok-end_use g c =
     let ended = c.in-Ok-end_use.ensures in (
       c.in-Ok.files,
       c.end_use.new.db,
-      λ clean s log keeps. (
+      λ clean settled s log keeps. (
         conn.committed.trees,
         (c.in-Ok.ensures.copied clean).seen,
-        held_before conn _ s log (c.into_connection.ensures.kept s log keeps),
+        held_before conn _ s log (c.into_connection.ensures.kept settled s log keeps),
       ),
       ended.free,
       ended.synced,

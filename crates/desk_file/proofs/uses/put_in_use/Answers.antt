@@ -7,10 +7,10 @@ returns-in-Ok-begin_next g c =
     let conn = file_state c.into_connection.result in (
       c.in-Ok-close_whole.files,
       c.begin_next.new.files,
-      λ clean s log keeps. (
+      λ clean settled s log keeps. (
         conn.committed.trees,
         (c.in-Ok-close_whole.ensures.copied clean).seen,
-        held_before conn _ s log (c.into_connection.ensures.kept s log keeps),
+        held_before conn _ s log (c.into_connection.ensures.kept settled s log keeps),
       ),
       c.in-Ok-begin_next.ensures.next,
     )

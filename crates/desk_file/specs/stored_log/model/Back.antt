@@ -1,4 +1,4 @@
--- A connection behind a transaction that was rolled back.
+-- A connection after a transaction that was rolled back.
 use Rattle.std.specs.Prelude.{◌≡◌, IsTrue}
 use Rattle.sqlite.specs.State.{State}
 

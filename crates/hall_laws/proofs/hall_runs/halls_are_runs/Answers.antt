@@ -2,7 +2,10 @@ use Rattle.hall_laws.proofs.HallExample.{small_run_is_a_run}
 use Rattle.hall_laws.proofs.HallRuns.{halls_are_runs as law, hall_logs_agree}
 use Rattle.hall_laws.proofs.HallRuns.{hall_entries_are_submitted, hall_messages_are_named}
 use Rattle.hall_laws.proofs.HallSheets.{hall_answers_wait, hall_sheets, hall_sheets_agree}
-use Rattle.hall_laws.proofs.HallTurns.{turns_are_events, own_ticks_are_events}
+use Rattle.hall_laws.proofs.HallTurns.{own_ticks_are_events, settlings_are_events}
+use Rattle.hall_laws.proofs.HallTurns.{turns_are_events}
+use Rattle.hall_laws.proofs.Losses.{losses_are_nothing}
+use Rattle.hall_laws.proofs.Lost.{lost_work}
 use Rattle.hall_laws.proofs.hall_runs.halls_are_runs.Goals as goal
 
 pub returns-clause-run : goal.returns-clause-run
@@ -36,6 +39,20 @@ returns-clause-turns g c = turns_are_events _
 
 pub returns-clause-ticks : goal.returns-clause-ticks
 returns-clause-ticks g c = own_ticks_are_events _
+
+pub returns-clause-settlings : goal.returns-clause-settlings
+returns-clause-settlings g c = settlings_are_events _
+
+pub returns-clause-lost : goal.returns-clause-lost
+returns-clause-lost g c =
+    lost_work _ c.calls_are_happenings.ensures
+    (λ x s log settled found. g.met.K.Keeper.rests x s log settled found)
+
+pub returns-clause-losses : goal.returns-clause-losses
+returns-clause-losses g c =
+    losses_are_nothing _
+    (lost_work _ c.calls_are_happenings.ensures
+    (λ x s log settled found. g.met.K.Keeper.rests x s log settled found))
 
 pub returns-clause-example : goal.returns-clause-example
 returns-clause-example g c = small_run_is_a_run _

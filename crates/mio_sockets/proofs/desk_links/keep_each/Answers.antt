@@ -12,7 +12,7 @@ loop-place-preserved g c =
           one_more _ _ c.loop-place-test.true low c.loop-place.invariant.keeps
           c.keep-due.ensures.keeps;
       looks =
-          one_look_more g.C.Wires.looked c.args.wires.now c.loop-place.wires
+          one_look_more g.C.PeerConnections.looked c.args.wires.now c.loop-place.wires
           c.keep-due.new.wires c.args.desks.now c.loop-place.desks c.loop-place.place _
           c.keep-due.new.self c.loop-place-test.true low c.loop-place.invariant.looks
           c.keep-due.ensures.looks;

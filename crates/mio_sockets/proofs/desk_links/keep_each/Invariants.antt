@@ -7,8 +7,8 @@ use Rattle.mio_sockets.proofs.desk_links.keep_each.Given as goal
 -- the links so far were driven, and nothing is left to be done of them now
 abbrev pub invariant-loop-place : goal.invariant-loop-place
 invariant-loop-place g l = record {
-  keeps : SoFar (g.C.Wires.wired l.initial.wires) (g.C.Wires.wired l.wires) l.initial.desks
+  keeps : SoFar (g.C.PeerConnections.wired l.initial.wires) (g.C.PeerConnections.wired l.wires) l.initial.desks
       l.desks l.place;
-  looks : LookedSoFar g.C.Wires.looked l.initial.wires l.wires l.initial.desks l.desks l.place;
+  looks : LookedSoFar g.C.PeerConnections.looked l.initial.wires l.wires l.initial.desks l.desks l.place;
   settled : AreSettled l.now (take l.place l.desks);
 }

@@ -1,6 +1,6 @@
 use Rattle.std.proofs.Common.{ap, sym, subst, ◌∙◌, ℕ, List, Option}
 use Rattle.guarded.specs.Permitting.{permission_of}
-use Rattle.sealed.specs.Calls.{caller_of}
+use Rattle.sealed.specs.ServerSeals.{caller_of}
 use Rattle.serving.specs.Differing.{differs_by, first_difference, known_after}
 use Rattle.wire.specs.Ranges.{IsDifference}
 use Rattle.multiplex.specs.Noting.{heard_by, listened_to}

@@ -1,5 +1,5 @@
 use Rattle.std.proofs.Common.{subst, sym, ap, ◌∙◌, eqb, None, Some, refl, inl, inr, arith}
-use Rattle.multiplex.specs.declared.ends.Over.TheVariants as over
+use Rattle.multiplex.specs.declared.ends.ServingEnd.TheVariants as over
 use Rattle.multiplex.specs.Musts.{Musts, stand}
 use Rattle.multiplex.specs.Requests.{Asks}
 use Rattle.multiplex.specs.Scenes.{scene}
@@ -66,7 +66,7 @@ loop-step-preserved g c =
       few = c.step.ensures.few;
       home = c.step.ensures.home ∙ at.invariant.home;
       asks =
-          steps_more g.C.Clients.requests g.L.Links.due g.L.Links.kept c.args.terms
+          steps_more g.C.Clients.requests g.L.PeerLinks.due g.L.PeerLinks.kept c.args.terms
           (d.home_of c.args.node.now) at._step
           (stand c.args.table.now c.args.links.now (d.seen c.args.node.now))
           (stand at.table at.links (d.seen at.node))
@@ -74,7 +74,7 @@ loop-step-preserved g c =
           at.clients c.step.new.clients at.invariant.asks
           (subst
           (λ h. Asks g.C.Clients.requests at.clients c.step.new.clients
-          (Musts g.L.Links.due g.L.Links.kept c.args.terms h (d.seen c.step.new.node) None at.table
+          (Musts g.L.PeerLinks.due g.L.PeerLinks.kept c.args.terms h (d.seen c.step.new.node) None at.table
           c.step.new.table at.links c.step.new.links)) at.invariant.home
           c.in_default.ensures.asks);
     }
@@ -98,7 +98,7 @@ returns-then-table-terms-clause-asks g c =
     let none =
     is_empty at.table.guests.items
     (c.if-is_empty.ensures ∙ ap (λ n. eqb n 0) at.table.guests.ok.0) in
-    until_here g.C.Clients.requests g.L.Links.due g.L.Links.kept c.args.terms
+    until_here g.C.Clients.requests g.L.PeerLinks.due g.L.PeerLinks.kept c.args.terms
     (d.home_of c.args.node.now) over.All at._step
     (stand c.args.table.now c.args.links.now (d.seen c.args.node.now))
     (stand at.table at.links (d.seen at.node)) c.args.clients.now at.clients at.invariant.asks
@@ -108,7 +108,7 @@ pub returns-in-Some-clause-asks : goal.returns-in-Some-clause-asks
 returns-in-Some-clause-asks g c =
     let d = g.D.Desk in
     let at = c.loop-step in
-    until_step g.C.Clients.requests g.L.Links.due g.L.Links.kept c.args.terms
+    until_step g.C.Clients.requests g.L.PeerLinks.due g.L.PeerLinks.kept c.args.terms
     (d.home_of c.args.node.now) c.in-Some.over at._step
     (stand c.args.table.now c.args.links.now (d.seen c.args.node.now))
     (stand at.table at.links (d.seen at.node))
@@ -116,7 +116,7 @@ returns-in-Some-clause-asks g c =
     at.clients c.step.new.clients at.invariant.asks
     (subst
     (λ h. Asks g.C.Clients.requests at.clients c.step.new.clients
-    (Musts g.L.Links.due g.L.Links.kept c.args.terms h (d.seen c.step.new.node)
+    (Musts g.L.PeerLinks.due g.L.PeerLinks.kept c.args.terms h (d.seen c.step.new.node)
     (Some c.in-Some.over) at.table c.step.new.table at.links c.step.new.links))
     at.invariant.home c.in-Some.ensures.asks)
 
@@ -124,7 +124,7 @@ pub returns-clause-asks : goal.returns-clause-asks
 returns-clause-asks g c =
     let d = g.D.Desk in
     let at = c.loop-step in
-    until_here g.C.Clients.requests g.L.Links.due g.L.Links.kept c.args.terms
+    until_here g.C.Clients.requests g.L.PeerLinks.due g.L.PeerLinks.kept c.args.terms
     (d.home_of c.args.node.now) over.Tired at._step
     (stand c.args.table.now c.args.links.now (d.seen c.args.node.now))
     (stand at.table at.links (d.seen at.node)) c.args.clients.now at.clients at.invariant.asks

@@ -17,7 +17,7 @@ invariant-loop-step g l =
       kept : AreKept (d.home_of l.node) l.terms.wire l.table;
       few : length l.table.guests.items ≤ 512;
       home : d.home_of l.node ≡ d.home_of l.initial.node;
-      asks : AsksSteps g.C.Clients.requests g.L.Links.due g.L.Links.kept l.terms
+      asks : AsksSteps g.C.Clients.requests g.L.PeerLinks.due g.L.PeerLinks.kept l.terms
           (d.home_of l.initial.node) l._step
           (stand l.initial.table l.initial.links (d.seen l.initial.node))
           (stand l.table l.links (d.seen l.node)) l.initial.clients l.clients;

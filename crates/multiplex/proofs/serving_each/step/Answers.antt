@@ -1,5 +1,5 @@
 use Rattle.polled.specs.declared.answers.Ready.TheVariants as ready_is
-use Rattle.multiplex.specs.declared.ends.Over.TheVariants as over
+use Rattle.multiplex.specs.declared.ends.ServingEnd.TheVariants as over
 use Rattle.multiplex.proofs.Asked.{musts_ask}
 use Rattle.multiplex.proofs.Shutting.{alters_both, alters_none}
 use Rattle.multiplex.proofs.Stepping.{does_answer, does_changes, does_stop}
@@ -41,7 +41,7 @@ returns-in-Failed-clause-does g c =
 
 pub returns-in-Waits-clause-asks : goal.returns-in-Waits-clause-asks
 returns-in-Waits-clause-asks g c =
-    musts_ask g.C.Clients.requests g.L.Links.due g.L.Links.kept c.args.terms
+    musts_ask g.C.Clients.requests g.L.PeerLinks.due g.L.PeerLinks.kept c.args.terms
     (g.D.Desk.home_of c.args.node.now) (g.D.Desk.seen c.args.node.now) c.admit.result
     c.args.table.now c.admit.new.table c.args.links.now c.args.links.now c.args.clients.now
     c.ready.new.self c.admit.new.clients c.wait_of.result ready_is.Waits
@@ -50,7 +50,7 @@ returns-in-Waits-clause-asks g c =
 
 pub returns-in-Peer-clause-asks : goal.returns-in-Peer-clause-asks
 returns-in-Peer-clause-asks g c =
-    musts_ask g.C.Clients.requests g.L.Links.due g.L.Links.kept c.args.terms
+    musts_ask g.C.Clients.requests g.L.PeerLinks.due g.L.PeerLinks.kept c.args.terms
     (g.D.Desk.home_of c.args.node.now) (g.D.Desk.seen c.visit.new.node) c.visit.result
     c.args.table.now c.visit.new.table c.args.links.now c.visit.new.peers c.args.clients.now
     c.ready.new.self c.visit.new.clients c.wait_of.result (ready_is.Peer c.in-Peer.number)
@@ -59,9 +59,12 @@ returns-in-Peer-clause-asks g c =
 
 pub returns-in-Round-clause-asks : goal.returns-in-Round-clause-asks
 returns-in-Round-clause-asks g c =
-    musts_ask g.C.Clients.requests g.L.Links.due g.L.Links.kept c.args.terms
+    musts_ask g.C.Clients.requests g.L.PeerLinks.due g.L.PeerLinks.kept c.args.terms
     (g.D.Desk.home_of c.args.node.now) (g.D.Desk.seen c.end_round.new.node) c.end_round.result
     c.args.table.now c.end_round.new.table c.args.links.now c.end_round.new.links
     c.args.clients.now c.ready.new.self c.end_round.new.clients c.wait_of.result
     (ready_is.Round c.in-Round.now) c.end_round.ensures.ends.0 c.wait_of.ensures
     c.in-Round.ensures.requests c.end_round.ensures.ends.1 c.end_round.ensures.ends.2
+
+pub returns-in-Round-clause-settled : goal.returns-in-Round-clause-settled
+returns-in-Round-clause-settled g c none so = c.end_round.ensures.settled none

@@ -1,7 +1,7 @@
 use Rattle.std.proofs.Common.{arith, length}
 use Rattle.multiplex.specs.Musts.{Accepts, Admits, MakesPlace}
-use Rattle.multiplex.specs.declared.clients.Accepted.TheVariants as accepted_is
-use Rattle.multiplex.specs.declared.ends.Why.TheVariants as why
+use Rattle.multiplex.specs.declared.clients.AcceptedClient.TheVariants as accepted_is
+use Rattle.multiplex.specs.declared.ends.EndReason.TheVariants as why
 use Rattle.multiplex.proofs.Asked.{admits_crowded, asks_both}
 use Rattle.multiplex.proofs.Shutting.{alters_both}
 use Rattle.multiplex.proofs.steps.admit.Goals as goal

@@ -1,8 +1,8 @@
 use Rattle.std.proofs.Common.{◌≡◌, refl, List, [], ◌∷◌, length}
-use Rattle.multiplex.specs.declared.ends.Why.TheVariants as why
+use Rattle.multiplex.specs.declared.ends.EndReason.TheVariants as why
 use Rattle.multiplex.specs.Musts.{Accepts, MakesPlace}
 use Rattle.multiplex.specs.Requests.{Accepting, Request}
-use Rattle.multiplex.specs.declared.clients.Accepted.TheVariants as accepted_is
+use Rattle.multiplex.specs.declared.clients.AcceptedClient.TheVariants as accepted_is
 use Rattle.multiplex.specs.model.Asking.{MayClose}
 use Rattle.multiplex.proofs.Asked.{accepts_came, accepts_full, asks_both}
 use Rattle.multiplex.proofs.Shutting.{enters, no_socket, welcome_keeps}

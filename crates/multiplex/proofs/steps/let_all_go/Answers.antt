@@ -1,5 +1,5 @@
 use Rattle.std.proofs.Common.{[], refl, arith}
-use Rattle.multiplex.specs.declared.table.Table.{Table}
+use Rattle.multiplex.specs.declared.table.ClientTable.{ClientTable}
 use Rattle.multiplex.proofs.Asked.{ends_all, ends_more, ends_none, none_left}
 use Rattle.multiplex.proofs.Shutting.{empties_more, empties_same}
 use Rattle.polled.proofs.Telling.{Tells-nil}
@@ -14,7 +14,7 @@ loop-guest-init g c = record {
 pub loop-guest-preserved : goal.loop-guest-preserved
 loop-guest-preserved g c =
     let table = c.loop-guest.table in
-    let left : Table =
+    let left : ClientTable =
     record {
       guests = c.pop.new.self;
       next = table.next;

@@ -1,6 +1,6 @@
 use Rattle.multiplex.specs.Requests.{Asks}
-use Rattle.multiplex.specs.declared.ends.Over.{Over}
-use Rattle.multiplex.specs.declared.table.Terms.{Terms}
+use Rattle.multiplex.specs.declared.ends.ServingEnd.{ServingEnd}
+use Rattle.multiplex.specs.declared.table.ServingOptions.{ServingOptions}
 use Rattle.multiplex.specs.model.Scenes.{Empties}
 use Rattle.store.specs.declared.home.Home.{Home}
 use Rattle.multiplex.proofs.Asked.{EndsSome}
@@ -9,7 +9,7 @@ use Rattle.multiplex.proofs.steps.let_all_go.Given as goal
 -- those so far were ended
 abbrev pub invariant-loop-guest : goal.invariant-loop-guest
 invariant-loop-guest g l = record {
-  told : (home : Home) (t : Terms) (over : Over)
+  told : (home : Home) (t : ServingOptions) (over : ServingEnd)
       → Empties g.C.Clients.happened home t over l.initial.table l.table l.initial.clients
       l.clients;
   asks : Asks g.C.Clients.requests l.initial.clients l.clients

@@ -1,7 +1,7 @@
 use Rattle.std.proofs.Common.{◌<◌, ◌-◌, refl, sym, subst, ◌∙◌, arith}
-use Rattle.guarded.specs.Guarding.{begun}
+use Rattle.guarded.specs.LockedConnections.{begun}
 use Rattle.multiplex.specs.Silence.{waited_for}
-use Rattle.multiplex.specs.declared.ends.Why.TheVariants as why
+use Rattle.multiplex.specs.declared.ends.EndReason.TheVariants as why
 use Rattle.multiplex.proofs.Asked.{asks_some, keeps_woken, none_silent}
 use Rattle.multiplex.proofs.Shutting.{alters_both, shut_fewer, shut_keeps, shuts}
 use Rattle.multiplex.proofs.Shutting.{silent_cause}

@@ -1,5 +1,5 @@
 use Rattle.std.proofs.Common.{◌≡◌, ◌≤◌, length, None}
-use Rattle.multiplex.specs.declared.table.Terms.{Terms}
+use Rattle.multiplex.specs.declared.table.ServingOptions.{ServingOptions}
 use Rattle.multiplex.specs.Requests.{Asks}
 use Rattle.multiplex.specs.model.Asking.{AsksSome, KeepsWoken}
 use Rattle.multiplex.specs.model.Scenes.{AltersSome}
@@ -10,7 +10,7 @@ use Rattle.multiplex.proofs.steps.let_go.Given as goal
 -- those that were let go so far leave serving as it was
 abbrev pub invariant-loop-place : goal.invariant-loop-place
 invariant-loop-place g l = record {
-  alters : (home : Home) (t : Terms) → t.patience ≡ l.patience
+  alters : (home : Home) (t : ServingOptions) → t.patience ≡ l.patience
       → AltersSome g.C.Clients.happened home t None l.initial.table l.table l.initial.clients
       l.clients;
   kept : KeepsAll l.initial.table l.table;

@@ -1,20 +1,28 @@
-use Rattle.std.proofs.Common.{refl, sym, ap, ◌∙◌, None, Some}
+use Rattle.std.proofs.Common.{◌≡◌, refl, sym, ap, ◌∙◌, None, Some, true, inr}
 use Rattle.multiplex.specs.Musts.{Attends}
+use Rattle.multiplex.specs.declared.ends.EndReason.TheVariants as why
 use Rattle.multiplex.specs.Passing.{Lobby}
 use Rattle.multiplex.specs.Scenes.{scene}
 use Rattle.multiplex.specs.model.Asking.{AsksHosted, ClosesAt}
 use Rattle.multiplex.proofs.Visits.{answers_leave, answers_nobody, answers_stay, leave_keeps}
-use Rattle.multiplex.proofs.Visits.{leaving, met, stay_keeps, visited}
+use Rattle.multiplex.proofs.Visits.{leaving, met, over_down, over_kept, over_on, stay_keeps}
+use Rattle.multiplex.proofs.Visits.{visited}
 use Rattle.multiplex.proofs.Asked.{asks_as, asks_both, asks_none, attends_leave}
 use Rattle.multiplex.proofs.Asked.{attends_nobody, attends_stay}
 use Rattle.multiplex.proofs.steps.visit.Goals as goal
 
 pub returns-in_default-clause-answers : goal.returns-in_default-clause-answers
-returns-in_default-clause-answers g c =
-    answers_nobody g.D.Desk g.P.Peers g.C.Clients.happened (g.D.Desk.home_of c.args.node.now)
-    c.args.terms c.args.number c.args.table.now
-    (scene c.args.node.now c.args.peers.now c.args.clients.now)
-    (sym c.place_of.ensures ∙ c.in_default.is)
+returns-in_default-clause-answers g c = (
+  c.args.node.now,
+  true,
+  None,
+  answers_nobody g.D.Desk g.P.Peers g.C.Clients.happened (g.D.Desk.home_of c.args.node.now)
+      c.args.terms c.args.number c.args.table.now
+      (scene c.args.node.now c.args.peers.now c.args.clients.now)
+      (sym c.place_of.ensures ∙ c.in_default.is),
+  refl,
+  inr (refl, refl),
+)
 
 pub returns-in-None-clause-answers : goal.returns-in-None-clause-answers
 returns-in-None-clause-answers g c =
@@ -26,11 +34,19 @@ returns-in-None-clause-answers g c =
     let at =
     met home c.args.terms.wire c.args.number table place old new
     (sym c.place_of.ensures ∙ c.in-Some.is) c.index_mut-guest.ensures.value c.requires.kept in
-    answers_stay g.D.Desk g.P.Peers g.C.Clients.happened home c.args.terms c.args.number place
-    table (visited table place new c.host.new.dear c.host.new.differs) old new at.before at.after
-    (scene c.args.node.now c.args.peers.now c.args.clients.now)
-    (scene c.host.new.node c.host.new.peers c.host.new.clients) at.split at.number at.same refl
-    refl refl refl c.in-None.ensures.hosts
+    let h = c.in-None.ensures.hosts in (
+      h.0,
+      h.1,
+      None,
+      answers_stay g.D.Desk g.P.Peers g.C.Clients.happened home c.args.terms c.args.number place
+          table (visited table place new c.host.new.dear c.host.new.differs) old new at.before
+          at.after
+          (scene c.args.node.now c.args.peers.now c.args.clients.now)
+          (scene h.0 c.host.new.peers c.host.new.clients) at.split at.number at.same refl
+          refl refl refl h.2,
+      over_on h.1 h.3,
+      h.4,
+    )
 
 pub returns-in-None-clause-kept : goal.returns-in-None-clause-kept
 returns-in-None-clause-kept g c =
@@ -42,14 +58,15 @@ returns-in-None-clause-kept g c =
     let at =
     met home c.args.terms.wire c.args.number table place old new
     (sym c.place_of.ensures ∙ c.in-Some.is) c.index_mut-guest.ensures.value c.requires.kept in
+    let h = c.in-None.ensures.hosts in
     stay_keeps g.D.Desk g.P.Peers g.C.Clients.happened home c.args.terms.wire place table
     (visited table place new c.host.new.dear c.host.new.differs) old new at.before at.after
     (scene c.args.node.now c.args.peers.now c.args.clients.now)
-    (scene c.host.new.node c.host.new.peers c.host.new.clients) at.split refl
-    c.in-None.ensures.hosts c.host.ensures.noted c.requires.kept
+    (scene h.0 c.host.new.peers c.host.new.clients) at.split refl
+    h.2 c.host.ensures.noted c.requires.kept
 
-pub returns-in-Some-host-clause-answers : goal.returns-in-Some-host-clause-answers
-returns-in-Some-host-clause-answers g c =
+pub returns-else-is_over-clause-answers : goal.returns-else-is_over-clause-answers
+returns-else-is_over-clause-answers g c =
     let home = g.D.Desk.home_of c.args.node.now in
     let table = c.args.table.now in
     let place = c.in-Some.place in
@@ -58,15 +75,23 @@ returns-in-Some-host-clause-answers g c =
     let at =
     met home c.args.terms.wire c.args.number table place old new
     (sym c.place_of.ensures ∙ c.in-Some.is) c.index_mut-guest.ensures.value c.requires.kept in
-    answers_leave g.D.Desk g.P.Peers g.C.Clients.happened home c.args.terms c.args.number
-    c.in-Some-host.field-0 place c.shut.result table
-    (visited table place new c.host.new.dear c.host.new.differs) c.shut.new.table old new at.before
-    at.after (scene c.args.node.now c.args.peers.now c.args.clients.now) c.host.new.node
-    c.host.new.peers c.host.new.clients c.shut.new.clients at.split at.number at.same refl refl refl
-    refl c.in-Some-host.ensures.hosts c.shut.ensures.shut
+    let h = c.in-Some-host.ensures.hosts in (
+      h.0,
+      h.1,
+      c.shut-over.result,
+      answers_leave g.D.Desk g.P.Peers g.C.Clients.happened home c.args.terms c.args.number
+          c.in-Some-host.why place c.shut-over.result table
+          (visited table place new c.host.new.dear c.host.new.differs) c.shut-over.new.table old new
+          at.before at.after (scene c.args.node.now c.args.peers.now c.args.clients.now) h.0
+          c.host.new.peers c.host.new.clients c.shut-over.new.clients at.split at.number at.same refl
+          refl refl refl h.2 c.shut-over.ensures.shut,
+      over_kept h.1 c.in-Some-host.why c.shut-over.result h.3
+          (λ e. absurd (let yes = c.is_over.ensures.1 e in let no = c.if-is_over.false in cc)),
+      h.4,
+    )
 
-pub returns-in-Some-host-clause-kept : goal.returns-in-Some-host-clause-kept
-returns-in-Some-host-clause-kept g c =
+pub returns-then-is_over-clause-answers : goal.returns-then-is_over-clause-answers
+returns-then-is_over-clause-answers g c =
     let home = g.D.Desk.home_of c.args.node.now in
     let table = c.args.table.now in
     let place = c.in-Some.place in
@@ -75,9 +100,49 @@ returns-in-Some-host-clause-kept g c =
     let at =
     met home c.args.terms.wire c.args.number table place old new
     (sym c.place_of.ensures ∙ c.in-Some.is) c.index_mut-guest.ensures.value c.requires.kept in
-    leave_keeps g.C.Clients.happened home c.args.terms.wire place c.shut.result table
-    (visited table place new c.host.new.dear c.host.new.differs) c.shut.new.table old new at.before
-    at.after c.host.new.clients c.shut.new.clients at.split refl refl refl refl c.shut.ensures.shut
+    let h = c.in-Some-host.ensures.hosts in (
+      h.0,
+      h.1,
+      c.shut-over.result,
+      answers_leave g.D.Desk g.P.Peers g.C.Clients.happened home c.args.terms c.args.number
+          c.in-Some-host.why place c.shut-over.result table
+          (visited table place new c.host.new.dear c.host.new.differs) c.shut-over.new.table old new
+          at.before at.after (scene c.args.node.now c.args.peers.now c.args.clients.now) h.0
+          c.host.new.peers c.host.new.clients c.shut-over.new.clients at.split at.number at.same refl
+          refl refl refl h.2 c.shut-over.ensures.shut,
+      over_down h.1 c.in-Some-host.why c.shut-over.result h.3
+          (c.is_over.ensures.0 c.if-is_over.true),
+      h.4,
+    )
+
+pub returns-else-is_over-clause-kept : goal.returns-else-is_over-clause-kept
+returns-else-is_over-clause-kept g c =
+    let home = g.D.Desk.home_of c.args.node.now in
+    let table = c.args.table.now in
+    let place = c.in-Some.place in
+    let old = c.index_mut-guest.result.now in
+    let new = c.host.new.guest in
+    let at =
+    met home c.args.terms.wire c.args.number table place old new
+    (sym c.place_of.ensures ∙ c.in-Some.is) c.index_mut-guest.ensures.value c.requires.kept in
+    leave_keeps g.C.Clients.happened home c.args.terms.wire place c.shut-over.result table
+    (visited table place new c.host.new.dear c.host.new.differs) c.shut-over.new.table old new at.before
+    at.after c.host.new.clients c.shut-over.new.clients at.split refl refl refl refl c.shut-over.ensures.shut
+    c.host.ensures.noted.1 c.requires.kept
+
+pub returns-then-is_over-clause-kept : goal.returns-then-is_over-clause-kept
+returns-then-is_over-clause-kept g c =
+    let home = g.D.Desk.home_of c.args.node.now in
+    let table = c.args.table.now in
+    let place = c.in-Some.place in
+    let old = c.index_mut-guest.result.now in
+    let new = c.host.new.guest in
+    let at =
+    met home c.args.terms.wire c.args.number table place old new
+    (sym c.place_of.ensures ∙ c.in-Some.is) c.index_mut-guest.ensures.value c.requires.kept in
+    leave_keeps g.C.Clients.happened home c.args.terms.wire place c.shut-over.result table
+    (visited table place new c.host.new.dear c.host.new.differs) c.shut-over.new.table old new at.before
+    at.after c.host.new.clients c.shut-over.new.clients at.split refl refl refl refl c.shut-over.ensures.shut
     c.host.ensures.noted.1 c.requires.kept
 
 pub returns-in_default-clause-asks : goal.returns-in_default-clause-asks
@@ -105,8 +170,8 @@ returns-in-None-clause-asks g c =
     refl h)
     c.in-None.ensures.asks
 
-pub returns-in-Some-host-clause-asks : goal.returns-in-Some-host-clause-asks
-returns-in-Some-host-clause-asks g c =
+pub returns-else-is_over-clause-asks : goal.returns-else-is_over-clause-asks
+returns-else-is_over-clause-asks g c =
     let home = g.D.Desk.home_of c.args.node.now in
     let table = c.args.table.now in
     let place = c.in-Some.place in
@@ -115,18 +180,54 @@ returns-in-Some-host-clause-asks g c =
     let at =
     met home c.args.terms.wire c.args.number table place old new
     (sym c.place_of.ensures ∙ c.in-Some.is) c.index_mut-guest.ensures.value c.requires.kept in
-    let w = c.in-Some-host.field-0 in
+    let w = c.in-Some-host.why in
     let mid = visited table place new c.host.new.dear c.host.new.differs in
     let left =
-    leaving g.C.Clients.happened place c.shut.result table mid c.shut.new.table old new at.before
-    at.after c.host.new.clients c.shut.new.clients at.split refl refl refl refl
-    c.shut.ensures.shut in
-    asks_both g.C.Clients.requests c.args.clients.now c.host.new.clients c.shut.new.clients
+    leaving g.C.Clients.happened place c.shut-over.result table mid c.shut-over.new.table old new at.before
+    at.after c.host.new.clients c.shut-over.new.clients at.split refl refl refl refl
+    c.shut-over.ensures.shut in
+    asks_both g.C.Clients.requests c.args.clients.now c.host.new.clients c.shut-over.new.clients
     (AsksHosted old.number old new (Some w))
     (ClosesAt place mid.guests.items)
-    (Attends c.args.number table.guests.items c.shut.new.table.guests.items)
+    (Attends c.args.number table.guests.items c.shut-over.new.table.guests.items)
     (λ xs ys h k.
-    attends_leave c.args.number place w table mid c.shut.new.table.guests.items old new at.before
-    at.after xs ys at.split at.number c.in-Some-host.ensures.hosts.0.number refl
+    attends_leave c.args.number place w table mid c.shut-over.new.table.guests.items old new at.before
+    at.after xs ys at.split at.number c.in-Some-host.ensures.hosts.2.0.number refl
     (ap (λ (l : Lobby). l.guests) left.left) h k)
-    c.in-Some-host.ensures.asks c.shut.ensures.asks
+    c.in-Some-host.ensures.asks c.shut-over.ensures.asks
+
+pub returns-then-is_over-clause-asks : goal.returns-then-is_over-clause-asks
+returns-then-is_over-clause-asks g c =
+    let home = g.D.Desk.home_of c.args.node.now in
+    let table = c.args.table.now in
+    let place = c.in-Some.place in
+    let old = c.index_mut-guest.result.now in
+    let new = c.host.new.guest in
+    let at =
+    met home c.args.terms.wire c.args.number table place old new
+    (sym c.place_of.ensures ∙ c.in-Some.is) c.index_mut-guest.ensures.value c.requires.kept in
+    let w = c.in-Some-host.why in
+    let mid = visited table place new c.host.new.dear c.host.new.differs in
+    let left =
+    leaving g.C.Clients.happened place c.shut-over.result table mid c.shut-over.new.table old new at.before
+    at.after c.host.new.clients c.shut-over.new.clients at.split refl refl refl refl
+    c.shut-over.ensures.shut in
+    asks_both g.C.Clients.requests c.args.clients.now c.host.new.clients c.shut-over.new.clients
+    (AsksHosted old.number old new (Some w))
+    (ClosesAt place mid.guests.items)
+    (Attends c.args.number table.guests.items c.shut-over.new.table.guests.items)
+    (λ xs ys h k.
+    attends_leave c.args.number place w table mid c.shut-over.new.table.guests.items old new at.before
+    at.after xs ys at.split at.number c.in-Some-host.ensures.hosts.2.0.number refl
+    (ap (λ (l : Lobby). l.guests) left.left) h k)
+    c.in-Some-host.ensures.asks c.shut-over.ensures.asks
+
+pub returns-in-None-clause-settled : goal.returns-in-None-clause-settled
+returns-in-None-clause-settled g c none so = c.in-None.ensures.settled (λ n. absurd cc) so
+
+pub returns-else-is_over-clause-settled : goal.returns-else-is_over-clause-settled
+returns-else-is_over-clause-settled g c none so =
+    c.in-Some-host.ensures.settled
+    (λ e. absurd
+    (let down : c.in-Some-host.why ≡ why.Over = cc in
+    let yes = c.is_over.ensures.1 down in let no = c.if-is_over.false in cc)) so

@@ -2,7 +2,7 @@ use Rattle.std.proofs.Common.{◌≡◌, ◌≢◌, ◌↔◌, ◌∙◌, refl, 
 use Rattle.std.proofs.Common.{true, false}
 use Rattle.std.specs.Prelude.{is_some, IsTrue}
 use Rattle.multiplex.specs.Musts.{WaitsToRead}
-use Rattle.guarded.specs.Guarding.{WantsRead}
+use Rattle.guarded.specs.LockedConnections.{WantsRead}
 use Rattle.multiplex.specs.declared.table.Guest.{Guest}
 use Rattle.multiplex.proofs.Looking.{some_of}
 use Rattle.multiplex.proofs.steps.waits_to_read.Goals as goal

@@ -1,4 +1,4 @@
-use Rattle.std.proofs.Common.{◌≡◌, length}
+use Rattle.std.proofs.Common.{◌≡◌, [], Some, length}
 use Rattle.multiplex.specs.Noting.{AreNoted, ears}
 use Rattle.multiplex.specs.model.Visiting.{HearsDesks, spot}
 use Rattle.multiplex.proofs.turns.serve_next.Given as goal
@@ -8,10 +8,10 @@ abbrev pub invariant-loop-talk : goal.invariant-loop-talk
 invariant-loop-talk g l =
     let d = g.D.Desk in
     record {
-      hears : HearsDesks d g.P.Peers g.C.Clients.happened l.number
+      hears : HearsDesks d g.P.Peers Some l.number
           (ears (d.seen l.initial.node) l.initial.notes.known l.initial.differs) l.notes.known
-          l.differs (spot l.initial.node l.initial.peers l.clients l.initial.talk)
-          (spot l.node l.peers l.clients l.talk);
+          l.differs (spot l.initial.node l.initial.peers [] l.initial.talk)
+          (spot l.node l.peers [] l.talk);
       home : d.home_of l.node ≡ d.home_of l.initial.node;
       same : l.talk.talk.home ≡ l.initial.talk.talk.home;
       until : l.notes.until ≡ l.initial.notes.until;

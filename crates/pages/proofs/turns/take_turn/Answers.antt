@@ -3,7 +3,7 @@ use Rattle.http_server.specs.Connection.{config_of, history}
 use Rattle.http_server.specs.History.{Rests}
 use Rattle.pages.specs.Asking.{AsksAnswer, AsksMove}
 use Rattle.pages.specs.Musts.{Turns}
-use Rattle.pages.specs.declared.waiting.Turned.TheVariants as turn
+use Rattle.pages.specs.declared.waiting.TurnOutcome.TheVariants as turn
 use Rattle.pages.proofs.Asked.{asks_both}
 use Rattle.pages.proofs.Moving.{Moved-goes, Moved-then}
 use Rattle.pages.proofs.Turning.{turn_answered, turn_over, turn_waits}

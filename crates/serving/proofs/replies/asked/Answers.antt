@@ -3,7 +3,7 @@ use Rattle.std.proofs.Common.{length, Option, None, Some, slice_get, arith}
 use Rattle.std.proofs.lemmas.Option.{slice_get_within}
 use Rattle.acceptor.specs.declared.entry.Entry.{Entry}
 use Rattle.answers.specs.Answers.{is_queued, told, told_at, told_by}
-use Rattle.answers.specs.declared.answers.Told.TheVariants.{Pending, Unknown}
+use Rattle.answers.specs.declared.answers.IdState.TheVariants.{Pending, Unknown}
 use Rattle.learner.specs.Logs.{position_of}
 use Rattle.wire.proofs.Told.{HasPlace, state_told}
 use Rattle.serving.specs.Answering.{state_of}

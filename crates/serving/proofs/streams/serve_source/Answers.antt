@@ -1,5 +1,5 @@
 use Rattle.std.proofs.Common.{refl, sym, ap, ◌∙◌, [], inl, arith}
-use Rattle.serving.specs.declared.ends.End.TheVariants as end
+use Rattle.serving.specs.declared.ends.ConnectionEnd.TheVariants as end
 use Rattle.serving.specs.Sessions.{line}
 use Rattle.serving.specs.Turns.{Talk}
 use Rattle.serving.proofs.Pieces.{nothing_yet, is_open, stops_so_far}

@@ -5,19 +5,20 @@ use Rattle.std.specs.declared.alloc.AllocError.{AllocError}
 use Rattle.acceptor.specs.declared.entry.Entry.{Entry}
 use Rattle.attempts.specs.declared.Value.{Value}
 use Rattle.outbox.specs.Items.{ItemsOf}
-use Rattle.table_views.specs.declared.around.Around.{Around}
+use Rattle.table_views.specs.declared.around.PageContext.{PageContext}
 use Rattle.texts.specs.declared.command.CardEntry.{CardEntry}
 use Rattle.texts.specs.Fields.{enters_later}
-use Rattle.table_service.specs.declared.plan.Plan.{Plan}
+use Rattle.table_service.specs.declared.plan.RequestPlan.{RequestPlan}
 use Rattle.table_service.specs.Answering.{PlansAgainCard, PlansAgainEntry, again_entry, less_words}
 use Rattle.table_service.specs.Plans.{RefusesWith, cards_place}
 use Rattle.table_service.specs.Taking.{has_room}
 use Rattle.table_service.proofs.answering.plan_again_card.Goals as goal
 
-module _ (around : Around) (q : ItemsOf) (of : ℕ) (card : CardEntry) (was : List Value) where
+module _ (around : PageContext) (q : ItemsOf) (of : ℕ) (card : CardEntry) (was : List Value) where
   none_again : (id : ℕ) → id ≡ get_or around.ids.now 0 0 → (entry : Option Entry)
       → entry ≡ again_entry (enters_later (length was) card.now) id card around.remark.now was
-      → entry ≡ None → (place : List ℕ) → place ≡ cards_place card.id → (r : Result Plan AllocError)
+      → entry ≡ None → (place : List ℕ) → place ≡ cards_place card.id
+      → (r : Result RequestPlan AllocError)
       → IfOk r (RefusesWith around place less_words)
       → IfOk r (PlansAgainCard around q of (Some was) (Some card))
   none_again id id_is entry is none place at (Ok plan) refuses =

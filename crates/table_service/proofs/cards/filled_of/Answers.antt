@@ -1,7 +1,7 @@
 use Rattle.std.proofs.Common.{◌∙◌, ℕ, List, ap, subst}
 use Rattle.std.proofs.lemmas.Result.{IfOk-weaker}
 use Rattle.acceptor.specs.declared.entry.Entry.{Entry}
-use Rattle.origins.specs.Entering.{AreLastEntering}
+use Rattle.last_change.specs.Entering.{AreLastEntering}
 use Rattle.table_service.specs.Pages.{AreFilled, all_typed_at, stands_of}
 use Rattle.table_service.proofs.cards.filled_of.Goals as goal
 

@@ -3,8 +3,8 @@ use Rattle.std.proofs.Common.{append-nil, cond, slice_get, sym, Result, Ok, Err}
 use Rattle.std.specs.Prelude.{OnOk}
 use Rattle.std.specs.declared.alloc.AllocError.{AllocError}
 use Rattle.attempts.specs.declared.Value.{Value}
-use Rattle.entry_views.specs.declared.notes.Note.{Note}
-use Rattle.entry_views.specs.declared.notes.Note.TheVariants as note
+use Rattle.table_entry_views.specs.declared.notes.CardNote.{CardNote}
+use Rattle.table_entry_views.specs.declared.notes.CardNote.TheVariants as note
 use Rattle.table_service.specs.Checks.{change_at, is_left}
 use Rattle.table_service.proofs.checks.note_change.Goals as goal
 
@@ -18,17 +18,17 @@ module _ (was left : List Value) (place : ℕ) (o p : Option Value) (b : Bool)
       (ap (λ (q : Option Value). is_left q (slice_get left place)) (sym was_is)
       ∙ ap (λ (q : Option Value). is_left o q) (sym left_is) ∙ sym is ∙ so)
 
-  put_for : (c : Bool) → b ≡ c → (old new : List Note) (r : Result (Unit {0}) AllocError)
+  put_for : (c : Bool) → b ≡ c → (old new : List CardNote) (r : Result (Unit {0}) AllocError)
       → OnOk r (new ≡ old ++ cond c [] (note.Changes (place + 1) ∷ []))
       → OnOk r (new ≡ old ++ change_at was left place)
   put_for c so old new (Ok done) puts =
-      puts ∙ ap (λ (ns : List Note). old ++ ns) (sym (changes c so))
+      puts ∙ ap (λ (ns : List CardNote). old ++ ns) (sym (changes c so))
   put_for c so old new (Err error) puts = tt
 
 pub returns-then-is_left : goal.returns-then-is_left
 returns-then-is_left c =
     sym (append-nil c.args.notes.now.items)
-    ∙ ap (λ (ns : List Note). c.args.notes.now.items ++ ns)
+    ∙ ap (λ (ns : List CardNote). c.args.notes.now.items ++ ns)
     (sym
     (changes c.args.was.now c.args.left.now c.args.place c.value_at.result c.value_at-2.result
     c.is_left.result c.value_at.ensures c.value_at-2.ensures c.is_left.ensures true

@@ -8,16 +8,16 @@ use Rattle.card_forms.specs.Entries.{entry_with}
 use Rattle.card_forms.specs.Pairs.{value_of}
 use Rattle.card_forms.specs.Remarks.{noted}
 use Rattle.outbox.specs.Items.{ItemsOf}
-use Rattle.table_views.specs.declared.around.Around.{Around}
-use Rattle.table_service.specs.declared.plan.Plan.{Plan}
+use Rattle.table_views.specs.declared.around.PageContext.{PageContext}
+use Rattle.table_service.specs.declared.plan.RequestPlan.{RequestPlan}
 use Rattle.table_service.specs.Plans.{PlansCommand, page_after, remark_in}
 use Rattle.table_service.specs.Taking.{PlansEntries}
 use Rattle.table_service.proofs.commanding.plan_command.Goals as goal
 
-module _ (around : Around) (q : ItemsOf) (pairs : List Pair) (id : ℕ) (text : List ℕ)
+module _ (around : PageContext) (q : ItemsOf) (pairs : List Pair) (id : ℕ) (text : List ℕ)
     (named : form_id_of (value_of (codes "id") pairs) ≡ Some id) (fit : IsCommandText text)
     (asks : Asks pairs text) (back : List ℕ) (is : back ≡ page_after pairs) where
-  asked : (r : Result Plan AllocError)
+  asked : (r : Result RequestPlan AllocError)
       → IfOk r (PlansEntries q around back (entry_with id (noted (remark_in around) text) ∷ []))
       → IfOk r (PlansCommand around q pairs)
   asked (Ok plan) plans = inr (inr record {

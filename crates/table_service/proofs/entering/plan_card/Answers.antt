@@ -4,17 +4,17 @@ use Rattle.std.specs.declared.alloc.AllocError.{AllocError}
 use Rattle.card_forms.specs.declared.pairs.Pair.{Pair}
 use Rattle.commands.specs.History.{History}
 use Rattle.outbox.specs.Items.{ItemsOf}
-use Rattle.table_views.specs.declared.around.Around.{Around}
+use Rattle.table_views.specs.declared.around.PageContext.{PageContext}
 use Rattle.table_views.specs.Editions.{is_latest}
 use Rattle.table_views.specs.Logs.{accepted_in}
 use Rattle.texts.specs.declared.command.Command.{Command}
-use Rattle.table_service.specs.declared.plan.Plan.{Plan}
+use Rattle.table_service.specs.declared.plan.RequestPlan.{RequestPlan}
 use Rattle.table_service.specs.Plans.{PlansCard, PlansCardIf, RefusesWith, earlier_words}
 use Rattle.table_service.proofs.entering.plan_card.Goals as goal
 
-module _ (around : Around) (q : ItemsOf) (pairs : List Pair) where
+module _ (around : PageContext) (q : ItemsOf) (pairs : List Pair) where
   earlier : (accepted : List Command) → accepted ≡ accepted_in around.mirror.now
-      → is_latest accepted ≡ false → (r : Result Plan AllocError)
+      → is_latest accepted ≡ false → (r : Result RequestPlan AllocError)
       → IfOk r (RefusesWith around (codes "/") earlier_words)
       → IfOk r (PlansCard around q pairs)
   earlier accepted same not-so (Ok plan) refuses =

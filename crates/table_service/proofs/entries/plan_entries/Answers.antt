@@ -2,19 +2,19 @@ use Rattle.std.proofs.Common.{◌≡◌, ◌∙◌, List, ℕ, Option, Some, Res
 use Rattle.std.specs.Prelude.{IfOk}
 use Rattle.std.specs.declared.alloc.AllocError.{AllocError}
 use Rattle.acceptor.specs.declared.entry.Entry.{Entry}
-use Rattle.hall_views.specs.Refused.{faults_page}
+use Rattle.table_hall_views.specs.Refused.{faults_page}
 use Rattle.outbox.specs.Items.{ItemsOf}
-use Rattle.table_views.specs.declared.around.Around.{Around}
-use Rattle.table_service.specs.declared.plan.Plan.{Plan}
-use Rattle.table_service.specs.declared.plan.Shown.TheVariants as shown
+use Rattle.table_views.specs.declared.around.PageContext.{PageContext}
+use Rattle.table_service.specs.declared.plan.RequestPlan.{RequestPlan}
+use Rattle.table_service.specs.declared.plan.PageStatus.TheVariants as shown
 use Rattle.table_service.specs.Replying.{ShowsPage}
 use Rattle.table_service.specs.Taking.{PlansEntries, PlansOther, both_words, other_in}
 use Rattle.table_service.proofs.entries.plan_entries.Goals as goal
 
-module _ (q : ItemsOf) (around : Around) (place : List ℕ) (entries : List Entry)
+module _ (q : ItemsOf) (around : PageContext) (place : List ℕ) (entries : List Entry)
     (known sent : List ℕ) (is : Some (known, sent) ≡ other_in q entries) where
   told : (back lines : List ℕ) → back ≡ place → lines ≡ both_words known sent
-      → (r : Result Plan AllocError)
+      → (r : Result RequestPlan AllocError)
       → IfOk r (ShowsPage shown.Wrong (faults_page around back lines))
       → IfOk r (PlansEntries q around place entries)
   told back lines at says (Ok plan) shows =

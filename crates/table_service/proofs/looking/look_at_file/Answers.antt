@@ -1,6 +1,6 @@
 use Rattle.std.proofs.Common.{codes}
-use Rattle.hall_views.specs.Refused.{faults_page}
-use Rattle.table_service.specs.declared.plan.Shown.TheVariants as shown
+use Rattle.table_hall_views.specs.Refused.{faults_page}
+use Rattle.table_service.specs.declared.plan.PageStatus.TheVariants as shown
 use Rattle.table_service.proofs.Looked.{file_looked, file_refused, page_shown}
 use Rattle.table_service.proofs.looking.look_at_file.Goals as goal
 

@@ -2,15 +2,15 @@ use Rattle.std.proofs.Common.{◌≡◌, ℕ, List, Result, Ok, Err, codes, subs
 use Rattle.std.specs.Prelude.{IfOk}
 use Rattle.std.specs.declared.alloc.AllocError.{AllocError}
 use Rattle.card_forms.specs.Pairs.{value_of}
-use Rattle.table_views.specs.declared.around.Around.{Around}
-use Rattle.table_service.specs.declared.plan.Plan.{Plan}
+use Rattle.table_views.specs.declared.around.PageContext.{PageContext}
+use Rattle.table_service.specs.declared.plan.RequestPlan.{RequestPlan}
 use Rattle.table_service.specs.Lists.{LooksAt}
 use Rattle.table_service.specs.Plans.{page_after}
 use Rattle.table_service.proofs.posting.look_back.Goals as goal
 
 -- the same lines, from the same page
-same_looked : (around : Around) (back place : List ℕ) → back ≡ place → (lines texts : List ℕ)
-    → lines ≡ texts → (r : Result Plan AllocError) → IfOk r (LooksAt around back lines)
+same_looked : (around : PageContext) (back place : List ℕ) → back ≡ place → (lines texts : List ℕ)
+    → lines ≡ texts → (r : Result RequestPlan AllocError) → IfOk r (LooksAt around back lines)
     → IfOk r (LooksAt around place texts)
 same_looked around back place there lines texts are (Ok plan) looks =
     subst (λ (at : List ℕ). LooksAt around at texts plan) there

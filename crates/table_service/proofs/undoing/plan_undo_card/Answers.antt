@@ -5,21 +5,21 @@ use Rattle.std.specs.declared.alloc.AllocError.{AllocError}
 use Rattle.acceptor.specs.declared.entry.Entry.{Entry}
 use Rattle.commands.specs.History.{History}
 use Rattle.outbox.specs.Items.{ItemsOf}
-use Rattle.table_views.specs.declared.around.Around.{Around}
+use Rattle.table_views.specs.declared.around.PageContext.{PageContext}
 use Rattle.table_views.specs.Logs.{accepted_in}
 use Rattle.texts.specs.declared.command.CardEntry.{CardEntry}
 use Rattle.texts.specs.declared.command.Command.{Command}
-use Rattle.table_service.specs.declared.plan.Plan.{Plan}
+use Rattle.table_service.specs.declared.plan.RequestPlan.{RequestPlan}
 use Rattle.table_service.specs.Plans.{RefusesWith, cards_place}
 use Rattle.table_service.specs.Taking.{has_room}
 use Rattle.table_service.specs.Undoing.{PlansUndoCard, PlansUndoEntry, undone_entry, untyped_words}
 use Rattle.table_service.proofs.undoing.plan_undo_card.Goals as goal
 
-module _ (around : Around) (q : ItemsOf) (of : ℕ) (card : CardEntry) where
+module _ (around : PageContext) (q : ItemsOf) (of : ℕ) (card : CardEntry) where
   untyped : (accepted : List Command) → accepted ≡ accepted_in around.mirror.now → (id : ℕ)
       → id ≡ get_or around.ids.now 0 0 → (entry : Option Entry)
       → entry ≡ undone_entry accepted id card around.remark.now → entry ≡ None
-      → (place : List ℕ) → place ≡ cards_place card.id → (r : Result Plan AllocError)
+      → (place : List ℕ) → place ≡ cards_place card.id → (r : Result RequestPlan AllocError)
       → IfOk r (RefusesWith around place untyped_words)
       → IfOk r (PlansUndoCard around q of (Some card))
   untyped accepted same id id_is entry is none place at (Ok plan) refuses =

@@ -9,7 +9,7 @@ use Rattle.table_views.proofs.recent.push_standing.Goals as goal
 
 -- where something is
 something_stands : (unit : Measure) (values : List Value) → nat_eq (length values) 0 ≡ false
-    → flat_map (value_words unit) values ++ codes "stands now" ≡ standing_words unit values
+    → flat_map (value_words unit) values ++ codes "on record now" ≡ standing_words unit values
 something_stands unit [] some = absurd (cc some)
 something_stands unit (value ∷ values) some = refl
 
@@ -19,7 +19,7 @@ returns c =
     let values = c.args.values.now in
     on_ok_weaker c.extend_from_slice-2.result
     (λ whole.
-    two_parts out (flat_map (value_words c.args.unit) values) (codes "stands now") _ _
+    two_parts out (flat_map (value_words c.args.unit) values) (codes "on record now") _ _
     c.in_ok-push_values.ensures whole
     ∙ ap (λ (words : List ℕ). out ++ words)
     (something_stands c.args.unit values (sym c.is_empty.ensures ∙ c.if-is_empty.false)))

@@ -3,7 +3,7 @@ use Rattle.std.specs.Option.{option_copied}
 use Rattle.std.proofs.lemmas.Result.{on_ok_weaker}
 use Rattle.commands.specs.History.{History}
 use Rattle.markup.proofs.board_page.Steps.{three_parts, two_parts, when_ok}
-use Rattle.outbox.specs.declared.state.State.{State}
+use Rattle.outbox.specs.declared.state.ItemState.{ItemState}
 use Rattle.texts.specs.meanings.Meanings.{meaning_of}
 use Rattle.table_views.specs.Logs.{accepted_in}
 use Rattle.table_views.specs.Recent.{by_words, stands_words, state_words}
@@ -23,7 +23,7 @@ returns-in_ok-push_stands-in-Changed c =
     ∙ ap (λ (h : History). c.extend_from_slice.new.self.items ++ stands_words h.accepted card)
     c.meet.ensures)
     whole
-    ∙ ap (λ (became : State). out ++ state_words around c.args.recent card became)
+    ∙ ap (λ (became : ItemState). out ++ state_words around c.args.recent card became)
     (sym c.in-Changed.is)) c.push_by.ensures
 
 pub returns-in_ok-extend_from_slice-in-Refused : goal.returns-in_ok-extend_from_slice-in-Refused
@@ -37,7 +37,7 @@ returns-in_ok-extend_from_slice-in-Refused c =
     c.in_ok-extend_from_slice-in-Refused.ensures.items
     (whole
     ∙ ap (λ (text : List ℕ). before ++ text) (c.as_bytes.ensures.value ∙ c.meaning_of.ensures))
-    ∙ ap (λ (became : State). out ++ state_words c.args.around.now c.args.recent card became)
+    ∙ ap (λ (became : ItemState). out ++ state_words c.args.around.now c.args.recent card became)
     (sym c.in-Refused.is))
     (when_ok c.extend_from_slice-in-Refused-2.result _ _ _
     c.extend_from_slice-in-Refused-2.ensures.items)
@@ -48,7 +48,7 @@ returns-in-OtherText c =
     let card = option_copied c.args.card in
     on_ok_weaker c.extend_from_slice-in-OtherText.result
     (λ whole. whole
-    ∙ ap (λ (became : State). out ++ state_words c.args.around.now c.args.recent card became)
+    ∙ ap (λ (became : ItemState). out ++ state_words c.args.around.now c.args.recent card became)
     (sym c.in-OtherText.is))
     (when_ok c.extend_from_slice-in-OtherText.result _ _ _
     c.extend_from_slice-in-OtherText.ensures.items)

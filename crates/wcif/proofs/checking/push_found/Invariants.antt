@@ -1,7 +1,7 @@
 use Rattle.std.proofs.Common.{◌≡◌, ◌++◌, map, take}
 use Rattle.serde_json.specs.View.{view}
 use Rattle.wcif.specs.Faults.{who}
-use Rattle.wcif.specs.declared.fault.Fault.TheVariants.{Person}
+use Rattle.wcif.specs.declared.fault.CompetitionFault.TheVariants.{Person}
 use Rattle.wcif.proofs.checking.push_found.Given as goal
 
 abbrev pub invariant-loop-fault : goal.invariant-loop-fault

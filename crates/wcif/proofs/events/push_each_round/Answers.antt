@@ -1,6 +1,6 @@
 use Rattle.std.proofs.Common.{ap, sym, ◌∙◌, ◌++◌, ◌+◌, ◌<◌, ℕ, arith, map, length}
 use Rattle.serde_json.specs.View.{view}
-use Rattle.wcif.specs.declared.fault.Fault.TheVariants.{Round}
+use Rattle.wcif.specs.declared.fault.CompetitionFault.TheVariants.{Round}
 use Rattle.wcif.specs.Events.{each_round}
 use Rattle.wcif.specs.Rounds.{round_faults}
 use Rattle.wcif.proofs.Tellings.{adds_next, adds_none, in_front}

@@ -1,5 +1,5 @@
 use Rattle.std.proofs.Common.{◌≡◌, ◌++◌, map, take}
-use Rattle.wcif.specs.declared.fault.Fault.TheVariants.{Round}
+use Rattle.wcif.specs.declared.fault.CompetitionFault.TheVariants.{Round}
 use Rattle.wcif.proofs.events.push_round.Given as goal
 
 abbrev pub invariant-loop-fault : goal.invariant-loop-fault

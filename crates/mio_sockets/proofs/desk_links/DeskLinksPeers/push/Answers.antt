@@ -1,4 +1,4 @@
-use Rattle.std.proofs.Common.{sym, ap, ◌∙◌, List}
+use Rattle.std.proofs.Common.{refl, sym, ap, ◌∙◌, List}
 use Rattle.std.specs.Prelude.{position}
 use Rattle.mio_sockets.specs.Wiring.{Line, has_number}
 use Rattle.mio_sockets.proofs.Pushing.{pushed_at, pushed_nowhere}
@@ -11,9 +11,9 @@ returns-in-Some g c =
     ∙ sym c.place_of.ensures ∙ c.in-Some.is in
     rw (← c.self.view_is)
     (record {
-      frame = pushed_at c.args.to c.args.frame.now _ _ c.self.inside.desks.items c.in-Some.place
-          c.index_mut-desk.result.now c.push.new.self c.write_now-due.new.self found
-          c.index_mut-desk.ensures.value c.push.ensures c.write_now-due.ensures.keeps;
+      frame = pushed_at c.args.to c.args.frame.now c.self.inside.desks.items c.in-Some.place
+          c.index_mut.result.now c.push.new.self found c.index_mut.ensures.value c.push.ensures;
+      wires = refl;
     })
 
 pub returns-in_default : goal.returns-in_default
@@ -23,5 +23,6 @@ returns-in_default g c =
     ∙ sym c.place_of.ensures ∙ c.in_default.is in
     rw (← c.self.view_is)
     (record {
-      frame = pushed_nowhere c.args.to c.args.frame.now _ c.self.inside.desks.items none;
+      frame = pushed_nowhere c.args.to c.args.frame.now c.self.inside.desks.items none;
+      wires = refl;
     })

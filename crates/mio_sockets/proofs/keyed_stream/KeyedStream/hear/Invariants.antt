@@ -1,5 +1,5 @@
 use Rattle.std.specs.Prelude.{◌≡◌}
-use Rattle.sealed.specs.ends.Calls.{own_key}
+use Rattle.sealed.specs.ends.ClientStreams.{own_key}
 use Rattle.mio_sockets.proofs.keyed_stream.KeyedStream.hear.Given as goal
 
 abbrev pub invariant-loop-read : goal.invariant-loop-read

@@ -7,9 +7,9 @@ use Rattle.mio_sockets.proofs.neighbour.Neighbour.fulfil_all.Given as goal
 -- the link was driven so far
 abbrev pub invariant-loop-line : goal.invariant-loop-line
 invariant-loop-line g l = record {
-  keeps : KeepsLine (g.C.Wires.wired l.initial.wires) (g.C.Wires.wired l.wires) l.initial.self
+  keeps : KeepsLine (g.C.PeerConnections.wired l.initial.wires) (g.C.PeerConnections.wired l.wires) l.initial.self
       l.self;
-  looks : Tells (g.C.Wires.looked l.initial.wires) (g.C.Wires.looked l.wires) [];
+  looks : Tells (g.C.PeerConnections.looked l.initial.wires) (g.C.PeerConnections.looked l.wires) [];
 }
 
 -- each wish that is fulfilled leaves less to be done

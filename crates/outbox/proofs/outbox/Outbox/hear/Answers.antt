@@ -1,5 +1,5 @@
 use Rattle.std.proofs.Common.{subst}
-use Rattle.desk_talks.specs.Lines.{HearsOver}
+use Rattle.desk_talks.specs.KeptConnections.{HearsOver}
 use Rattle.outbox.specs.Outboxes.{Follows, OutboxOf, with_line}
 use Rattle.outbox.proofs.outbox.Outbox.hear.Goals as goal
 

@@ -1,5 +1,5 @@
 use Rattle.std.proofs.Common.{ap, subst}
-use Rattle.desk_talks.specs.Lines.{Opens}
+use Rattle.desk_talks.specs.KeptConnections.{Opens}
 use Rattle.outbox.specs.Outboxes.{OutboxOf, with_line}
 use Rattle.outbox.proofs.outbox.Outbox.opened.Goals as goal
 

@@ -3,7 +3,7 @@ use Rattle.std.specs.List.{list_any}
 use Rattle.indexmap.specs.IndexMap.{set_value_at}
 use Rattle.attempts.specs.Attempts.{IsInRangeOf}
 use Rattle.formats.specs.Results.{is_better}
-use Rattle.rounds.specs.declared.kept.Kept.{Kept}
+use Rattle.rounds.specs.declared.kept.EntrantResult.{EntrantResult}
 use Rattle.rounds.specs.declared.kept_entrant.KeptEntrant.{KeptEntrant}
 use Rattle.rounds.specs.Tables.{Entrant, is_started_attempt}
 use Rattle.rounds.specs.model.Field.{Field}
@@ -55,7 +55,7 @@ of-kept-requires-clause-in_range c =
 
 pub packed_key_of-packed_key-requires : goal.packed_key_of-packed_key-requires
 packed_key_of-packed_key-requires c =
-    subst (λ (k : Kept). IsBelow 2147483647 k.key.tie) (sym c.of-kept.ensures)
+    subst (λ (k : EntrantResult). IsBelow 2147483647 k.key.tie) (sym c.of-kept.ensures)
     (small_tie c.self.inside.rules.format c.self.inside.rules.unit c.values.result.now
     (subst (λ vs. All (IsInRangeOf c.self.inside.rules.unit) vs) (sym c.values.ensures.values)
     (rw (← c.self.view_is) at c.requires.in_range)))
@@ -109,7 +109,7 @@ invariant_of-self c =
     (up_to_date_after rules es i (line.0, before) line.1 after c.self.inside.started
     c.self.inside.unfinished c.self.inside.with_result c.move_places-ahead.result c.self.invariant
     (rw (← c.self.view_is) at c.requires.few) (rw (← c.self.view_is) at c.requires.in_range)
-    (ap (λ (k : Kept). record k { place = 1 + c.recounted.result })
+    (ap (λ (k : EntrantResult). record k { place = 1 + c.recounted.result })
     (c.of-kept.ensures ∙ ap (λ vs. kept_of rules vs 0) c.values.ensures.values))
     c.move_places-ahead.ensures.ahead
     (ap (λ m. 1 + m)

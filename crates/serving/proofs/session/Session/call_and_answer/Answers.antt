@@ -10,7 +10,7 @@ use Rattle.serving.proofs.session.Session.call_and_answer.Goals as goal
 pub returns-in_err-call-clause-err : goal.returns-in_err-call-clause-err
 returns-in_err-call-clause-err g c =
     given_err c.from_residual.result
-    (tells_lost (speaking g.D.Desk.handles c.args.self.wire) c.args.self.home
+    (tells_lost (speaking g.D.Desk.handles g.D.Desk.settles c.args.self.wire) c.args.self.home
     (g.D.Desk.home_of c.args.node.now)
     c.args.message (g.D.Desk.seen c.args.node.now) (g.D.Desk.seen c.call.new.node)
     c.args.node.now c.call.new.node (g.P.Peers.handed c.args.peers.now) c.requires.home
@@ -20,7 +20,7 @@ pub returns-in_err-run-clause-err : goal.returns-in_err-run-clause-err
 returns-in_err-run-clause-err g c =
     let called = c.in_ok-call.ensures.ok in
     given_err c.from_residual-in_err-run.result
-    (tells_no_run (speaking g.D.Desk.handles c.args.self.wire) c.args.self.home
+    (tells_no_run (speaking g.D.Desk.handles g.D.Desk.settles c.args.self.wire) c.args.self.home
     (g.D.Desk.home_of c.args.node.now)
     c.args.message (g.D.Desk.seen c.args.node.now) (g.D.Desk.seen c.call.new.node)
     c.new-waiting.result.items c.call.new.waiting.items c.in_ok-call.field-0 c.args.node.now
@@ -38,12 +38,12 @@ returns-in-Some-clause-ok g c =
     subst
     (λ k. Does c.args.self.home (told_first c.args.self.home c.args.message) (at x [] 16)
     (at y [] k)
-    (outside_of (speaking g.D.Desk.handles c.args.self.wire) c.args.node.now
+    (outside_of (speaking g.D.Desk.handles g.D.Desk.settles c.args.self.wire) c.args.node.now
     (g.P.Peers.handed c.args.peers.now))
-    (outside_of (speaking g.D.Desk.handles c.args.self.wire) c.call.new.node
+    (outside_of (speaking g.D.Desk.handles g.D.Desk.settles c.args.self.wire) c.call.new.node
     (g.P.Peers.handed c.push_run.new.peers)))
     (sym c.requires.left)
-    (tells_run (speaking g.D.Desk.handles c.args.self.wire) c.args.self.home
+    (tells_run (speaking g.D.Desk.handles g.D.Desk.settles c.args.self.wire) c.args.self.home
     (g.D.Desk.home_of c.args.node.now)
     c.args.message x y c.new-waiting.result.items c.call.new.waiting.items c.deref.result.now
     c.in_ok-call.field-0 c.in-Some.run' c.args.node.now c.call.new.node
@@ -61,11 +61,12 @@ returns-in-Some-clause-err g c =
     (λ same.
     subst
     (λ q. DoesPart c.args.self.home (told_first c.args.self.home c.args.message) (at x [] 16) y
-    (outside_of (speaking g.D.Desk.handles c.args.self.wire) c.args.node.now
+    (outside_of (speaking g.D.Desk.handles g.D.Desk.settles c.args.self.wire) c.args.node.now
     (g.P.Peers.handed c.args.peers.now))
-    (outside_of (speaking g.D.Desk.handles c.args.self.wire) c.call.new.node (g.P.Peers.handed q)))
+    (outside_of (speaking g.D.Desk.handles g.D.Desk.settles c.args.self.wire) c.call.new.node
+    (g.P.Peers.handed q)))
     (sym same)
-    (tells_no_run (speaking g.D.Desk.handles c.args.self.wire) c.args.self.home
+    (tells_no_run (speaking g.D.Desk.handles g.D.Desk.settles c.args.self.wire) c.args.self.home
     (g.D.Desk.home_of c.args.node.now)
     c.args.message x y c.new-waiting.result.items c.call.new.waiting.items c.in_ok-call.field-0
     c.args.node.now c.call.new.node (g.P.Peers.handed c.args.peers.now) c.requires.home
@@ -79,7 +80,7 @@ returns-clause-ok g c =
     let lined : c.from-waiting.result.items ≡ c.deref.result.now = search rules in
     on_ok c.settle.result
     (λ d empty.
-    tells_others (speaking g.D.Desk.handles c.args.self.wire) c.args.self.home
+    tells_others (speaking g.D.Desk.handles g.D.Desk.settles c.args.self.wire) c.args.self.home
     (g.D.Desk.home_of c.args.node.now)
     c.args.message (g.D.Desk.seen c.args.node.now) (g.D.Desk.seen c.call.new.node)
     (g.D.Desk.seen c.settle.new.node) c.new-waiting.result.items c.call.new.waiting.items
@@ -97,7 +98,7 @@ returns-clause-err g c =
     let lined : c.from-waiting.result.items ≡ c.deref.result.now = search rules in
     on_err c.settle.result
     (λ d.
-    tells_part (speaking g.D.Desk.handles c.args.self.wire) c.args.self.home
+    tells_part (speaking g.D.Desk.handles g.D.Desk.settles c.args.self.wire) c.args.self.home
     (g.D.Desk.home_of c.args.node.now)
     c.args.message (g.D.Desk.seen c.args.node.now) (g.D.Desk.seen c.call.new.node)
     (g.D.Desk.seen c.settle.new.node) c.new-waiting.result.items c.call.new.waiting.items

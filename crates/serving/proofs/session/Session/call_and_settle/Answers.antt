@@ -6,7 +6,7 @@ use Rattle.serving.proofs.session.Session.call_and_settle.Goals as goal
 pub returns-clause-ok : goal.returns-clause-ok
 returns-clause-ok g c =
     let called = c.in_ok-answer.ensures.ok in
-    does_call (speaking g.D.Desk.handles c.args.self.wire) c.args.self.home
+    does_call (speaking g.D.Desk.handles g.D.Desk.settles c.args.self.wire) c.args.self.home
     (g.D.Desk.home_of c.args.node.now)
     (g.D.Desk.seen c.args.node.now)
     (g.D.Desk.seen c.call.new.node) (g.D.Desk.seen c.settle.new.node)
@@ -19,7 +19,7 @@ returns-clause-ok g c =
 pub returns-in_err-answer-clause-err : goal.returns-in_err-answer-clause-err
 returns-in_err-answer-clause-err g c =
     given_err c.from_residual.result
-    (part_at_call (speaking g.D.Desk.handles c.args.self.wire) c.args.self.home
+    (part_at_call (speaking g.D.Desk.handles g.D.Desk.settles c.args.self.wire) c.args.self.home
     (g.D.Desk.home_of c.args.node.now)
     (g.D.Desk.seen c.args.node.now) (g.D.Desk.seen c.call.new.node) c.args.event
     c.new-waiting.result.items c.args.left.now c.args.node.now c.call.new.node
@@ -30,7 +30,7 @@ pub returns-in_err-settle-clause-err : goal.returns-in_err-settle-clause-err
 returns-in_err-settle-clause-err g c =
     let called = c.in_ok-answer.ensures.ok in
     given_err c.from_residual-in_err-settle.result
-    (part_after_call (speaking g.D.Desk.handles c.args.self.wire) c.args.self.home
+    (part_after_call (speaking g.D.Desk.handles g.D.Desk.settles c.args.self.wire) c.args.self.home
     (g.D.Desk.home_of c.args.node.now)
     (g.D.Desk.seen c.args.node.now)
     (g.D.Desk.seen c.call.new.node) (g.D.Desk.seen c.settle.new.node)

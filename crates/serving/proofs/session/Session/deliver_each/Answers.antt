@@ -30,7 +30,8 @@ loop-entry-preserved g c =
       so_far = λ v p. next_entry home _ _ c.args.run.from c.args.run.to c.loop-entry.pos
           c.pop_front.new.self.items (g.D.Desk.seen c.call.new.node) c.call.new.waiting.items _ _
           (sym c.is_down.ensures ∙ c.if-is_down.false)
-          (delivered (speaking g.D.Desk.handles v) home (g.D.Desk.home_of c.loop-entry.node) _ _
+          (delivered (speaking g.D.Desk.handles g.D.Desk.settles v) home
+          (g.D.Desk.home_of c.loop-entry.node) _ _
           c.args.run.from c.args.run.to c.loop-entry.pos c.in-Some.entry c.loop-entry.entries.items
           c.pop_front.new.self.items (g.D.Desk.seen c.loop-entry.node)
           (g.D.Desk.seen c.call.new.node)
@@ -48,7 +49,8 @@ returns-then-is_down-clause-ok g c =
     λ v p. ends_down home _ _ c.args.run.from c.args.run.to c.loop-entry.pos
     c.pop_front.new.self.items (g.D.Desk.seen c.call.new.node) c.call.new.waiting.items _ _
     (sym c.is_down.ensures ∙ c.if-is_down.true)
-    (delivered (speaking g.D.Desk.handles v) home (g.D.Desk.home_of c.loop-entry.node) _ _
+    (delivered (speaking g.D.Desk.handles g.D.Desk.settles v) home
+    (g.D.Desk.home_of c.loop-entry.node) _ _
     c.args.run.from c.args.run.to c.loop-entry.pos c.in-Some.entry c.loop-entry.entries.items
     c.pop_front.new.self.items (g.D.Desk.seen c.loop-entry.node) (g.D.Desk.seen c.call.new.node)
     c.loop-entry.waiting.items c.clear.new.self.items c.call.new.waiting.items
@@ -68,7 +70,8 @@ returns-in_err-call-clause-err g c =
     let home = c.args.self.home in
     let kept = c.loop-entry.invariant in
     given_err c.from_residual.result
-    (λ v p. loses_entry (speaking g.D.Desk.handles v) home (g.D.Desk.home_of c.loop-entry.node) _ _
+    (λ v p. loses_entry (speaking g.D.Desk.handles g.D.Desk.settles v) home
+    (g.D.Desk.home_of c.loop-entry.node) _ _
     c.args.run.from c.args.run.to c.loop-entry.pos c.in-Some.entry c.loop-entry.entries.items
     c.pop_front.new.self.items (g.D.Desk.seen c.loop-entry.node) (g.D.Desk.seen c.call.new.node)
     c.loop-entry.waiting.items _ c.loop-entry.node c.call.new.node p kept.home

@@ -19,8 +19,8 @@ invariant-loop-entry g l = record {
       (at (g.D.Desk.seen l.initial.node) l.initial.waiting.items 16)
       (learn l.fn.self.home l.from l.to l.pos l.entries.items)
       (at (g.D.Desk.seen l.node) l.waiting.items 16)
-      (outside_of (speaking g.D.Desk.handles wire) l.initial.node handed)
-      (outside_of (speaking g.D.Desk.handles wire) l.node handed);
+      (outside_of (speaking g.D.Desk.handles g.D.Desk.settles wire) l.initial.node handed)
+      (outside_of (speaking g.D.Desk.handles g.D.Desk.settles wire) l.node handed);
 }
 
 abbrev pub decreases-loop-entry : goal.decreases-loop-entry

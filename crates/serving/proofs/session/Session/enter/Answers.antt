@@ -1,7 +1,7 @@
 use Rattle.std.proofs.Common.{rules, ◌≡◌, refl, ap, ◌∙◌}
-use Rattle.wire.specs.declared.frame.What.TheVariants as what
+use Rattle.wire.specs.declared.frame.FrameBody.TheVariants as what
 use Rattle.serving.specs.Answering.{answer_first}
-use Rattle.serving.specs.declared.calls.Answer.TheVariants.{Taken}
+use Rattle.serving.specs.declared.calls.NodeAnswer.TheVariants.{Taken}
 use Rattle.serving.specs.Serving.{enter}
 use Rattle.serving.specs.declared.request.Request.TheVariants.{Entered}
 use Rattle.serving.proofs.Answered.{fails}
@@ -15,7 +15,7 @@ returns-in_err-answer-clause-err g c =
     given_err c.from_residual.result
     (fails c.args.self.home (enter c.args.self.home c.args.entry) (Entered c.args.entry) _ _ _ _
     (λ fates. refl)
-    (entered_lost (speaking g.D.Desk.handles c.args.self.wire) c.args.self.home
+    (entered_lost (speaking g.D.Desk.handles g.D.Desk.settles c.args.self.wire) c.args.self.home
     (g.D.Desk.home_of c.args.node.now) c.args.entry _ _
     c.args.node.now c.call.new.node (g.P.Peers.handed c.args.peers.now) c.requires.home
     c.in_err-answer.ensures.err))
@@ -23,7 +23,7 @@ returns-in_err-answer-clause-err g c =
 pub returns-then-ne-clause-ok : goal.returns-then-ne-clause-ok
 returns-then-ne-clause-ok g c =
     let other : (c.in_ok-answer.answer ≡ Taken) → ⊥ = search rules in
-    entered_not (speaking g.D.Desk.handles c.args.self.wire) c.args.self.home
+    entered_not (speaking g.D.Desk.handles g.D.Desk.settles c.args.self.wire) c.args.self.home
     (g.D.Desk.home_of c.args.node.now) c.args.entry
     (g.D.Desk.seen c.args.node.now) (g.D.Desk.seen c.call.new.node)
     c.new-waiting.result.items c.call.new.waiting.items c.in_ok-answer.answer c.answer_first.result
@@ -39,7 +39,7 @@ returns-in_err-start-clause-err g c =
     given_err c.from_residual-in_err-start.result
     (fails c.args.self.home (enter c.args.self.home c.args.entry) (Entered c.args.entry) _ _ _ _
     (λ fates. refl)
-    (entered_part (speaking g.D.Desk.handles c.args.self.wire) c.args.self.home
+    (entered_part (speaking g.D.Desk.handles g.D.Desk.settles c.args.self.wire) c.args.self.home
     (g.D.Desk.home_of c.args.node.now) c.args.entry
     (g.D.Desk.seen c.args.node.now) (g.D.Desk.seen c.call.new.node) (g.D.Desk.seen c.start.new.node)
     c.new-waiting.result.items c.call.new.waiting.items c.in_ok-answer.answer
@@ -50,7 +50,7 @@ returns-in_err-start-clause-err g c =
 pub returns-clause-ok : goal.returns-clause-ok
 returns-clause-ok g c =
     let taken : c.in_ok-answer.answer ≡ Taken = search rules in
-    entered_all (speaking g.D.Desk.handles c.args.self.wire) c.args.self.home
+    entered_all (speaking g.D.Desk.handles g.D.Desk.settles c.args.self.wire) c.args.self.home
     (g.D.Desk.home_of c.args.node.now) c.args.entry
     (g.D.Desk.seen c.args.node.now) (g.D.Desk.seen c.call.new.node) (g.D.Desk.seen c.start.new.node)
     c.new-waiting.result.items c.call.new.waiting.items c.start.new.waiting.items

@@ -1,5 +1,5 @@
 use Rattle.std.proofs.Common.{ap, subst, ◌∙◌}
-use Rattle.wire.specs.declared.frame.What.TheVariants as what
+use Rattle.wire.specs.declared.frame.FrameBody.TheVariants as what
 use Rattle.serving.specs.Answering.{standing}
 use Rattle.serving.specs.Asking.{IsAskedIn}
 use Rattle.serving.proofs.OneFrame.{in_version}

@@ -69,12 +69,14 @@ loop-left-preserved g c =
         goes_on home _ _ _ _ _ _ _ _ _ _
             (goes_on home _ _ _ _ _ _ kept.so_far.0 _ kept.so_far.1 [] kept.so_far.2 one) then,
         Makes-trans home.hall _
-            (outside_of (speaking g.D.Desk.handles c.args.self.wire) c.loop-left.node between)
-            (outside_of (speaking g.D.Desk.handles c.args.self.wire) c.call.new.node between)
+            (outside_of (speaking g.D.Desk.handles g.D.Desk.settles c.args.self.wire)
+            c.loop-left.node between)
+            (outside_of (speaking g.D.Desk.handles g.D.Desk.settles c.args.self.wire)
+            c.call.new.node between)
             (kept.so_far.0 ++ map (λ m. Pushed m) front) (delivered ∷ [])
             (Makes-pushes home.hall _ c.loop-left.node _ _ kept.so_far.0 _ kept.so_far.3
             c.in_ok-message.ensures.pushed)
-            (Makes-call (speaking g.D.Desk.handles c.args.self.wire) home
+            (Makes-call (speaking g.D.Desk.handles g.D.Desk.settles c.args.self.wire) home
             (g.D.Desk.home_of c.loop-left.node)
             (Deliver c.in-Some.message) called.0 x c.loop-left.node c.call.new.node between
             kept.home called.2),
@@ -123,7 +125,8 @@ returns-in_err-call-clause-err g c =
     c.push_front.new.waiting.items c.in-Some.message is
     (leads_some _ _ _ _ c.in-Some.is c.in_ok-message.ensures.own) in
     given_err c.from_residual-in_err-call.result
-    (part_call (speaking g.D.Desk.handles c.args.self.wire) home (g.D.Desk.home_of c.loop-left.node)
+    (part_call (speaking g.D.Desk.handles g.D.Desk.settles c.args.self.wire) home
+    (g.D.Desk.home_of c.loop-left.node)
     (settle_by home c.args.left.now) _ k k (Deliver c.in-Some.message) x
     (g.D.Desk.seen c.call.new.node) c.push_front.new.waiting.items
     (kept.so_far.0 ++ map (λ m. Pushed m) front) (kept.so_far.1 ++ []) _ c.loop-left.node

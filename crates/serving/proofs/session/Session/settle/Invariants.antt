@@ -16,9 +16,10 @@ invariant-loop-left g l = record {
       (at (g.D.Desk.seen l.initial.node) l.initial.waiting.items l.initial.left)
       (settle_by l.self.home l.left) (at (g.D.Desk.seen l.node) l.waiting.items l.left) acts past
       × Makes l.self.home.hall
-      (outside_of (speaking g.D.Desk.handles l.self.wire) l.initial.node
+      (outside_of (speaking g.D.Desk.handles g.D.Desk.settles l.self.wire) l.initial.node
       (g.P.Peers.handed l.initial.peers))
-      (outside_of (speaking g.D.Desk.handles l.self.wire) l.node (g.P.Peers.handed l.peers)) acts;
+      (outside_of (speaking g.D.Desk.handles g.D.Desk.settles l.self.wire) l.node
+      (g.P.Peers.handed l.peers)) acts;
 }
 
 abbrev pub decreases-loop-left : goal.decreases-loop-left

@@ -8,7 +8,7 @@ pub returns-clause-ok : goal.returns-clause-ok
 returns-clause-ok g c =
     let called = c.in_ok-call.ensures.ok in (
       c.settle.new.left,
-      does_behind (speaking g.D.Desk.handles c.args.self.wire) c.args.self.home
+      does_behind (speaking g.D.Desk.handles g.D.Desk.settles c.args.self.wire) c.args.self.home
           (g.D.Desk.home_of c.args.node.now)
           (g.D.Desk.seen c.args.node.now)
           (g.D.Desk.seen c.call.new.node) (g.D.Desk.seen c.settle.new.node)
@@ -20,7 +20,7 @@ returns-clause-ok g c =
 pub returns-in_err-call-clause-err : goal.returns-in_err-call-clause-err
 returns-in_err-call-clause-err g c =
     given_err c.from_residual.result
-    (part_at_behind (speaking g.D.Desk.handles c.args.self.wire) c.args.self.home
+    (part_at_behind (speaking g.D.Desk.handles g.D.Desk.settles c.args.self.wire) c.args.self.home
     (g.D.Desk.home_of c.args.node.now)
     (g.D.Desk.seen c.args.node.now) (g.D.Desk.seen c.call.new.node) Start
     c.args.waiting.now.items 16 c.args.node.now c.call.new.node
@@ -31,7 +31,8 @@ pub returns-in_err-settle-clause-err : goal.returns-in_err-settle-clause-err
 returns-in_err-settle-clause-err g c =
     let called = c.in_ok-call.ensures.ok in
     given_err c.from_residual-in_err-settle.result
-    (part_after_behind (speaking g.D.Desk.handles c.args.self.wire) c.args.self.home
+    (part_after_behind (speaking g.D.Desk.handles g.D.Desk.settles c.args.self.wire)
+    c.args.self.home
     (g.D.Desk.home_of c.args.node.now)
     (g.D.Desk.seen c.args.node.now) (g.D.Desk.seen c.call.new.node)
     (g.D.Desk.seen c.settle.new.node)

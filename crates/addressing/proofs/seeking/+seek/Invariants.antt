@@ -1,4 +1,0 @@
-use Rattle.addressing.proofs.seeking.+seek.Given as goal
-
-abbrev pub decreases-seek : goal.decreases-seek
-decreases-seek g l = l.desk

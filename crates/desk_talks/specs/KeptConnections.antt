@@ -1,0 +1,171 @@
+-- A connection to one desk that is kept up (the project's own). Times are milliseconds.
+use Rattle.std.specs.Prelude.{ℕ, ◌≡◌, ◌+◌, ◌-◌, List, [], Option, None, Some, Bool, true, false}
+use Rattle.std.specs.Prelude.{nat_le, if◌then◌else◌, option_map}
+use Rattle.wire.specs.declared.frame.Frame.{Frame}
+use Rattle.wire.specs.Stream.{holding}
+use Rattle.desk_talks.specs.Exchanges.{Hears, ExchangeOf, asking, sending, talk}
+use Rattle.desk_talks.specs.declared.kept_connection.DueAction.{DueAction}
+use Rattle.desk_talks.specs.declared.kept_connection.DueAction.TheVariants as due
+use Rattle.desk_talks.specs.declared.kept_connection.ConnectionStage.{ConnectionStage}
+use Rattle.desk_talks.specs.declared.kept_connection.ConnectionStage.TheVariants as stage
+use Rattle.desk_talks.specs.declared.exchange.AnswerOutcome.{AnswerOutcome}
+use Rattle.desk_talks.specs.declared.exchange.AnswerOutcome.TheVariants as heard
+
+-- the pace, what the connection has come to, the talk over it, if it is open, and how many
+-- questions were asked over it, of which no more than 64 are counted
+pub record KeptConnectionOf : Type 0 where
+  pub pace : ℕ
+  pub stage : ConnectionStage
+  pub talking : Option ExchangeOf
+  pub asked : ℕ
+
+abbrev pub line : ℕ → ConnectionStage → Option ExchangeOf → ℕ → KeptConnectionOf
+line pace stage talking asked =
+    record { pace = pace; stage = stage; talking = talking; asked = asked }
+
+abbrev pub new_line : ℕ → KeptConnectionOf
+new_line pace = line pace (stage.Closed None) None 0
+
+-- a desk answers 64 questions over one connection, and then ends it
+abbrev pub is_used_up : ℕ → Bool
+is_used_up asked = nat_le 64 asked
+
+-- ---- time
+
+-- this many milliseconds have gone since then
+abbrev pub is_over : ℕ → ℕ → ℕ → Bool
+is_over now since millis = nat_le millis (now - since)
+
+-- what is left of this many milliseconds from then on
+abbrev pub left_of : ℕ → ℕ → ℕ → ℕ
+left_of now since millis = millis - (now - since)
+
+-- the pace has gone since then, or there is no such time
+abbrev pub is_free : Option ℕ → ℕ → ℕ → Bool
+is_free None pace now = true
+is_free (Some last) pace now = is_over now last pace
+
+abbrev pub pace_left : Option ℕ → ℕ → ℕ → ℕ
+pace_left None pace now = 0
+pace_left (Some last) pace now = left_of now last pace
+
+-- ---- what is due
+
+-- once the desk has answered all that it answers over one connection, the next one is to be opened
+abbrev pub due_at : ConnectionStage → Bool → ℕ → ℕ → DueAction
+due_at (stage.Closed last) used_up pace now =
+    if is_free last pace now then due.Open else due.Rest
+due_at (stage.Opening since) used_up pace now =
+    if is_over now since 2000 then due.Close else due.Rest
+due_at (stage.Opened since) used_up pace now = due.Ask
+due_at (stage.Asked since) used_up pace now =
+    if is_over now since 2000 then due.Close else due.Rest
+due_at (stage.Answered last) true pace now = due.Renew
+due_at (stage.Answered last) false pace now =
+    if is_free last pace now then due.Ask else due.Rest
+
+abbrev pub due_of : KeptConnectionOf → ℕ → DueAction
+due_of l now = due_at l.stage (is_used_up l.asked) l.pace now
+
+abbrev pub wait_at : ConnectionStage → Bool → ℕ → ℕ → ℕ
+wait_at (stage.Closed last) used_up pace now = pace_left last pace now
+wait_at (stage.Opening since) used_up pace now = left_of now since 2000
+wait_at (stage.Opened since) used_up pace now = 0
+wait_at (stage.Asked since) used_up pace now = left_of now since 2000
+wait_at (stage.Answered last) true pace now = 0
+wait_at (stage.Answered last) false pace now = pace_left last pace now
+
+-- how long it is until something is due, if nothing comes
+abbrev pub wait_of : KeptConnectionOf → ℕ → ℕ
+wait_of l now = wait_at l.stage (is_used_up l.asked) l.pace now
+
+abbrev pub is_opening : ConnectionStage → Bool
+is_opening (stage.Closed last) = false
+is_opening (stage.Opening since) = true
+is_opening (stage.Opened since) = false
+is_opening (stage.Asked since) = false
+is_opening (stage.Answered last) = false
+
+-- ---- what becomes of the connection
+
+-- the time of the last question, or of the last opening where nothing was asked after it; none
+-- where the next may come at once
+abbrev pub last_of : ConnectionStage → Option ℕ
+last_of (stage.Closed last) = last
+last_of (stage.Opening since) = Some since
+last_of (stage.Opened since) = Some since
+last_of (stage.Asked since) = Some since
+last_of (stage.Answered last) = last
+
+abbrev pub closed : KeptConnectionOf → KeptConnectionOf
+closed l = line l.pace (stage.Closed (last_of l.stage)) None 0
+
+abbrev pub opening : KeptConnectionOf → ℕ → KeptConnectionOf
+opening l now = line l.pace (stage.Opening now) None 0
+
+abbrev pub opened_stage : ConnectionStage → ConnectionStage
+opened_stage (stage.Closed last) = stage.Closed last
+opened_stage (stage.Opening since) = stage.Opened since
+opened_stage (stage.Opened since) = stage.Opened since
+opened_stage (stage.Asked since) = stage.Asked since
+opened_stage (stage.Answered last) = stage.Answered last
+
+-- the connection is open and nothing was said over it; where memory is refused, it is closed
+abbrev pub Opens : Bool → KeptConnectionOf → KeptConnectionOf → Type 0
+Opens true old new =
+    new ≡ line old.pace (opened_stage old.stage) (Some (talk (holding []) None [])) 0
+Opens false old new = new ≡ closed old
+
+-- ---- what is said over it
+
+abbrev pub asked_once_more : ℕ → ℕ
+asked_once_more asked = if nat_le 64 asked then asked else asked + 1
+
+-- the question is asked; where there is no connection, or memory is refused, it is closed
+abbrev pub AsksOver : Bool → ℕ → Frame → KeptConnectionOf → KeptConnectionOf → Type 0
+AsksOver true now question old new =
+    (t : ExchangeOf) × (old.talking ≡ Some t)
+    × (new ≡ line old.pace (stage.Asked now) (Some (asking t question)) (asked_once_more old.asked))
+AsksOver false now question old new = new ≡ closed old
+
+abbrev pub hurried_stage : ConnectionStage → ConnectionStage
+hurried_stage (stage.Closed last) = stage.Closed last
+hurried_stage (stage.Opening since) = stage.Opening since
+hurried_stage (stage.Opened since) = stage.Opened since
+hurried_stage (stage.Asked since) = stage.Asked since
+hurried_stage (stage.Answered last) = stage.Answered None
+
+abbrev pub hurried : KeptConnectionOf → KeptConnectionOf
+hurried l = line l.pace (hurried_stage l.stage) l.talking l.asked
+
+-- what is to be written
+abbrev pub unsent_by : Option ExchangeOf → List ℕ
+unsent_by None = []
+unsent_by (Some t) = t.unsent
+
+abbrev pub sent_by : KeptConnectionOf → ℕ → KeptConnectionOf
+sent_by l count = line l.pace l.stage (option_map (λ t. sending t count) l.talking) l.asked
+
+abbrev pub answered_stage : ConnectionStage → ConnectionStage
+answered_stage (stage.Closed last) = stage.Closed last
+answered_stage (stage.Opening since) = stage.Opening since
+answered_stage (stage.Opened since) = stage.Opened since
+answered_stage (stage.Asked since) = stage.Answered (Some since)
+answered_stage (stage.Answered last) = stage.Answered last
+
+-- what the bytes come to closes the connection, or it goes on
+abbrev pub after_heard : AnswerOutcome → KeptConnectionOf → ExchangeOf → KeptConnectionOf
+after_heard heard.Waits l t = line l.pace l.stage (Some t) l.asked
+after_heard (heard.Answer what) l t = line l.pace (answered_stage l.stage) (Some t) l.asked
+after_heard (heard.Refused refusal) l t = line l.pace (answered_stage l.stage) (Some t) l.asked
+after_heard heard.NoAnswer l t = closed l
+
+-- without a connection nothing comes
+abbrev pub HearsAt : Option ExchangeOf → AnswerOutcome → List ℕ → KeptConnectionOf
+    → KeptConnectionOf → Type 0
+HearsAt None told piece old new = (told ≡ heard.Waits) × (new ≡ old)
+HearsAt (Some t) told piece old new =
+    (after : ExchangeOf) × Hears told piece t after × (new ≡ after_heard told old after)
+
+abbrev pub HearsOver : AnswerOutcome → List ℕ → KeptConnectionOf → KeptConnectionOf → Type 0
+HearsOver told piece old new = HearsAt old.talking told piece old new

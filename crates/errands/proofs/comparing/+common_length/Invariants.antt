@@ -1,5 +1,0 @@
-use Rattle.std.proofs.Common.{length}
-use Rattle.errands.proofs.comparing.+common_length.Given as goal
-
-abbrev pub decreases-common_length : goal.decreases-common_length
-decreases-common_length l = length l.polled.now

@@ -1,5 +1,0 @@
-use Rattle.std.proofs.Common.{length}
-use Rattle.errands.proofs.polling.+ask_all.Given as goal
-
-abbrev pub decreases-ask_all : goal.decreases-ask_all
-decreases-ask_all g l = length l.addresses.now

@@ -1,5 +1,0 @@
-use Rattle.following.proofs.Outcomes.{full_answers_go_on}
-use Rattle.following.proofs.laws.full_answers_go_on.Goals as goal
-
-pub returns : goal.returns
-returns c = full_answers_go_on

@@ -1,5 +1,0 @@
-use Rattle.following.proofs.Outcomes.{hurries_need_answers}
-use Rattle.following.proofs.laws.hurries_need_answers.Goals as goal
-
-pub returns : goal.returns
-returns c = hurries_need_answers

@@ -1,5 +1,0 @@
-use Rattle.following.proofs.Outcomes.{silent_desks_are_left}
-use Rattle.following.proofs.laws.silent_desks_are_left.Goals as goal
-
-pub returns : goal.returns
-returns c = silent_desks_are_left

@@ -1,5 +1,0 @@
-use Rattle.foretelling.proofs.Told.{Tells}
-use Rattle.foretelling.proofs.foretelling.foretell.Given as goal
-
-abbrev pub invariant-loop-entry : goal.invariant-loop-entry
-invariant-loop-entry l = Tells l.log.entries l.entries l.entry-index l.meet l.answers.items

@@ -1,0 +1,347 @@
+//! A mirror, the follower that says which desk is asked, and the talk with it.
+
+ghost use Rattle.std.specs.Prelude.{◌≡◌, ◌≤◌, ◌+◌, false, IfOk, List, length};
+ghost use Rattle.log_follower.specs.Following.{IsPlace, wait_of};
+ghost use Rattle.kept_mirror.specs.Mirrorings.{Acts, Asks, Fails, Follows, FollowsAnswer, Grows};
+ghost use Rattle.kept_mirror.specs.Mirrorings.{HearsDesk, Opens, after_told, awaiting};
+ghost use Rattle.kept_mirror.specs.Mirrorings.{hurried, is_growth, is_within, lost};
+ghost use Rattle.kept_mirror.specs.Mirrorings.{new_mirroring, question_by, sent_by, unsent_by};
+ghost use Rattle.desk_talks.specs.declared.dialogue.ReceiveOutcome.TheVariants as came;
+ghost use Rattle.wire.specs.Ranges.{IsFrame, IsId};
+
+use client::{await_request, log_request};
+use desk_talks::{AnswerOutcome, Dialogue, DialogueAction, Exchange, ReceiveOutcome};
+use log_follower::{FollowAction, FollowStage, Follower};
+use mirror::{Mirror, MirrorGrowth};
+use std::alloc::{AllocError, Global};
+use std::marker::Model;
+use wire::{Entries, Frame, FrameBody};
+
+/// Keeps a mirror up with the desks of a hall. Its caller asks it again and again what is to be
+/// done (`act`), does it over one connection at a time, and says what came of it.
+///
+/// A contract sees the number of the hall, the follower, the entries of the mirror, the talk over
+/// the connection, if one is open, and the id of a command that the desk is to be asked for next.
+#[derive(Drop)]
+pub struct Mirroring {
+    alloc: Global,
+    hall: u32,
+    follower: Follower,
+    mirror: Mirror,
+    talk: Option<Exchange>,
+    awaits: Option<u64>,
+}
+
+/// How long a desk is to wait for a command, in seconds, before it says that it does not have it.
+const SECONDS: u8 = 1;
+
+impl Model for Mirroring {
+    ghost use Rattle.kept_mirror.specs.Mirrorings.{AreIds, MirroringOf, mirroring};
+
+    ghost Value = { MirroringOf };
+
+    ghost view = { λ m. mirroring m.hall m.follower m.mirror m.talk m.awaits };
+
+    ghost invariant = { λ m. AreIds m.awaits };
+}
+
+/// Whether a mirror has grown, as far as is known.
+fn is_growth(taken: Option<MirrorGrowth>) -> bool
+    ensures { result ≡ is_growth taken }
+{
+    matches!(taken, Some(MirrorGrowth::Grew) | None)
+}
+
+/// Whether entries from a position on end where a log may end.
+fn is_within(position: u32, entries: &Entries) -> bool
+    ensures { result ≡ is_within position entries.now }
+{
+    let left = 65_536_u32.saturating_sub(position);
+    position <= 65_536 && entries.as_slice().len() <= left as usize
+}
+
+impl Mirroring {
+    /// An empty mirror of a hall with this many desks, 1 to 5. The first desk comes first.
+    pub fn new(alloc: Global, hall: u32, desks: u8) -> Result<Mirroring, AllocError>
+        requires { IsPlace 1 desks }
+        ensures { IfOk result (λ m. m ≡ new_mirroring hall desks) }
+    {
+        Ok(Mirroring {
+            alloc,
+            hall,
+            follower: Follower::new(desks, 0),
+            mirror: Mirror::new(alloc)?,
+            talk: None,
+            awaits: None,
+        })
+    }
+
+    /// The mirror.
+    pub fn mirror(&self) -> &Mirror
+        ensures { result.now ≡ self.now.entries }
+    {
+        &self.mirror
+    }
+
+    /// The number of the desk that is followed, 1 to 5.
+    pub fn desk(&self) -> u8
+        ensures desk { result ≡ self.now.follower.desk }
+        ensures place { IsPlace result self.now.follower.desks }
+    {
+        self.follower.desk()
+    }
+
+    /// What the connection to it has come to.
+    pub fn stage(&self) -> FollowStage
+        ensures { result ≡ self.now.follower.stage }
+    {
+        self.follower.stage()
+    }
+
+    /// In how many milliseconds something is to be done, if nothing comes: at most 2,000.
+    pub fn wait(&self, now: u64) -> u64
+        ensures wait { result ≡ wait_of self.now.follower now }
+        ensures soon { result ≤ 2000 }
+    {
+        self.follower.wait(now)
+    }
+
+    /// What is to be done now, at this many milliseconds of a clock that doesn't go back. It counts
+    /// as begun.
+    pub fn act(&mut self, now: u64) -> DialogueAction
+        ensures { Acts result now self.old self.new }
+    {
+        match self.follower.act(now) {
+            FollowAction::Rest => DialogueAction::Rest,
+            FollowAction::Open { desk } => DialogueAction::Open { desk },
+            FollowAction::Ask { .. } => self.ask(),
+            FollowAction::Close { .. } => {
+                self.talk = None;
+                DialogueAction::Close
+            }
+            FollowAction::Stop => {
+                self.talk = None;
+                DialogueAction::Stop
+            }
+        }
+    }
+
+    /// What the desk that is followed is asked: for a command, or for its log from the mirror's
+    /// last entry on: if the desk has another one there, that is noticed.
+    fn question(&self) -> Frame
+        ensures question { result ≡ question_by self.now.awaits self.now }
+        ensures spelled { IsFrame result }
+    {
+        let desk = self.follower.desk();
+        match self.awaits {
+            Some(id) => await_request(self.hall, desk, id, SECONDS),
+            None => log_request(self.hall, desk, self.mirror.len().saturating_sub(1)),
+        }
+    }
+
+    /// Asks the desk that is followed.
+    fn ask(&mut self) -> DialogueAction
+        ensures { Asks result self.old self.new }
+    {
+        let question = self.question();
+        let asked = match &mut self.talk {
+            Some(talk) => talk.ask(self.alloc, question).is_ok(),
+            None => false,
+        };
+        if asked {
+            self.awaits = None;
+            return DialogueAction::Write;
+        }
+        self.lost();
+        DialogueAction::Close
+    }
+
+    /// Says that the connection that was being opened is open. Where memory is refused, it counts
+    /// as lost, and the answer is false: it is to be closed.
+    pub fn opened(&mut self) -> bool
+        ensures { Opens result self.old self.new }
+    {
+        match Exchange::new(self.alloc) {
+            Ok(talk) => {
+                self.talk = Some(talk);
+                self.follower.opened();
+                true
+            }
+            Err(_) => {
+                self.lost();
+                false
+            }
+        }
+    }
+
+    /// Says that the connection is lost: it couldn't be opened, it failed, or the desk ended it.
+    pub fn lost(&mut self)
+        ensures { self.new ≡ lost self.old }
+    {
+        self.talk = None;
+        self.awaits = None;
+        self.follower.lost();
+    }
+
+    /// What is to be written now.
+    pub fn output(&self) -> &[u8]
+        ensures { result.now ≡ unsent_by self.now.talking }
+    {
+        match &self.talk {
+            Some(talk) => talk.output(),
+            None => &[],
+        }
+    }
+
+    /// Says that this many bytes of the output were written.
+    pub fn sent(&mut self, count: usize)
+        ensures { self.new ≡ sent_by self.old count }
+    {
+        if let Some(talk) = &mut self.talk {
+            talk.sent(count);
+        }
+    }
+
+    /// Takes bytes that came from the desk over the connection.
+    pub fn hear(&mut self, now: u64, piece: &[u8]) -> ReceiveOutcome
+        ensures { HearsDesk result now piece.now self.old self.new }
+    {
+        let Some(talk) = &mut self.talk else {
+            return ReceiveOutcome::Nothing;
+        };
+        let heard = talk.hear(piece);
+        self.follow(now, heard)
+    }
+
+    /// Counts the connection as lost, since what came over it is no answer.
+    fn fail(&mut self) -> ReceiveOutcome
+        ensures { Fails result self.old self.new }
+    {
+        self.lost();
+        ReceiveOutcome::NoAnswer
+    }
+
+    /// Does what follows of what the desk's bytes came to.
+    fn follow(&mut self, now: u64, heard: AnswerOutcome) -> ReceiveOutcome
+        ensures { Follows heard result now self.old self.new }
+    {
+        match heard {
+            AnswerOutcome::Waits => ReceiveOutcome::Nothing,
+            AnswerOutcome::Answer(answer) => self.follow_answer(now, answer),
+            AnswerOutcome::Refused(_refusal) => self.fail(),
+            AnswerOutcome::NoAnswer => self.fail(),
+        }
+    }
+
+    /// Does what follows of a desk's answer.
+    fn follow_answer(&mut self, now: u64, answer: FrameBody) -> ReceiveOutcome
+        ensures { FollowsAnswer answer result now self.old self.new }
+    {
+        match answer {
+            FrameBody::Entries {
+                position,
+                length,
+                entries,
+            } => {
+                if is_within(position, &entries) {
+                    self.take(now, position, length, entries)
+                } else {
+                    self.fail()
+                }
+            }
+            FrameBody::Told { .. } => self.say(now),
+            _other => self.fail(),
+        }
+    }
+
+    /// Asks for the log at once, since a desk has said what becomes of a command.
+    fn say(&mut self, now: u64) -> ReceiveOutcome
+        ensures said { self.new ≡ after_told self.old now }
+        ensures came { result ≡ came.Answer false }
+    {
+        self.awaits = None;
+        let held = self.mirror.len();
+        self.follower.answered(now, None, held, 0);
+        self.hurry();
+        ReceiveOutcome::Answer { changed: false }
+    }
+
+    /// Takes entries that a desk sent, whose log is this long.
+    fn take(&mut self, now: u64, position: u32, len: u32, entries: Entries) -> ReceiveOutcome
+        requires { position + length entries ≤ 65536 }
+        ensures { Grows result now position len entries self.old self.new }
+    {
+        let taken = self.mirror.take(position, entries).ok();
+        let held = self.mirror.len();
+        self.follower.answered(now, taken, held, len);
+        ReceiveOutcome::Answer {
+            changed: is_growth(taken),
+        }
+    }
+
+    /// Lets the next question come at once where the last one was answered with something of use:
+    /// over the connection or, where that was closed or lost since, over a new one to the next
+    /// desk. So a caller who knows of something new needn't wait for a quarter of a second, also
+    /// where the desk ended the connection after that answer.
+    pub fn hurry(&mut self)
+        ensures { self.new ≡ hurried self.old }
+    {
+        self.follower.hurry();
+    }
+
+    /// The same, and the next question is for this command, which the log does not have yet: the
+    /// desk answers it once it is there, or after a second, and is asked for its log at once then.
+    /// The desk has to know version 5 of the wire: another one ends the connection at it.
+    pub fn await_next(&mut self, id: u64)
+        requires { IsId id }
+        ensures { self.new ≡ awaiting self.old id }
+    {
+        self.awaits = Some(id);
+        self.hurry();
+    }
+}
+
+impl Dialogue for Mirroring {
+    ghost use Rattle.std.specs.Prelude.{◌≡◌};
+    ghost use Rattle.kept_mirror.specs.Mirrorings.{DialogueLeads, held, is_opening};
+    ghost use Rattle.acceptor.specs.declared.entry.Entry.{Entry};
+
+    ghost Held = { List Entry };
+
+    // The entries of the mirror.
+    ghost held = { held };
+
+    ghost leads = { DialogueLeads };
+
+    fn act(&mut self, now: u64) -> DialogueAction {
+        self.act(now)
+    }
+
+    fn is_opening(&self) -> bool
+        ensures { result ≡ is_opening self.now.follower.stage }
+    {
+        matches!(self.stage(), FollowStage::Opening { .. })
+    }
+
+    fn opened(&mut self) -> bool {
+        self.opened()
+    }
+
+    fn lost(&mut self) {
+        self.lost();
+    }
+
+    fn output(&self) -> &[u8]
+        ensures { result.now ≡ unsent_by self.now.talking }
+    {
+        self.output()
+    }
+
+    fn sent(&mut self, count: usize) {
+        self.sent(count);
+    }
+
+    fn hear(&mut self, now: u64, piece: &[u8]) -> ReceiveOutcome {
+        self.hear(now, piece)
+    }
+}

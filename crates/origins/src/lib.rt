@@ -1,8 +1,0 @@
-//! Which entry of a log last changed the attempts of a competitor, and which last entered each.
-#![tactic(auto)]
-
-mod entering;
-mod origins;
-
-pub use entering::{entered_at, last_entering};
-pub use origins::{is_change, last_change, reads_change};

@@ -1,0 +1,9 @@
+use Rattle.std.proofs.Common.{◌≡◌, ◌++◌, drop, flat_map}
+use Rattle.table_entry_views.specs.Notes.{note_at}
+use Rattle.table_entry_views.proofs.notes.push_notes.Given as goal
+
+-- what was written, and what is written for those that are left, is the whole
+abbrev pub invariant-loop-note : goal.invariant-loop-note
+invariant-loop-note l =
+    l.out.items ++ flat_map (note_at l.place) (drop l.note-index l.notes)
+    ≡ l.initial.out.items ++ flat_map (note_at l.place) l.notes

@@ -1,0 +1,19 @@
+use Rattle.std.proofs.Common.{◌≡◌, ◌∙◌, ◌++◌, ◌∷◌, ℕ, List, [], Result, Ok, Err, OnOk, ap, codes}
+use Rattle.std.proofs.Common.{decimal}
+use Rattle.markup.specs.Pieces.{joined}
+use Rattle.table_entry_views.proofs.origin.push_entry.Goals as goal
+
+-- the same text, written otherwise
+same_after : {T E : Type 0} (r : Result T E) (x a b : List ℕ) → a ≡ b → OnOk r (x ≡ a)
+    → OnOk r (x ≡ b)
+same_after (Ok t) x a b same is = is ∙ same
+same_after (Err e) x a b same is = tt
+
+pub returns : goal.returns
+returns c =
+    same_after c.push_pieces.result _ _ _
+    (ap
+    (λ (words : List ℕ). c.args.out.now.items
+    ++ joined (codes "<p class=\"origin\">Result " ∷ decimal c.args.position
+    ∷ codes ", " ∷ words ∷ []))
+    c.place_words.ensures) c.push_pieces.ensures

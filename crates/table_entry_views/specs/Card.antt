@@ -1,0 +1,132 @@
+-- The form of a card (the project's own).
+use Rattle.std.specs.Prelude.{ℕ, Bool, true, false, if◌then◌else◌, List, [], ◌∷◌, ◌++◌, codes}
+use Rattle.std.specs.Prelude.{decimal, flat_map, Option, unwrap_or}
+use Rattle.std.specs.List.{list_any}
+use Rattle.attempts.specs.declared.Unit.{Unit as Measure}
+use Rattle.attempts.specs.declared.Unit.TheVariants.{Time, Moves, Multi}
+use Rattle.formats.specs.Events.{format_name, unit_of}
+use Rattle.formats.specs.declared.events.Format.{Format}
+use Rattle.attempts.specs.declared.Value.{Value}
+use Rattle.round_words.specs.Words.{round_name, round_words, settings_words}
+use Rattle.texts.specs.Spelling.{cutoff_text, limit_text, was_text}
+use Rattle.texts.specs.declared.command.Command.{Command}
+use Rattle.texts.specs.declared.command.RoundId.{RoundId}
+use Rattle.texts.specs.declared.command.Settings.{Settings}
+use Rattle.markup.specs.Pieces.{joined}
+use Rattle.table_views.specs.Hidden.{hidden}
+use Rattle.table_entry_views.specs.declared.draft.Draft.{Draft}
+use Rattle.table_entry_views.specs.declared.notes.CardNote.{CardNote}
+use Rattle.table_entry_views.specs.Bounds.{floor_of}
+use Rattle.table_entry_views.specs.Fields.{fields, notes_of, number_field}
+use Rattle.table_entry_views.specs.Notes.{is_fault, note_at, note_word}
+
+abbrev pub unit_name : Measure → List ℕ
+unit_name Time = codes "time"
+unit_name Moves = codes "moves"
+unit_name Multi = codes "multi"
+
+-- the beginning of the form: what the script reads of the round's rules
+abbrev pub rules_of_form : Settings → Measure → List ℕ
+rules_of_form settings unit = joined (
+    codes "<form method=\"post\" action=\"/card\" autocomplete=\"off\" data-unit=\""
+    ∷ unit_name unit
+    ∷ codes "\" data-format=\"" ∷ format_name settings.format
+    ∷ codes "\" data-cutoff=\"" ∷ cutoff_text settings.cutoff
+    ∷ codes "\" data-limit=\"" ∷ limit_text settings.limit ∷ []
+    )
+
+-- the times below which the script asks, in what the unit counts: the floor of the event, and the
+-- best single of the round; 0 where there is none
+abbrev pub bounds_of_form : ℕ → Option ℕ → List ℕ
+bounds_of_form floor best = joined (
+    codes "\" data-floor=\"" ∷ decimal floor
+    ∷ codes "\" data-best=\"" ∷ decimal (unwrap_or best 0)
+    ∷ codes "\" data-spare=\"" ∷ []
+    )
+
+-- a spare id, after a space
+abbrev pub spare : ℕ → List ℕ
+spare id = joined (codes " " ∷ decimal id ∷ [])
+
+-- the round of a form, unseen
+unfoldable pub round_value : RoundId → List ℕ
+round_value id =
+    codes "<input type=\"hidden\" name=\"round\" value=\"" ++ round_name id ++ codes "\">\n"
+
+-- what the page shows that counts, as `CARD` spells it, unseen
+abbrev pub was_value : List Value → List ℕ
+was_value values =
+    codes "<input type=\"hidden\" name=\"was\" value=\"" ++ was_text values ++ codes "\">\n"
+
+-- the tag of the form: the round's rules, the times below which the script asks, and spare ids
+unfoldable pub form_tag : List ℕ → RoundId → Settings → Option ℕ → List ℕ
+form_tag spares round settings best =
+    rules_of_form settings (unit_of round.event) ++ bounds_of_form (floor_of round.event) best
+    ++ spares ++ codes "\">\n"
+
+-- the form carries its token and its id, spare ids for the script, the round, and what its page
+-- shows that counts
+abbrev pub form_start : List ℕ → ℕ → List ℕ → RoundId → Settings → Option ℕ → List Value → List ℕ
+form_start token id spares round settings best values =
+    form_tag spares round settings best ++ hidden token id ++ round_value round ++ was_value values
+
+unfoldable pub told_fault : List ℕ
+told_fault = codes "<p class=\"told\">Not entered yet: what is wrong is said below.</p>\n"
+
+-- the word of a note that is to be confirmed, after a space
+abbrev pub asked_word : CardNote → List ℕ
+asked_word note = codes " " ++ note_word note
+
+unfoldable pub sure_end : List ℕ
+sure_end = codes "\"><p class=\"told\">Not entered yet: Enter once more, if it is right.</p>\n"
+
+unfoldable pub told_sure : List CardNote → List ℕ
+told_sure notes =
+    codes "<input type=\"hidden\" name=\"sure\" value=\"" ++ flat_map asked_word notes ++ sure_end
+
+-- a card that is not entered yet is to be mended, or to be confirmed: then the form says which
+-- notes it answers
+abbrev pub told : List CardNote → List ℕ
+told [] = []
+told (note ∷ notes) =
+    if list_any is_fault (note ∷ notes) then told_fault else told_sure (note ∷ notes)
+
+unfoldable pub form_end : List ℕ
+form_end =
+    codes "<p class=\"results\"><output id=\"average\"></output>"
+    ++ codes "<output id=\"best\"></output></p>\n<button>Enter the card</button>\n</form>\n"
+    ++ codes "<p class=\"keys\"><kbd>d</kbd> or <kbd>/</kbd> DNF, <kbd>s</kbd> or <kbd>*</kbd> "
+    ++ codes "DNS (in fewest moves <kbd>/</kbd> and <kbd>*</kbd>), <kbd>+</kbd> after a time 2 "
+    ++ codes "seconds more</p>\n"
+    ++ codes "<p class=\"options\" hidden><label><input id=\"sound\" type=\"checkbox\"> sound"
+    ++ codes "</label>"
+    ++ codes " <label><input id=\"blind\" type=\"checkbox\"> second reading: what differs is listed"
+    ++ codes "</label></p>\n<p id=\"unsent\"></p>\n<ol id=\"back\"></ol></section>\n"
+
+unfoldable pub closed_start : List ℕ
+closed_start =
+    codes "<p class=\"told\">This round is closed: a card of it is refused. Until the next round "
+    ++ codes "is opened, it <a href=\"/rounds?round="
+
+unfoldable pub closed_words : RoundId → List ℕ
+closed_words id =
+    closed_start ++ round_name id ++ codes "\">can be opened again</a>.</p>\n"
+
+-- before anything is typed, a round that is closed is said to be so
+abbrev pub closed_line : RoundId → Bool → List ℕ
+closed_line id true = closed_words id
+closed_line id false = []
+
+-- the round and its rules
+abbrev pub card_head : RoundId → Settings → List ℕ
+card_head id settings =
+    codes "<section id=\"card\"><h1>" ++ round_words id settings.advance
+    ++ codes "</h1>\n<p class=\"rules\">"
+    ++ settings_words id.event settings ++ codes "</p>\n"
+
+-- what is said of the card, and its fields
+abbrev pub card_fields : List Command → RoundId → Format → List Value → List (List ℕ) → Draft
+    → List ℕ
+card_fields accepted id format values filled draft =
+    told (notes_of draft) ++ flat_map (note_at 6) (notes_of draft) ++ number_field accepted draft
+    ++ fields draft (unit_of id.event) values filled format

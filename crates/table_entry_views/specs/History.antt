@@ -1,0 +1,28 @@
+-- The page of the history of one result: the rows of the log that changed it (the project's own).
+use Rattle.std.specs.Prelude.{ℕ, List, [], ◌∷◌, ◌++◌, codes, decimal}
+use Rattle.acceptor.specs.declared.entry.Entry.{Entry}
+use Rattle.log_rows.specs.Rows.{rows}
+use Rattle.log_rows.specs.declared.writing.ShownEntries.TheVariants.{ChangesOf}
+use Rattle.markup.specs.Pieces.{joined}
+use Rattle.markup.specs.board_page.Escaped.{escaped}
+use Rattle.round_words.specs.Words.{event_words}
+use Rattle.table_views.specs.declared.around.PageContext.{PageContext}
+use Rattle.table_views.specs.Frame.{top, bottom}
+use Rattle.texts.specs.declared.command.RoundId.{RoundId}
+
+-- as `desk log --who` prints them
+abbrev pub changes_of : List Entry → RoundId → ℕ → List ℕ
+changes_of log id number =
+    rows 0 (ChangesOf record { event = id.event; round = id.round; number = number }) log
+
+abbrev pub changes_section : RoundId → ℕ → List ℕ → List ℕ
+changes_section id number text = joined (
+    codes "<section><h1>" ∷ event_words id.event ∷ codes ", Round " ∷ decimal id.round
+    ∷ codes ", number " ∷ decimal number ∷ codes "</h1>\n<pre dir=\"auto\">" ∷ escaped text
+    ∷ codes "</pre></section>\n" ∷ []
+    )
+
+unfoldable pub history_page : PageContext → RoundId → ℕ → List ℕ
+history_page around id number =
+    top (codes "hall") (codes "History of a result") around
+    ++ changes_section id number (changes_of around.mirror.now id number) ++ bottom

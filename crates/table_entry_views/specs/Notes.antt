@@ -1,0 +1,161 @@
+-- What is said of the fields of a card (the project's own).
+use Rattle.std.specs.Prelude.{ℕ, ◌==◌, Bool, true, false, if◌then◌else◌, List, [], ◌∷◌, ◌++◌, codes}
+use Rattle.std.specs.Prelude.{◌&&◌, decimal, flat_map}
+use Rattle.std.specs.List.{list_any}
+use Rattle.card_forms.specs.declared.faults.NumberFault.{NumberFault}
+use Rattle.card_forms.specs.declared.faults.NumberFault.TheVariants as number
+use Rattle.card_forms.specs.declared.faults.CardFault.{CardFault}
+use Rattle.card_forms.specs.declared.faults.CardFault.TheVariants as card
+use Rattle.scorecard.specs.declared.fault.ScorecardFault.{ScorecardFault as FieldFault}
+use Rattle.scorecard.specs.declared.fault.ScorecardFault.TheVariants as field
+use Rattle.markup.specs.Pieces.{joined}
+use Rattle.table_entry_views.specs.declared.notes.CardNote.{CardNote}
+use Rattle.table_entry_views.specs.declared.notes.CardNote.TheVariants.{Number, Field, Card, Unlike}
+use Rattle.table_entry_views.specs.declared.notes.CardNote.TheVariants.{Changes}
+use Rattle.table_entry_views.specs.declared.notes.CardNote.TheVariants.{Refused, Fast, Half, Unsolved}
+use Rattle.table_entry_views.specs.declared.notes.CardNote.TheVariants.{Repeats}
+use Rattle.texts.specs.declared.answer.Code.{Code}
+use Rattle.texts.specs.declared.answer.Code.TheVariants as code
+use Rattle.texts.specs.Codes.{code_number}
+use Rattle.texts.specs.meanings.Meanings.{meaning_of}
+
+-- ---- where it is: 0 is the competitor's number, 1 to 5 are the attempts, 6 is the card
+
+abbrev pub place_of_fault : CardFault → ℕ
+place_of_fault (card.Gap field) = field
+place_of_fault card.Nothing = 6
+place_of_fault card.TooLong = 6
+
+abbrev pub place_of_code : Code → ℕ
+place_of_code code.UnknownCompetitor = 0
+place_of_code code.NotEntered = 0
+place_of_code _ = 6
+
+abbrev pub place_of : CardNote → ℕ
+place_of (Number fault) = 0
+place_of (Field attempt fault) = attempt
+place_of (Card fault) = place_of_fault fault
+place_of (Refused why) = place_of_code why
+place_of (Fast attempt) = attempt
+place_of (Half attempt) = attempt
+place_of (Unlike attempt) = attempt
+place_of (Unsolved attempt) = attempt
+place_of Repeats = 3
+place_of (Changes attempt) = attempt
+
+-- a fault can't be confirmed
+abbrev pub is_fault : CardNote → Bool
+is_fault (Number fault) = true
+is_fault (Field attempt fault) = true
+is_fault (Card fault) = true
+is_fault (Refused why) = false
+is_fault (Fast attempt) = false
+is_fault (Half attempt) = false
+is_fault (Unlike attempt) = false
+is_fault (Unsolved attempt) = false
+is_fault Repeats = false
+is_fault (Changes attempt) = false
+
+-- ---- how it is confirmed
+
+abbrev pub numbered : List ℕ → ℕ → List ℕ
+numbered word number = joined (word ∷ decimal number ∷ [])
+
+-- the word by which a form says that a scoretaker has confirmed a note
+abbrev pub note_word : CardNote → List ℕ
+note_word (Number fault) = codes "-"
+note_word (Field attempt fault) = codes "-"
+note_word (Card fault) = codes "-"
+note_word (Refused why) = numbered (codes "refused-") (code_number why)
+note_word (Fast attempt) = numbered (codes "fast-") attempt
+note_word (Half attempt) = numbered (codes "half-") attempt
+note_word (Unlike attempt) = numbered (codes "unlike-") attempt
+note_word (Unsolved attempt) = numbered (codes "unsolved-") attempt
+note_word Repeats = codes "repeats"
+note_word (Changes attempt) = numbered (codes "changes-") attempt
+
+-- ---- in words
+
+abbrev pub number_words : NumberFault → List ℕ
+number_words number.Empty = codes "whose card is it?"
+number_words number.NotANumber = codes "a number is 1 to 9999"
+
+abbrev pub field_words : FieldFault → List ℕ
+field_words field.Empty = codes "nothing is written"
+field_words field.NotATime = codes "a time is like 1043, 10.43 or 1:02.33"
+field_words field.BadSeconds = codes "seconds are below 60"
+field_words field.OutOfRange = codes "a time is 0.01 to 166:39.99"
+field_words field.BadPenalty = codes "penalties are +2, +4 to +18"
+field_words field.NotAResult = codes "a result is like 11/13 58:20"
+field_words field.BadAttempted = codes "2 to 99 cubes are attempted"
+field_words (field.MoreSolved attempted) =
+    joined (codes "more solved than the " ∷ decimal attempted ∷ codes " attempted" ∷ [])
+field_words field.NoSeconds = codes "a time is 0:01 to 99:59"
+field_words field.NotMoves =
+    codes "write its moves, as R U' F2 Rw x: a number of moves alone is no solution"
+field_words field.NoMemory = codes "memory ran out"
+
+abbrev pub card_words : CardFault → List ℕ
+card_words (card.Gap field) =
+    joined (codes "attempt " ∷ decimal field ∷ codes " is empty" ∷ [])
+card_words card.Nothing = codes "nothing is typed"
+card_words card.TooLong = codes "too long for one command: enter one attempt after the other"
+
+abbrev pub is_changed : Code → Bool
+is_changed code.Changed = true
+is_changed _ = false
+
+abbrev pub other_words : Code → List ℕ
+other_words why = meaning_of why ++ codes ": send it all the same?"
+
+abbrev pub refused_words : Code → List ℕ
+refused_words why =
+    if is_changed why
+    then codes "the page showed other attempts: is it still right?"
+    else other_words why
+
+abbrev pub unsolved_words : ℕ → List ℕ
+unsolved_words attempt =
+    joined (codes "does not solve scramble " ∷ decimal attempt ∷ codes ": DNF?" ∷ [])
+
+abbrev pub note_words : CardNote → List ℕ
+note_words (Number fault) = number_words fault
+note_words (Field attempt fault) = field_words fault
+note_words (Card fault) = card_words fault
+note_words (Refused why) = refused_words why
+note_words (Fast attempt) = codes "nobody has ever been that fast: is it right?"
+note_words (Half attempt) =
+    codes "less than half of the best of this round, or of this competitor's in another: "
+    ++ codes "is it right?"
+note_words (Unlike attempt) =
+    codes "more than twice or less than half of the others: is it right?"
+note_words (Unsolved attempt) = unsolved_words attempt
+note_words Repeats = codes "the times of attempts 1 and 2 again: is it right?"
+note_words (Changes attempt) = codes "another result counts: change it?"
+
+unfoldable pub note_line : CardNote → List ℕ
+note_line note = codes "<strong role=\"alert\">" ++ note_words note ++ codes "</strong>"
+
+-- a note, if it is at this place
+abbrev pub note_at : ℕ → CardNote → List ℕ
+note_at place note = if place_of note == place then note_line note else []
+
+-- the notes of a field, at a place, under the id by which the field names what describes it
+unfoldable pub said_at : ℕ → List CardNote → List ℕ
+said_at place notes =
+    joined (codes "<span class=\"said\" id=\"said" ∷ decimal place ∷ codes "\">" ∷ [])
+    ++ flat_map (note_at place) notes ++ codes "</span>"
+
+-- a note is a fault of this place
+abbrev pub is_wrong_at : ℕ → CardNote → Bool
+is_wrong_at place note = place_of note == place && is_fault note
+
+abbrev pub invalid_if : Bool → List ℕ
+invalid_if true = codes " aria-invalid=\"true\""
+invalid_if false = []
+
+-- the end of a field: what describes it, and whether it has a fault
+unfoldable pub field_end : ℕ → List CardNote → List ℕ
+field_end place notes =
+    joined (codes "\" aria-describedby=\"said" ∷ decimal place ∷ codes "\"" ∷ [])
+    ++ invalid_if (list_any (is_wrong_at place) notes) ++ codes ">"

@@ -1,0 +1,35 @@
+-- Where what is on a card comes from (the project's own).
+use Rattle.std.specs.Prelude.{ℕ, Bool, true, false, List, [], ◌∷◌, ◌++◌, codes, decimal}
+use Rattle.std.specs.Prelude.{Option, None, Some}
+use Rattle.std.specs.Option.{option_copied}
+use Rattle.markup.specs.Pieces.{joined}
+use Rattle.markup.specs.board_page.Escaped.{escaped}
+use Rattle.table_entry_views.specs.declared.origin.Origin.{Origin}
+
+abbrev pub place_words : Bool → List ℕ
+place_words true = codes "entered at this table"
+place_words false = codes "from no card of this table"
+
+-- which entry it is, and where it was entered
+abbrev pub entry_words : ℕ → Bool → List ℕ
+entry_words position here = joined (
+    codes "<p class=\"origin\">Result " ∷ decimal position ∷ codes ", " ∷ place_words here ∷ []
+    )
+
+-- the remark of an entry, if it has one
+abbrev pub remark_words : Option (List ℕ) → List ℕ
+remark_words None = []
+remark_words (Some remark) = joined (
+    codes ", with the remark <q dir=\"auto\">" ∷ escaped remark ∷ codes "</q>" ∷ []
+    )
+
+abbrev pub origin_words : Origin → List ℕ
+origin_words origin =
+    entry_words origin.position origin.here ++ remark_words (option_copied origin.remark)
+    ++ codes "</p>\n"
+
+-- the entry that last said what counts, where it was entered, and its remark; nothing where that is
+-- not known
+abbrev pub origin_line : Option Origin → List ℕ
+origin_line None = []
+origin_line (Some origin) = origin_words origin

@@ -1,0 +1,62 @@
+-- Blank scorecards of a round (the project's own).
+use Rattle.std.specs.Prelude.{◌≡◌, ℕ, List, [], ◌∷◌, ◌++◌, codes, decimal, flat_map}
+use Rattle.std.specs.Prelude.{Option, None, Some, option_map, unwrap_or}
+use Rattle.markup.specs.board_page.Escaped.{escaped}
+use Rattle.commands.specs.Accepted.{name_of}
+use Rattle.rounds.specs.Tables.{Table, standings}
+use Rattle.round_counts.specs.Counts.{numbers_in}
+use Rattle.round_words.specs.Words.{round_words, settings_words}
+use Rattle.texts.specs.declared.command.Command.{Command}
+use Rattle.texts.specs.declared.command.RoundId.{RoundId}
+use Rattle.texts.specs.declared.command.Settings.{Settings}
+use Rattle.markup.specs.Pieces.{joined}
+use Rattle.table_entry_views.specs.paper.Frame.{top, bottom}
+
+abbrev pub attempt_row : ℕ → List ℕ
+attempt_row attempt = joined (
+    codes "<tr><th scope=\"row\">" ∷ decimal attempt
+    ∷ codes "</th><td></td><td></td><td></td></tr>\n" ∷ []
+    )
+
+abbrev pub card_start : List ℕ → List ℕ
+card_start hall = joined (
+    codes "<section class=\"scorecard\"><p class=\"hall\">" ∷ escaped hall
+    ∷ codes "</p>\n<p class=\"round\">" ∷ []
+    )
+
+abbrev pub person : ℕ → List ℕ → List ℕ
+person number name = joined (
+    codes "</p>\n<p class=\"who\"><b>" ∷ decimal number ∷ codes "</b> <bdi>" ∷ escaped name
+    ∷ codes "</bdi></p>\n" ∷ []
+    )
+
+abbrev pub card_table : List ℕ
+card_table =
+    codes "<table><thead><tr><th></th><th>result</th><th>judge</th><th>competitor</th></tr></thead>"
+    ++ codes "<tbody>\n"
+
+-- the card of an entrant: hall, round, number and name, a row for each attempt, and the rules
+unfoldable pub blank_card : List ℕ → RoundId → Settings → ℕ → List ℕ → List ℕ
+blank_card hall id settings number name =
+    card_start hall ++ round_words id settings.advance ++ person number name ++ card_table
+    ++ flat_map attempt_row (numbers_in settings.format)
+    ++ codes "</tbody></table>\n<p class=\"rules\">" ++ settings_words id.event settings
+    ++ codes "</p></section>\n"
+
+-- the card of the entrant with a number
+abbrev pub card_of : List Command → List ℕ → RoundId → Settings → ℕ → List ℕ
+card_of accepted hall id settings number =
+    unwrap_or (option_map (blank_card hall id settings number) (name_of accepted number)) []
+
+-- a card for each entrant, in order of place
+abbrev pub cards_page : List Command → List ℕ → RoundId → Settings → Table → List ℕ
+cards_page accepted hall id settings table =
+    top (codes "scorecards") hall ++ flat_map (card_of accepted hall id settings) (standings table)
+    ++ bottom
+
+-- the page, where the round was opened
+abbrev pub IsScorecards : List ℕ → List Command → RoundId → Option (Settings × Table)
+    → Option (List ℕ) → Type 0
+IsScorecards hall accepted id None page = page ≡ None
+IsScorecards hall accepted id (Some round) page =
+    page ≡ Some (cards_page accepted hall id round.0 round.1)

@@ -1,0 +1,15 @@
+use Rattle.std.proofs.Common.{codes}
+use Rattle.std.proofs.lemmas.Result.{on_ok_weaker}
+use Rattle.markup.proofs.board_page.Steps.{three_parts, when_ok}
+use Rattle.round_words.specs.Words.{round_name}
+use Rattle.table_hall_views.specs.Forms.{round_value}
+use Rattle.table_hall_views.proofs.forms.push_round_value.Goals as goal
+
+pub returns : goal.returns
+unfolding round_value
+returns c =
+    let out = c.args.out.now.items in
+    on_ok_weaker c.extend_from_slice-2.result
+    (three_parts out (codes "<input type=\"hidden\" name=\"round\" value=\"")
+    (round_name c.args.id) (codes "\">\n") _ _ _ c.in_ok-extend_from_slice.ensures.items
+    c.in_ok-push_round_name.ensures) (when_ok _ _ _ _ c.extend_from_slice-2.ensures.items)

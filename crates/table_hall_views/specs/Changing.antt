@@ -1,0 +1,48 @@
+-- The form that changes how a round is run (the project's own).
+use Rattle.std.specs.Prelude.{ℕ, Bool, true, false, if◌then◌else◌, List, [], ◌++◌, codes, get_or}
+use Rattle.std.specs.Prelude.{Some}
+use Rattle.formats.specs.declared.events.Event.{Event}
+use Rattle.formats.specs.declared.events.Event.TheVariants.{FewestMoves}
+use Rattle.rounds.specs.Tables.{Table, is_attempted}
+use Rattle.texts.specs.declared.command.RoundId.{RoundId}
+use Rattle.texts.specs.declared.command.Settings.{Settings}
+use Rattle.table_views.specs.declared.around.PageContext.{PageContext}
+use Rattle.table_views.specs.Logs.{accepted_in}
+use Rattle.table_views.specs.Editions.{is_latest}
+use Rattle.table_hall_views.specs.Forms.{button, form_start, path_of, round_value}
+use Rattle.table_hall_views.specs.Opening.{rule_fields}
+
+abbrev pub settings_head : List ℕ
+settings_head =
+    codes "<h2>Change format, cutoff and limit</h2>\n<p>The button sets these to what the fields "
+    ++ codes "say, until the first attempt.</p>\n"
+
+-- what holds now is chosen beforehand
+unfoldable pub settings_form : List ℕ → ℕ → RoundId → Settings → List ℕ
+settings_form token form id settings =
+    settings_head ++ form_start token form (codes "SET") (path_of id) ++ round_value id
+    ++ rule_fields id.event (Some settings.format) settings.cutoff settings.limit
+    ++ button (codes "Change format, cutoff and limit")
+
+-- the form, while nobody has an attempt
+abbrev pub settings_form_if : Bool → List ℕ → ℕ → RoundId → Settings → List ℕ
+settings_form_if true token form id settings = []
+settings_form_if false token form id settings = settings_form token form id settings
+
+-- what edition 4 would allow in an open round: of fewest moves a scramble can be changed too
+abbrev pub early_words : Event → Bool → List ℕ
+early_words FewestMoves attempted =
+    codes "<p>With <a href=\"/rounds\">edition 4</a> a scramble could be changed, and before the "
+    ++ codes "first attempt format and cutoff.</p>\n"
+early_words _ true = []
+early_words _ false =
+    codes "<p>With <a href=\"/rounds\">edition 4</a> format, cutoff and limit could be changed "
+    ++ codes "before the first attempt.</p>\n"
+
+-- the form, in edition 4; before it, what edition 4 would allow
+abbrev pub changing : PageContext → RoundId → Settings × Table → List ℕ
+changing around id round =
+    if is_latest (accepted_in around.mirror.now)
+    then settings_form_if (is_attempted round.1 1) around.token.now (get_or around.ids.now 5 0) id
+    round.0
+    else early_words id.event (is_attempted round.1 1)

@@ -1,0 +1,146 @@
+-- The forms of a round that is open (the project's own).
+use Rattle.std.specs.Prelude.{ℕ, Bool, true, false, ◌==◌, if◌then◌else◌, nat_le, List, [], ◌∷◌}
+use Rattle.std.specs.Prelude.{◌++◌, codes, decimal, filter, flat_map, get_or, length}
+use Rattle.std.specs.Prelude.{Option, None, Some, option_map}
+use Rattle.advancement.specs.Advancing.{advancing, quota}
+use Rattle.advancement.specs.Waiting.{waiting}
+use Rattle.markup.specs.board_page.Escaped.{escaped}
+use Rattle.formats.specs.declared.advance.Advance.{Advance}
+use Rattle.formats.specs.declared.advance.Advance.TheVariants.{Final, Top, Percent}
+use Rattle.rounds.specs.Tables.{Table, entrant, place, started}
+use Rattle.texts.specs.Spelling.{spelling}
+use Rattle.texts.specs.declared.command.Command.{Command}
+use Rattle.texts.specs.declared.command.Command.TheVariants.{Close}
+use Rattle.texts.specs.declared.command.RoundId.{RoundId}
+use Rattle.texts.specs.declared.command.Settings.{Settings}
+use Rattle.markup.specs.Pieces.{joined}
+use Rattle.table_views.specs.declared.around.PageContext.{PageContext}
+use Rattle.table_views.specs.Logs.{accepted_in}
+use Rattle.table_hall_views.specs.Absent.{never_came}
+use Rattle.table_hall_views.specs.Changing.{changing}
+use Rattle.table_views.specs.Editions.{is_latest}
+use Rattle.table_hall_views.specs.Entrants.{entrant_line, unfinished}
+use Rattle.table_hall_views.specs.Forms.{button, form_start, path_of, round_value, unseen}
+use Rattle.table_hall_views.specs.Opening.{advance_fields}
+
+-- the command that closes a round
+abbrev pub close_text : RoundId → List ℕ
+close_text id = spelling (Close id)
+
+-- ---- ties at the border
+
+-- the place of the entrant with a number
+abbrev pub place_of : Table → ℕ → Option ℕ
+place_of t number = option_map (place t) (entrant t number)
+
+abbrev pub is_there : ℕ → Option ℕ → Bool
+is_there wanted None = false
+is_there wanted (Some place) = place == wanted
+
+-- the entrant with a number has this place
+abbrev pub is_placed : Table → ℕ → ℕ → Bool
+is_placed t wanted number = is_there wanted (place_of t number)
+
+abbrev pub those_placed : Table → Option ℕ → List ℕ → List ℕ
+those_placed t None numbers = []
+those_placed t (Some wanted) numbers = filter (is_placed t wanted) numbers
+
+-- those of these numbers who share the place of the first
+abbrev pub sharing : Table → List ℕ → List ℕ
+sharing t [] = []
+sharing t (first ∷ others) = those_placed t (place_of t first) (first ∷ others)
+
+abbrev pub tied_head : ℕ → List ℕ
+tied_head most = joined (
+    codes "<p class=\"told\">" ∷ decimal most
+    ∷ codes " could advance, but these are tied at the border, so none of them does:</p>\n<ul>\n"
+    ∷ []
+    )
+
+-- these are tied
+unfoldable pub tied_list : List Command → RoundId → ℕ → List ℕ → List ℕ
+tied_list accepted id most numbers =
+    tied_head most ++ flat_map (entrant_line accepted id) numbers ++ codes "</ul>\n"
+
+abbrev pub untied : ℕ → List ℕ
+untied most = joined (
+    codes "<p class=\"told\">" ∷ decimal most
+    ∷ codes " could advance: the others have no result.</p>\n" ∷ []
+    )
+
+-- who is tied, or that nobody is
+abbrev pub tied : List Command → RoundId → ℕ → List ℕ → List ℕ
+tied accepted id most [] = untied most
+tied accepted id most (number ∷ numbers) = tied_list accepted id most (number ∷ numbers)
+
+-- where fewer advance than could, the best of those who don't advance are tied at the border
+abbrev pub tie : List Command → RoundId → Table → Advance → ℕ → ℕ → List ℕ
+tie accepted id t advance most through =
+    if nat_le most through then [] else tied accepted id most (sharing t (waiting t advance))
+
+-- ---- who advances
+
+abbrev pub these_go_on : ℕ → List ℕ
+these_go_on count = joined (
+    codes "<h2>Who advances, as of now: " ∷ decimal count ∷ codes "</h2>\n<ol>\n" ∷ []
+    )
+
+-- these advance, of this many who could
+unfoldable pub list_through : List Command → RoundId → Table → Advance → ℕ → List ℕ → List ℕ
+list_through accepted id t advance most numbers =
+    these_go_on (length numbers) ++ flat_map (entrant_line accepted id) numbers
+    ++ codes "</ol>\n" ++ tie accepted id t advance most (length numbers)
+
+abbrev pub through_by : Advance → List Command → RoundId → Table → List ℕ
+through_by Final accepted id t = codes "<p>It is the final: nobody advances.</p>\n"
+through_by (Top number) accepted id t =
+    list_through accepted id t (Top number) (quota (Top number) (started t))
+    (advancing t (Top number))
+through_by (Percent percent) accepted id t =
+    list_through accepted id t (Percent percent) (quota (Percent percent) (started t))
+    (advancing t (Percent percent))
+
+-- who advances, if the round is closed as it is
+abbrev pub through : List Command → RoundId → Settings × Table → List ℕ
+through accepted id round = through_by round.0.advance accepted id round.1
+
+abbrev pub change_head : List ℕ
+change_head =
+    codes "<h2>Change who advances</h2>\n<p>The button sets who advances to what is chosen here, "
+    ++ codes "and changes nothing else.</p>\n"
+
+-- who advances now is chosen beforehand
+unfoldable pub change : List ℕ → ℕ → RoundId → Advance → List ℕ → List ℕ
+change token form id advance back =
+    change_head ++ form_start token form (codes "ADV") back
+    ++ round_value id ++ advance_fields advance ++ button (codes "Change who advances")
+
+-- from edition 4 on a closed round can be opened again
+abbrev pub closing_words : Bool → List ℕ
+closing_words true = codes "It can be opened again until the next round is opened."
+closing_words false = codes "Nothing in it changes afterwards."
+
+abbrev pub closing_line : Bool → List ℕ → List ℕ
+closing_line mends text = joined (
+    codes "<p>" ∷ closing_words mends ∷ codes " This is sent: <code>" ∷ escaped text
+    ∷ codes "</code></p>\n" ∷ []
+    )
+
+-- the command is sent as it is shown
+abbrev pub closing_told : Bool → List ℕ → List ℕ
+closing_told mends text = unseen (codes "text") text ++ closing_line mends text
+
+unfoldable pub close : Bool → List ℕ → ℕ → RoundId → List ℕ → List ℕ
+close mends token form id back =
+    codes "<h2>Close the round</h2>\n" ++ form_start token form (codes "CLOSE") back
+    ++ round_value id ++ closing_told mends (close_text id) ++ button (codes "Close the round")
+
+-- who is unfinished, with a form for those who never came; who advances; and the other forms
+unfoldable pub open_round : PageContext → RoundId → Settings × Table → List ℕ
+open_round around id round =
+    unfinished (accepted_in around.mirror.now) id round ++ never_came around id round
+    ++ through (accepted_in around.mirror.now) id round ++ changing around id round
+    ++ change around.token.now (get_or around.ids.now 1 0) id round.0.advance (path_of id)
+    ++ close (is_latest (accepted_in around.mirror.now)) around.token.now
+    (get_or around.ids.now 0 0) id
+    (path_of id)

@@ -1,0 +1,131 @@
+//! The page of all rounds.
+
+ghost use Rattle.std.specs.Prelude.{◌≡◌, ◌++◌, IfOk, OnOk, flat_map};
+ghost use Rattle.table_hall_views.specs.Overview.{event_lines, link_cell};
+ghost use Rattle.table_hall_views.specs.Overview.{overview, round_in, round_line};
+ghost use Rattle.table_hall_views.specs.Overview.{section, state_cell};
+
+use crate::pages::{push_end, start_page};
+use acceptor::NoMemory;
+use commands::Meet;
+use formats::Event;
+use markup::{Piece, push_pieces};
+use round_counts::{OpenedRound, counts_of, round_opened};
+use round_words::{push_round_name, push_round_words};
+use std::alloc::Global;
+use table_views::PageContext;
+use texts::RoundId;
+
+/// The rounds that an event can have.
+const ROUNDS: [u8; 4] = [1, 2, 3, 4];
+
+/// Adds a link to what there is of a round under a path.
+fn push_link(out: &mut Vec<u8>, path: &[u8], id: RoundId, words: &[u8]) -> Result<(), NoMemory>
+    ensures { OnOk result (out.new.items
+        ≡ out.old.items ++ link_cell path.now id words.now) }
+{
+    out.extend_from_slice(b"<td><a href=\"")?;
+    out.extend_from_slice(path)?;
+    push_round_name(out, id)?;
+    push_pieces(
+        out,
+        &[
+            Piece::Html(b"\">"),
+            Piece::Html(words),
+            Piece::Html(b"</a></td>"),
+        ],
+    )
+}
+
+/// Adds whether a round is closed.
+fn push_state(out: &mut Vec<u8>, closed: bool) -> Result<(), NoMemory>
+    ensures { OnOk result (out.new.items ≡ out.old.items ++ state_cell closed) }
+{
+    if closed {
+        out.extend_from_slice(b"<td>closed</td>")
+    } else {
+        out.extend_from_slice(b"<td>open</td>")
+    }
+}
+
+/// Adds the line of a round that was opened.
+fn push_row(out: &mut Vec<u8>, id: RoundId, round: OpenedRound<'_>) -> Result<(), NoMemory>
+    ensures { OnOk result (out.new.items ≡ out.old.items ++ round_line id
+        (round.entry.settings, round.entry.table.now)) }
+{
+    let counts = counts_of(round.table, round.settings.format)?;
+    out.extend_from_slice(b"<tr><th scope=\"row\"><a href=\"/card/")?;
+    push_round_name(out, id)?;
+    out.extend_from_slice(b"\">")?;
+    push_round_words(out, id, round.settings.advance)?;
+    out.extend_from_slice(b"</a></th>")?;
+    push_state(out, round.table.is_closed())?;
+    push_pieces(
+        out,
+        &[
+            Piece::Html(b"<td>"),
+            Piece::Number(counts.done as u64),
+            Piece::Html(b" of "),
+            Piece::Number(counts.entrants as u64),
+            Piece::Html(b" done, "),
+            Piece::Number(counts.begun as u64),
+            Piece::Html(b" in the middle</td>"),
+        ],
+    )?;
+    push_link(out, b"/rounds?round=", id, b"open and close")?;
+    push_link(out, b"/wall/", id, b"sheet for the wall")?;
+    push_link(out, b"/scorecards/", id, b"scorecards")?;
+    out.extend_from_slice(b"</tr>\n")
+}
+
+/// Adds a line for each of these rounds of an event that was opened.
+fn push_event(out: &mut Vec<u8>, meet: &Meet, event: Event, rounds: &[u8]) -> Result<(), NoMemory>
+    ensures { OnOk result (out.new.items
+        ≡ out.old.items ++ flat_map (round_in meet.now.accepted event) rounds.now) }
+{
+    for round in rounds {
+        let id = RoundId {
+            event,
+            round: *round,
+        };
+        if let Some(opened) = round_opened(meet, id) {
+            push_row(out, id, opened)?;
+        }
+    }
+    Ok(())
+}
+
+fn push_events(out: &mut Vec<u8>, meet: &Meet, events: &[Event]) -> Result<(), NoMemory>
+    ensures { OnOk result (out.new.items
+        ≡ out.old.items ++ flat_map (event_lines meet.now.accepted) events.now) }
+{
+    for event in events {
+        push_event(out, meet, *event, &ROUNDS)?;
+    }
+    Ok(())
+}
+
+/// Adds the section of all rounds.
+fn push_section(out: &mut Vec<u8>, meet: &Meet) -> Result<(), NoMemory>
+    ensures { OnOk result (out.new.items ≡ out.old.items ++ section meet.now.accepted) }
+{
+    out.extend_from_slice(
+        b"<section id=\"rounds\"><h1>Rounds</h1>\n<table><caption>How far each is</caption>\
+<tbody>\n",
+    )?;
+    push_events(out, meet, &Event::ALL)?;
+    out.extend_from_slice(
+        b"</tbody></table>\n<p><a href=\"/rounds\">Open a round</a></p></section>\n",
+    )
+}
+
+/// The page of all rounds that were opened: whether each is open, how far its entrants have come,
+/// and links to its cards, its forms and its paper.
+pub fn overview(alloc: Global, around: &PageContext<'_>) -> Result<Vec<u8>, NoMemory>
+    ensures { IfOk result (λ page. page.items ≡ overview around.entry.now) }
+{
+    let mut page = start_page(alloc, around, b"Score table")?;
+    push_section(&mut page, around.mirror.meet())?;
+    push_end(&mut page, around)?;
+    Ok(page)
+}

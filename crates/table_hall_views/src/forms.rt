@@ -1,0 +1,198 @@
+//! Forms that send commands.
+
+ghost use Rattle.std.specs.Prelude.{◌≡◌, ◌++◌, ◌<◌, IfOk, OnOk, decimal, get_or};
+ghost use Rattle.table_hall_views.specs.Forms.{button, choice, commands_word, form_start, path_of};
+ghost use Rattle.table_hall_views.specs.Forms.{person_path, round_value, text_field, unit_field};
+ghost use Rattle.table_hall_views.specs.Forms.{unseen};
+
+use acceptor::NoMemory;
+use attempts::push_decimal;
+use card_forms::FormId;
+use markup::{Piece, push_pieces};
+use round_words::push_round_name;
+use std::alloc::Global;
+use table_views::push_hidden;
+use texts::RoundId;
+
+/// The id of a form, by the form's place among those of its page, counted from 0.
+pub(crate) fn id_at(ids: &[FormId; 32], place: usize) -> FormId
+    requires { place < 32 }
+    ensures { result ≡ get_or ids.now place 0 }
+{
+    ids[place]
+}
+
+/// Adds a value that a form carries unseen.
+pub(crate) fn push_unseen<'a>(
+    out: &mut Vec<u8>,
+    name: &'a [u8],
+    value: &'a [u8],
+) -> Result<(), NoMemory>
+    ensures { OnOk result (out.new.items ≡ out.old.items ++ unseen name.now value.now) }
+{
+    push_pieces(
+        out,
+        &[
+            Piece::Html(b"<input type=\"hidden\" name=\""),
+            Piece::Html(name),
+            Piece::Html(b"\" value=\""),
+            Piece::Text(value),
+            Piece::Html(b"\">\n"),
+        ],
+    )
+}
+
+/// Adds the beginning of a form for a command of this word. After it the browser goes to the path
+/// of the page that the form is on.
+#[tactic(auto, unfolding(crate::specs::Forms::form_start))]
+pub(crate) fn push_form(
+    out: &mut Vec<u8>,
+    token: &[u8],
+    id: FormId,
+    command: &[u8],
+    back: &[u8],
+) -> Result<(), NoMemory>
+    ensures { OnOk result (out.new.items
+        ≡ out.old.items ++ form_start token.now id command.now back.now) }
+{
+    out.extend_from_slice(b"<form method=\"post\" action=\"/command\" autocomplete=\"off\">\n")?;
+    push_hidden(out, token, id)?;
+    push_unseen(out, b"command", command)?;
+    push_unseen(out, b"back", back)
+}
+
+/// Adds the round of a form, unseen.
+pub(crate) fn push_round_value(out: &mut Vec<u8>, id: RoundId) -> Result<(), NoMemory>
+    ensures { OnOk result (out.new.items ≡ out.old.items ++ round_value id) }
+{
+    out.extend_from_slice(b"<input type=\"hidden\" name=\"round\" value=\"")?;
+    push_round_name(out, id)?;
+    out.extend_from_slice(b"\">\n")
+}
+
+/// Adds the end of a form, with what its button says.
+pub(crate) fn push_button(out: &mut Vec<u8>, words: &[u8]) -> Result<(), NoMemory>
+    ensures { OnOk result (out.new.items ≡ out.old.items ++ button words.now) }
+{
+    push_pieces(
+        out,
+        &[
+            Piece::Html(b"<button>"),
+            Piece::Html(words),
+            Piece::Html(b"</button></form>\n"),
+        ],
+    )
+}
+
+/// Adds a field with a label.
+pub(crate) fn push_text_field<'a>(
+    out: &mut Vec<u8>,
+    name: &'a [u8],
+    label: &'a [u8],
+    value: &'a [u8],
+) -> Result<(), NoMemory>
+    ensures { OnOk result (out.new.items
+        ≡ out.old.items ++ text_field name.now label.now value.now) }
+{
+    push_pieces(
+        out,
+        &[
+            Piece::Html(b"<label>"),
+            Piece::Html(label),
+            Piece::Html(b" <input name=\""),
+            Piece::Html(name),
+            Piece::Html(b"\" value=\""),
+            Piece::Text(value),
+            Piece::Html(b"\"></label>\n"),
+        ],
+    )
+}
+
+/// Adds a field with a label, and with the unit in which a script reads what is in it.
+pub(crate) fn push_unit_field<'a>(
+    out: &mut Vec<u8>,
+    name: &'a [u8],
+    label: &'a [u8],
+    unit: &'a [u8],
+    value: &'a [u8],
+) -> Result<(), NoMemory>
+    ensures { OnOk result (out.new.items
+        ≡ out.old.items ++ unit_field name.now label.now unit.now value.now) }
+{
+    push_pieces(
+        out,
+        &[
+            Piece::Html(b"<label>"),
+            Piece::Html(label),
+            Piece::Html(b" <input name=\""),
+            Piece::Html(name),
+            Piece::Html(b"\" data-unit=\""),
+            Piece::Html(unit),
+            Piece::Html(b"\" value=\""),
+            Piece::Text(value),
+            Piece::Html(b"\"></label>\n"),
+        ],
+    )
+}
+
+/// The word after a number of commands.
+pub(crate) fn commands_word(count: usize) -> &'static [u8]
+    ensures { result.now ≡ commands_word count }
+{
+    if count == 1 {
+        b" command"
+    } else {
+        b" commands"
+    }
+}
+
+/// Adds one of the values that can be chosen.
+pub(crate) fn push_choice<'a>(
+    out: &mut Vec<u8>,
+    value: &'a [u8],
+    words: &'a [u8],
+) -> Result<(), NoMemory>
+    ensures { OnOk result (out.new.items ≡ out.old.items ++ choice value.now words.now) }
+{
+    push_pieces(
+        out,
+        &[
+            Piece::Html(b"<option value=\""),
+            Piece::Html(value),
+            Piece::Html(b"\">"),
+            Piece::Html(words),
+            Piece::Html(b"</option>\n"),
+        ],
+    )
+}
+
+/// The path of the page of a round's forms.
+pub(crate) fn path_of(alloc: Global, id: RoundId) -> Result<Vec<u8>, NoMemory>
+    ensures { IfOk result (λ path. path.items ≡ path_of id) }
+{
+    let mut path = Vec::new(alloc);
+    path.extend_from_slice(b"/rounds?round=")?;
+    push_round_name(&mut path, id)?;
+    Ok(path)
+}
+
+/// The path of the page of a competitor.
+pub(crate) fn person_path(alloc: Global, number: u16) -> Result<Vec<u8>, NoMemory>
+    ensures { IfOk result (λ path. path.items ≡ person_path number) }
+{
+    let mut path = Vec::new(alloc);
+    push_pieces(
+        &mut path,
+        &[Piece::Html(b"/person/"), Piece::Number(number as u64)],
+    )?;
+    Ok(path)
+}
+
+/// A number in decimal.
+pub(crate) fn digits_of(alloc: Global, number: u32) -> Result<Vec<u8>, NoMemory>
+    ensures { IfOk result (λ digits. digits.items ≡ decimal number) }
+{
+    let mut digits = Vec::new(alloc);
+    push_decimal(&mut digits, number)?;
+    Ok(digits)
+}

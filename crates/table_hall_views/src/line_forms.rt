@@ -1,0 +1,55 @@
+//! The form that sends several commands, one a line, or shows what would become of them.
+
+ghost use Rattle.std.specs.Prelude.{◌≡◌, ◌++◌, OnOk};
+ghost use Rattle.table_hall_views.specs.Lines.{line, lines_form};
+
+use acceptor::NoMemory;
+use card_forms::FormId;
+use markup::{Piece, push_pieces};
+use table_views::push_hidden;
+
+/// The beginning of a form that enters its lines.
+pub(crate) const ENTERS: &[u8] =
+    b"<form method=\"post\" action=\"/commands\" autocomplete=\"off\">\n";
+
+/// The beginning of a form that only shows what its lines would enter.
+pub(crate) const LOOKS: &[u8] = b"<form method=\"post\" action=\"/lines\" autocomplete=\"off\">\n";
+
+/// Adds a command, after a break.
+pub(crate) fn push_line(out: &mut Vec<u8>, text: &[u8]) -> Result<(), NoMemory>
+    ensures { OnOk result (out.new.items ≡ out.old.items ++ line text.now) }
+{
+    out.extend_from_slice(b"\n")?;
+    out.extend_from_slice(text)
+}
+
+/// Adds a form with this beginning that shows these lines of commands, each after a break, and
+/// sends them. After it the browser goes to the path `back`; its button says these words.
+pub(crate) fn push_lines_form<'a>(
+    out: &mut Vec<u8>,
+    start: &[u8],
+    token: &[u8],
+    id: FormId,
+    back: &'a [u8],
+    lines: &'a [u8],
+    words: &'a [u8],
+) -> Result<(), NoMemory>
+    ensures { OnOk result (out.new.items
+        ≡ out.old.items ++ lines_form start.now token.now id back.now lines.now words.now) }
+{
+    out.extend_from_slice(start)?;
+    push_hidden(out, token, id)?;
+    push_pieces(
+        out,
+        &[
+            Piece::Html(b"<input type=\"hidden\" name=\"back\" value=\""),
+            Piece::Text(back),
+            Piece::Html(b"\">\n<details><summary>What is sent</summary>\n"),
+            Piece::Html(b"<textarea name=\"lines\" rows=\"12\" cols=\"60\" readonly>"),
+            Piece::Text(lines),
+            Piece::Html(b"</textarea></details>\n<button>"),
+            Piece::Html(words),
+            Piece::Html(b"</button></form>\n"),
+        ],
+    )
+}

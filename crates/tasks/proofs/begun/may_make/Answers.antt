@@ -1,9 +1,0 @@
-use Rattle.tasks.proofs.begun.may_make.Goals as goal
-
-pub returns : goal.returns
-returns g c = (
-  c.ask_all-known.result,
-  c.ask_all-known.ensures,
-  c.may_begin-may.ensures,
-  c.tell_known.ensures,
-)
