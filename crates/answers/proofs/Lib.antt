@@ -1,2 +1,4 @@
-pub mod Prefixes
+pub mod Fronts
 pub mod SheetsOf
+pub mod States
+pub mod Transcripts

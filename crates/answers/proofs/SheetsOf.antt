@@ -1,12 +1,12 @@
 -- The sheet at a position is that of the meet which the entries up to there come to.
-use Rattle.std.proofs.Common.{◌≡◌, ◌≤◌, ℕ, List, Option, Some, None, Result, Ok, Err, IfOk, IfErr}
+use Rattle.std.proofs.Common.{◌≡◌, ◌≤◌, ℕ, List, Some, Result, Ok, Err, IfOk, IfErr}
 use Rattle.std.proofs.Common.{Vec, length, take, refl, sym, ap, ◌∙◌}
 use Rattle.acceptor.specs.declared.entry.Entry.{Entry}
 use Rattle.formats.specs.declared.events.Event.{Event}
 use Rattle.commands.specs.History.{History, history}
 use Rattle.sheets.specs.Sheet.{sheet}
-use Rattle.sheets.specs.declared.Style.{Style}
-use Rattle.sheets.specs.declared.Style.TheVariants.{Text, Table}
+use Rattle.formats.specs.declared.styles.SheetStyle.{SheetStyle as Style}
+use Rattle.formats.specs.declared.styles.SheetStyle.TheVariants.{Text, Table}
 use Rattle.answers.specs.Answers.{texts, sheet_at, NoSheetAt, NoSheetIn}
 use Rattle.answers.specs.declared.fault.LogSheetFault.{LogSheetFault}
 use Rattle.answers.specs.declared.fault.LogSheetFault.TheVariants.{NotThere, NoSuchRound, NoMemory}

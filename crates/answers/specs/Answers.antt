@@ -7,8 +7,8 @@ use Rattle.learner.specs.Logs.{position_of}
 use Rattle.formats.specs.declared.events.Event.{Event}
 use Rattle.commands.specs.History.{history, answer_to}
 use Rattle.sheets.specs.Sheet.{text_sheet, table_sheet}
-use Rattle.sheets.specs.declared.Style.{Style}
-use Rattle.sheets.specs.declared.Style.TheVariants.{Text, Table}
+use Rattle.formats.specs.declared.styles.SheetStyle.{SheetStyle as Style}
+use Rattle.formats.specs.declared.styles.SheetStyle.TheVariants.{Text, Table}
 use Rattle.answers.specs.declared.answers.IdState.{IdState}
 use Rattle.answers.specs.declared.answers.IdState.TheVariants.{Done, Pending, Unknown}
 use Rattle.answers.specs.declared.fault.LogSheetFault.{LogSheetFault}

@@ -13,6 +13,7 @@ ghost use Rattle.learner.specs.Ranges.{IsReal};
 ghost use Rattle.replica.specs.Handles.{Takes};
 ghost use Rattle.replica.specs.Lengths.{told_after};
 ghost use Rattle.answers.specs.Seen.{Seen, settled};
+ghost use Rattle.store.specs.Ranges.{IsHome};
 ghost use Rattle.store.specs.declared.home.Home.{Home as Place};
 
 use crate::answers::IdState;
@@ -25,7 +26,7 @@ use learner::event::DeskEvent;
 use learner::log::Log;
 use proposer::role::Role;
 use replica::roles::NodeFault;
-use sheets::Style;
+use sheets::SheetStyle;
 use store::home::Home;
 
 /// One desk of a hall, as serving uses it.
@@ -45,14 +46,16 @@ pub trait Desk {
     /// Nothing that an event has changed waits to be committed.
     ghost is_settled: { Self → Type 0 };
 
-    /// The hall, its number, and the number of desks.
+    /// The hall, the number of this desk, 1 to the number of desks, and that number, 3 or 5.
     fn home(&self) -> Home
         ensures home { result ≡ home_of self.now }
+        ensures in_range { IsHome result }
         ensures ours { IsDesk result.desks result.desk }
         ensures few { result.desks ≤ 5 };
 
-    /// Takes an event, and gives the messages that come of it. They may not leave the desk before
-    /// `settle` has answered true.
+    /// Takes an event, and gives the messages that come of it, in the order in which they are to be
+    /// sent. They may not leave the desk before `settle` has answered true. What is refused, and
+    /// what a refusal leaves, is as `Replica::handle` says.
     fn handle(&mut self, event: DeskEvent) -> Result<Messages, NodeFault>
         ensures handles { handles self.old event result self.new }
         ensures takes { let home = home_of self.old in let x = (seen self.old).desk in
@@ -67,21 +70,23 @@ pub trait Desk {
         ensures home { home_of self.new ≡ home_of self.old };
 
     /// Commits what the events since the last such call have changed, all of it together. False:
-    /// the store has failed, now or before.
+    /// the desk is Down, as it was before, or from now on.
     fn settle(&mut self) -> bool
         ensures settles { settles self.old result self.new }
         ensures settled { IsTrue result → is_settled self.new }
         ensures seen { seen self.new ≡ settled result (seen self.old) }
         ensures home { home_of self.new ≡ home_of self.old };
 
-    /// The decided entries.
+    /// The entries that this desk knows to be decided. At a desk that is Down they are those before
+    /// the event whose save failed.
     fn log(&self) -> &Log
         ensures entries { result.now.entries ≡ (seen self.now).desk.log }
         ensures most { length (seen self.now).desk.log ≤ 65536 };
 
-    /// How many entries wait in the queue.
+    /// How many entries wait to be proposed, 0 to 64.
     fn queued(&self) -> u8
-        ensures { result ≡ length (seen self.now).desk.queue };
+        ensures queued { result ≡ length (seen self.now).desk.queue }
+        ensures most { result ≤ 64 };
 
     /// What it does for a ballot of its own.
     fn role(&self) -> &Role
@@ -100,22 +105,27 @@ pub trait Desk {
         ensures told { result ≡ (seen self.now).told }
         ensures most { AllByRecursion (λ len. len ≤ 65536) result };
 
-    /// Whether the store has failed.
+    /// Whether the desk is Down: a save or a settling has failed, and `handle` answers Down to each
+    /// event.
     fn is_down(&self) -> bool
         ensures { result ≡ (seen self.now).is_down };
 
-    /// What has become of a submitted id.
+    /// What has become of a submitted id, by the log and the queue, also where the desk is Down.
     fn answer(&self, id: u64) -> Result<IdState, NoMemory>
         ensures { let x = (seen self.now).desk in
             IfOk result (λ answer. answer ≡ told x.log x.queue id) };
 
-    /// The sheet of a round after the log's first `position` entries.
+    /// The sheet of a round after the log's first `position` entries, also where the desk is Down.
+    ///
+    /// A position above the log's length is NotThere. Else, where none of the accepted commands up
+    /// to there opened the round, the answer is NoSuchRound. Else, where memory is refused, it is
+    /// NoMemory.
     fn sheet_at(
         &self,
         position: u32,
         event: EventOf,
         round: u8,
-        style: Style,
+        style: SheetStyle,
     ) -> Result<Vec<u8>, LogSheetFault>
         ensures there { OnOk result (position ≤ length (seen self.now).desk.log) }
         ensures sheet { let log = (seen self.now).desk.log in

@@ -5,7 +5,9 @@
 pub mod answers;
 pub mod desk;
 pub mod fault;
+pub mod transcript;
 
 pub use answers::IdState;
 pub use desk::Desk;
 pub use fault::LogSheetFault;
+pub use transcript::Transcript;

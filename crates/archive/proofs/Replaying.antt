@@ -9,8 +9,8 @@ use Rattle.formats.specs.declared.events.Event.{Event}
 use Rattle.texts.specs.declared.command.Command.{Command}
 use Rattle.texts.specs.Reading.{SpellsWhatIsRead}
 use Rattle.commands.specs.History.{history, SeesEachId}
-use Rattle.sheets.specs.declared.Style.{Style}
-use Rattle.sheets.specs.declared.Style.TheVariants.{Text, Table}
+use Rattle.formats.specs.declared.styles.SheetStyle.{SheetStyle as Style}
+use Rattle.formats.specs.declared.styles.SheetStyle.TheVariants.{Text, Table}
 use Rattle.sheets.specs.Sheet.{sheet}
 use Rattle.lines.specs.Lines.{is_line, lines_of}
 use Rattle.replay.specs.Replay.{entries, sheet_after}

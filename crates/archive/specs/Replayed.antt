@@ -8,7 +8,7 @@ use Rattle.texts.specs.declared.answer.Answer.{Answer}
 use Rattle.texts.specs.declared.answer.Answer.TheVariants.{Refused}
 use Rattle.texts.specs.declared.answer.Code.TheVariants.{Unread}
 use Rattle.commands.specs.History.{history, answer_to}
-use Rattle.sheets.specs.declared.Style.{Style}
+use Rattle.formats.specs.declared.styles.SheetStyle.{SheetStyle as Style}
 use Rattle.lines.specs.Lines.{is_within, lines_of}
 use Rattle.replay.specs.Replay.{entries, sheet_after}
 use Rattle.answers.specs.Answers.{texts, sheet_at}

@@ -79,16 +79,16 @@ some_imported = record {
 
 up : (own : Text) (rest : List Text) (t : ReplayTask)
     → AsksReplay (own ∷ codes "replay" ∷ rest) t
-    → Asks (own ∷ codes "replay" ∷ rest) (task.Replay t.event t.round t.style t.only_sheet)
-up own rest t (p, (name, rows, found, named, (round, printed, alone))) =
+    → Asks (own ∷ codes "replay" ∷ rest) (task.Replay t)
+up own rest t (p, (name, rows, found, named, asked)) =
     let both : Parsers = record { replay = p; sheet = p; imported = some_imported } in
-    (both, (name, rows, read_alike both own rest ∙ found, (named, round, printed, alone)))
+    (both, (name, rows, read_alike both own rest ∙ found, (named, asked)))
 
 down : (own : Text) (rest : List Text) (t : ReplayTask)
-    → Asks (own ∷ codes "replay" ∷ rest) (task.Replay t.event t.round t.style t.only_sheet)
+    → Asks (own ∷ codes "replay" ∷ rest) (task.Replay t)
     → AsksReplay (own ∷ codes "replay" ∷ rest) t
-down own rest t (p, (name, rows, found, (named, round, printed, alone))) =
-    (p.replay, (name, rows, sym (read_alike p own rest) ∙ found, named, (round, printed, alone)))
+down own rest t (p, (name, rows, found, (named, asked))) =
+    (p.replay, (name, rows, sym (read_alike p own rest) ∙ found, named, asked))
 
 pub asked_alike : ReplayIsAskedAlike
 asked_alike = λ own rest t. (up own rest t, down own rest t)

@@ -50,7 +50,7 @@ entered_ids (Some id) words rows h = h.0
 
 -- what was found has its ids in their range
 pub found_ids : (found : Option (Text × List Row)) (t : Task) → Finds found t → HasIds t
-found_ids found (task.Replay event round style only_sheet) h = tt
+found_ids found (task.Replay replay) h = tt
 found_ids found (task.Import file options) h = tt
 found_ids found (task.Export file running) h = tt
 found_ids found task.Results h = tt

@@ -4,8 +4,8 @@ use Rattle.std.specs.Prelude.{◌≡◌, ◌≤◌, ◌&&◌, ◌||◌, true, fa
 use Rattle.std.specs.Prelude.{decimal, length, map, nat_le, Option, None, Some, IfSome}
 use Rattle.clap.specs.Words.{App, Row, Text, all_of, first_of, new_app, subcommand_of}
 use Rattle.clap.specs.Words.{with_rule, with_subcommand}
-use Rattle.wire.specs.declared.values.SheetStyle.{SheetStyle}
-use Rattle.wire.specs.declared.values.SheetStyle.TheVariants as asked
+use Rattle.formats.specs.declared.styles.SheetStyle.{SheetStyle}
+use Rattle.formats.specs.declared.styles.SheetStyle.TheVariants as asked
 use Rattle.wire.specs.declared.values.Version.{Version}
 use Rattle.wire.specs.declared.values.Version.TheVariants as version
 use Rattle.wire.specs.Ranges.{IsId}
@@ -40,7 +40,7 @@ use Rattle.arguments.specs.declared.task.ClientRequest.TheVariants as request
 use Rattle.arguments.specs.declared.task.Task.{Task}
 use Rattle.arguments.specs.declared.task.Task.TheVariants as task
 pub use Rattle.replay_arguments.specs.Asking.{RoundParsers, replay_arguments, named_app}
-pub use Rattle.replay_arguments.specs.Asking.{IsRound, IsPrinted}
+pub use Rattle.replay_arguments.specs.Asking.{IsRound, IsReplay}
 
 -- ---- the arguments of each subcommand
 
@@ -390,9 +390,7 @@ pub record IsImport (path : Text) (options : Options) (rows : List Row) : Type 0
   pub names : IsNames rows options.names
 
 abbrev pub IsTask : Task → Text → List Row → Type 0
-IsTask (task.Replay event round style only_sheet) name rows =
-    (name ≡ codes "replay") × IsRound rows event round × IsPrinted rows style
-    × IsFlag (codes "only-sheet") rows only_sheet
+IsTask (task.Replay replay) name rows = (name ≡ codes "replay") × IsReplay replay rows
 IsTask (task.Import file options) name rows =
     (name ≡ codes "import") × IsImport file.now options rows
 IsTask (task.Export file running) name rows =
@@ -440,7 +438,7 @@ HasId request.Stop = Unit {0}
 
 -- the ids of a task are in their range
 abbrev pub HasIds : Task → Type 0
-HasIds (task.Replay event round style only_sheet) = Unit {0}
+HasIds (task.Replay replay) = Unit {0}
 HasIds (task.Import file options) = Unit {0}
 HasIds (task.Export file running) = Unit {0}
 HasIds task.Results = Unit {0}

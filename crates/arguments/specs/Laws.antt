@@ -12,6 +12,6 @@ abbrev pub ReplayIsAskedAlike : Type 0
 ReplayIsAskedAlike =
     (own : Text) → (rest : List Text) → (t : ReplayTask)
     → (AsksReplay (own ∷ codes "replay" ∷ rest) t
-    → Asks (own ∷ codes "replay" ∷ rest) (task.Replay t.event t.round t.style t.only_sheet))
-    × (Asks (own ∷ codes "replay" ∷ rest) (task.Replay t.event t.round t.style t.only_sheet)
+    → Asks (own ∷ codes "replay" ∷ rest) (task.Replay t))
+    × (Asks (own ∷ codes "replay" ∷ rest) (task.Replay t)
     → AsksReplay (own ∷ codes "replay" ∷ rest) t)

@@ -21,8 +21,7 @@ use crate::values::id_at;
 use clap::ArgMatches;
 use formats::Event;
 use hall_file::service::Service;
-use replay_arguments::{flag_at, replay_of};
-use sheets::Style;
+use replay_arguments::{ReplayTask, flag_at, replay_of};
 use wcif::Options;
 use wire::{SheetStyle, Version};
 
@@ -111,12 +110,7 @@ pub struct HallService<'a> {
 #[derive(Clone, Copy)]
 pub enum Task<'a> {
     /// The sheet of a round, from commands.
-    Replay {
-        event: Event,
-        round: u8,
-        style: Style,
-        only_sheet: bool,
-    },
+    Replay(ReplayTask),
     /// The commands that set up the competition of a file.
     Import {
         file: &'a str,
@@ -244,12 +238,7 @@ fn replayed<'a>(found: &ArgMatches<'a>) -> Option<Task<'a>>
         (λ task. IsTask task (codes "replay") (rows_of (found_of found.now))) }
 {
     let task = replay_of(found)?;
-    Some(Task::Replay {
-        event: task.event,
-        round: task.round,
-        style: task.style,
-        only_sheet: task.only_sheet,
-    })
+    Some(Task::Replay(task))
 }
 
 /// The task of the arguments of a subcommand that runs a desk or asks one.

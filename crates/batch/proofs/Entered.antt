@@ -10,23 +10,22 @@ use Rattle.client.specs.Printing.{reply_text}
 use Rattle.lines.specs.command_file.Commands.{Numbered}
 use Rattle.lines.proofs.Inputs.{part_after}
 use Rattle.wire.specs.declared.frame.FrameBody.{FrameBody}
-use Rattle.batch.specs.Asking.{Asked, Asks, Goes, IsOfAsking}
+use Rattle.batch.specs.Asking.{Asked, Goes}
 use Rattle.batch.specs.Dialing.{Grows, Place, Standing}
-use Rattle.batch.specs.Entering.{AsksFront, AsksLines, EnteredBy, EntersLine, FailsLine, IsSaid}
-use Rattle.batch.specs.Entering.{IsWhole, SaidBy, Says, StopsAsking, StopsLine, StopsTelling}
-use Rattle.batch.specs.Entering.{TellsStop, ends_run, texts_of, told_answer}
+use Rattle.batch.specs.Entering.{AsksFront, AsksLines, EnteredBy, EntersLine, FailsLine, IsEntered}
+use Rattle.batch.specs.Entering.{IsWhole, SaidBy, StopsBehind, ends_run, texts_of, told_answer}
 use Rattle.batch.specs.Watching.{Notice, line_notices}
 use Rattle.batch.specs.declared.fault.BatchFault.{BatchFault}
 use Rattle.batch.specs.declared.fault.BatchFault.TheVariants as fault
 use Rattle.batch.specs.declared.lines_entered.Batch.{Batch}
+use Rattle.batch.proofs.Asked.{way}
 use Rattle.batch.proofs.Going.{goes_more, goes_none, grows_more, grows_none}
-use Rattle.batch.proofs.Heard.{between}
+use Rattle.batch.proofs.Trying.{between}
 
 -- these lines were entered by these requests, what is said of them is written, and this is told
 pub record Entered (here : Place) (b : Batch) (lines : List (List ℕ)) (said : List ℕ)
     (asked : List Asked) (notices : List Notice) (old new : Option (List ℕ))
     (x y : Option (List Notice)) (from to : Standing) : Type 0 where
-  pub entered : Says b b.first_id lines said
   pub written : Appends old new said
   pub told : Goes here from to asked
   pub heard : Grows x y notices
@@ -35,72 +34,60 @@ pub record Entered (here : Place) (b : Batch) (lines : List (List ℕ)) (said : 
 pub none_entered : (here : Place) (b : Batch) (old : Option (List ℕ)) (x : Option (List Notice))
     (a : Standing) → Entered here b [] [] [] [] old old x x a a
 none_entered here b old x a = record {
-  entered = refl;
   written = Appends-nil old;
   told = goes_none here a;
   heard = grows_none x;
   each = (refl, refl, refl);
 }
 
-says_more : (b : Batch) (id : ℕ) (lines : List (List ℕ)) (line said one : List ℕ)
-    → Says b id lines said → IsSaid b (id + length lines) line one
-    → Says b id (lines ++ line ∷ []) (said ++ one)
-says_more b id [] line said one h next = (
-  one,
-  [],
-  subst (λ n. IsSaid b n line one) (omega arith) next,
-  refl,
-  ap (λ x. x ++ one) h ∙ sym (append-nil one),
-)
-says_more b id (l ∷ lines) line said one h next = (
-  h.0,
-  h.1 ++ one,
-  h.2,
-  says_more b (id + 1) lines line h.1 one h.3 (subst (λ n. IsSaid b n line one) (omega arith) next),
-  ap (λ x. x ++ one) h.4 ∙ append_assoc h.0 h.1 one,
-)
-
 said_more : (b : Batch) (id : ℕ) (lines : List (List ℕ)) (line said : List ℕ) (last : FrameBody)
-    (asked one : List Asked) (notices : List Notice)
+    (asked one : List Asked) (notices heard : List Notice)
     → SaidBy b id lines said asked notices
-    → EnteredBy b.waits b.receiver (id + length lines) line last one → ends_run b last ≡ false
+    → IsEntered b.waits b.receiver (id + length lines) line last
+    → EnteredBy b.waits b.receiver (id + length lines) line last one heard
+    → ends_run b last ≡ false
     → SaidBy b id (lines ++ line ∷ []) (said ++ reply_text last) (asked ++ one)
-    (notices ++ line_notices (id + length lines) line one (told_answer last))
-said_more b id [] line said last asked one notices h next on =
+    (notices ++ line_notices (id + length lines) line heard (told_answer last))
+said_more b id [] line said last asked one notices heard h entered next on =
     let none : id + 0 ≡ id = omega arith in
-    let told = line_notices (id + 0) line one (told_answer last) in (
+    let told = line_notices (id + 0) line heard (told_answer last) in (
       last,
       [],
       one,
       [],
+      heard,
       [],
-      subst (λ n. EnteredBy b.waits b.receiver n line last one) none next,
+      subst (λ n. IsEntered b.waits b.receiver n line last) none entered,
+      subst (λ n. EnteredBy b.waits b.receiver n line last one heard) none next,
       on,
       (refl, refl, refl),
       ap (λ x. x ++ reply_text last) h.0 ∙ sym (append-nil (reply_text last)),
       ap (λ x. x ++ one) h.1 ∙ sym (append-nil one),
       ap (λ x. x ++ told) h.2
-          ∙ ap (λ n. line_notices n line one (told_answer last)) none
-          ∙ sym (append-nil (line_notices id line one (told_answer last))),
+          ∙ ap (λ n. line_notices n line heard (told_answer last)) none
+          ∙ sym (append-nil (line_notices id line heard (told_answer last))),
     )
-said_more b id (l ∷ lines) line said last asked one notices h next on =
+said_more b id (l ∷ lines) line said last asked one notices heard h entered next on =
     let same : id + length (l ∷ lines) ≡ id + 1 + length lines = omega arith in
-    let told = line_notices (id + length (l ∷ lines)) line one (told_answer last) in
-    let first = line_notices id l h.2 (told_answer h.0) in (
+    let told = line_notices (id + length (l ∷ lines)) line heard (told_answer last) in
+    let first = line_notices id l h.4 (told_answer h.0) in (
       h.0,
       h.1 ++ reply_text last,
       h.2,
       h.3 ++ one,
-      h.4 ++ told,
-      h.5,
+      h.4,
+      h.5 ++ told,
       h.6,
+      h.7,
+      h.8,
       subst (λ n. SaidBy b (id + 1) (lines ++ line ∷ []) (h.1 ++ reply_text last) (h.3 ++ one)
-          (h.4 ++ line_notices n line one (told_answer last))) (sym same)
-          (said_more b (id + 1) lines line h.1 last h.3 one h.4 h.7
-          (subst (λ n. EnteredBy b.waits b.receiver n line last one) same next) on),
-      ap (λ x. x ++ reply_text last) h.8 ∙ append_assoc (reply_text h.0) h.1 (reply_text last),
-      ap (λ x. x ++ one) h.9 ∙ append_assoc h.2 h.3 one,
-      ap (λ x. x ++ told) h.10 ∙ append_assoc first h.4 told,
+          (h.5 ++ line_notices n line heard (told_answer last))) (sym same)
+          (said_more b (id + 1) lines line h.1 last h.3 one h.5 heard h.9
+          (subst (λ n. IsEntered b.waits b.receiver n line last) same entered)
+          (subst (λ n. EnteredBy b.waits b.receiver n line last one heard) same next) on),
+      ap (λ x. x ++ reply_text last) h.10 ∙ append_assoc (reply_text h.0) h.1 (reply_text last),
+      ap (λ x. x ++ one) h.11 ∙ append_assoc h.2 h.3 one,
+      ap (λ x. x ++ told) h.12 ∙ append_assoc first h.5 told,
     )
 
 -- one more line was entered
@@ -108,31 +95,28 @@ one_more : {here : Place} (b : Batch) (lines : List (List ℕ)) (n : ℕ) (line 
     (asked : List Asked) (notices : List Notice) (old new new' : Option (List ℕ))
     (x y z : Option (List Notice)) (from mid to : Standing)
     → Entered here b lines said asked notices old new x y from mid → n ≡ length lines
-    → (e : EntersLine b n line (record { place = here; old = mid; new = to }) (between y z) new
+    → (e : EntersLine b n line (way here mid to) (between y z) new
     new')
     → Entered here b (lines ++ line ∷ []) (said ++ reply_text e.last) (asked ++ e.asked.0)
-    (notices ++ line_notices (b.first_id + n) line e.asked.0 (told_answer e.last)) old new' x z from
-    to
+    (notices ++ line_notices (b.first_id + n) line e.asked.2.1.0 (told_answer e.last)) old new' x z
+    from to
 one_more {here} b lines n line said asked notices old new new' x y z from mid to h count e =
+    let heard = e.asked.2.1.0 in
+    let told = line_notices (b.first_id + n) line heard (told_answer e.last) in
     record {
-      entered =
-          says_more b b.first_id lines line said (reply_text e.last) h.entered
-          (subst (λ k. IsSaid b (b.first_id + k) line (reply_text e.last)) count
-          (e.last, e.entered, refl));
       written = Appends-trans old new new' said (reply_text e.last) h.written e.written;
       told = goes_more here from mid to asked e.asked.0 h.told e.asked.1;
-      heard =
-          grows_more x y z notices
-          (line_notices (b.first_id + n) line e.asked.0 (told_answer e.last)) h.heard e.asked.2.1;
+      heard = grows_more x y z notices told h.heard (subst (Grows y z) e.asked.2.1.2 e.asked.2.2);
       each =
           subst
           (λ k. SaidBy b b.first_id (lines ++ line ∷ []) (said ++ reply_text e.last)
           (asked ++ e.asked.0)
-          (notices ++ line_notices (b.first_id + k) line e.asked.0 (told_answer e.last)))
+          (notices ++ line_notices (b.first_id + k) line heard (told_answer e.last)))
           (sym count)
-          (said_more b b.first_id lines line said e.last asked e.asked.0 notices h.each
-          (subst (λ k. EnteredBy b.waits b.receiver (b.first_id + k) line e.last e.asked.0) count
-          e.asked.2.0)
+          (said_more b b.first_id lines line said e.last asked e.asked.0 notices heard h.each
+          (subst (λ k. IsEntered b.waits b.receiver (b.first_id + k) line e.last) count e.entered)
+          (subst (λ k. EnteredBy b.waits b.receiver (b.first_id + k) line e.last e.asked.0 heard)
+          count e.asked.2.1.1)
           e.goes_on);
     }
 
@@ -172,11 +156,11 @@ pub next_entered : {here : Place} (b : Batch) (commands : List Numbered) (i : �
     (old new new' : Option (List ℕ)) (x y z : Option (List Notice)) (from mid to : Standing)
     → i < length commands → c ≡ get_or commands i c
     → AreEntered here b commands i old new x y from mid
-    → EntersLine b i c.text (record { place = here; old = mid; new = to }) (between y z) new new'
+    → EntersLine b i c.text (way here mid to) (between y z) new new'
     → AreEntered here b commands (i + 1) old new' x z from to
 next_entered {here} b commands i c old new new' x y z from mid to within at h e =
     let line : c.text ≡ (get_or commands i c).text = ap (λ (k : Numbered). k.text) at in
-    let told = line_notices (b.first_id + i) c.text e.asked.0 (told_answer e.last) in (
+    let told = line_notices (b.first_id + i) c.text e.asked.2.1.0 (told_answer e.last) in (
       h.0 ++ reply_text e.last,
       h.1 ++ e.asked.0,
       h.2 ++ told,
@@ -195,7 +179,8 @@ all_entered : {here : Place} (b : Batch) (lines : List (List ℕ)) (said : List 
     → Entered here b lines said asked notices old new x y from to
     → AsksLines (Goes here from to) (between x y) b lines old new
 all_entered b lines said asked notices old new x y from to h = record {
-  enters = record { said = said; entered = h.entered; written = h.written };
+  said = said;
+  written = h.written;
   asked = asked;
   told = h.told;
   notices = notices;
@@ -206,71 +191,51 @@ all_entered b lines said asked notices old new x y from to h = record {
 whole_after : (f : BatchFault) (old new new' : Option (List ℕ)) (said next : List ℕ)
     → Appends old new said → IsWhole f new new' next → IsWhole f old new' (said ++ next)
 whole_after fault.AtRefusal old new new' said next h k = Appends-trans old new new' said next h k
-whole_after (fault.Asking e) old new new' said next h k = tt
-whole_after fault.TextTooLong old new new' said next h k = tt
-whole_after fault.NoMoreIds old new new' said next h k = tt
-whole_after fault.CannotConnect old new new' said next h k = tt
-whole_after fault.Late old new new' said next h k = tt
-whole_after fault.NoKey old new new' said next h k = tt
-whole_after fault.OtherKey old new new' said next h k = tt
-whole_after fault.HasKey old new new' said next h k = tt
-whole_after fault.StillPending old new new' said next h k = tt
-whole_after fault.Lost old new new' said next h k = tt
-whole_after fault.AnotherCommand old new new' said next h k = tt
-whole_after fault.Write old new new' said next h k = tt
-whole_after fault.NoMemory old new new' said next h k = tt
+whole_after _ old new new' said next h k = tt
 
--- the next one was not entered, or not told, or refused
+-- the next one was not entered, or not printed, or refused
 stops_in : {here : Place} (f : BatchFault) (b : Batch) (all lines others : List (List ℕ)) (n : ℕ)
     (line said : List ℕ) (asked : List Asked) (notices : List Notice)
     (old new new' : Option (List ℕ)) (x y z : Option (List Notice))
     (from mid to : Standing) → all ≡ lines ++ line ∷ others
     → Entered here b lines said asked notices old new x y from mid → n ≡ length lines
-    → FailsLine IsOfAsking f b (b.first_id + n) line new new'
-    → Asks here mid to (StopsTelling (between y z) f b (b.first_id + n) line)
-    → AsksFront (Goes here from to) (between x z) IsOfAsking f b all old new'
+    → FailsLine f b n line (way here mid to) (between y z) new new'
+    → AsksFront (Goes here from to) (between x z) f b all old new'
 stops_in {here} f b all lines others n line said asked notices old new new' x y z from mid to parts
-    h count e k =
+    h count e =
+    let k = e.asked in
     record {
-      stops = record {
-        enters = record {
-          front = lines;
-          line = line;
-          others = others;
-          parts = parts;
-          said = said;
-          entered = h.entered;
-          next = e.said;
-          written = part_after old new new' said e.said h.written e.written;
-        };
-        whole = whole_after f old new new' said e.said h.written e.whole;
-        cause = subst (λ i. StopsLine IsOfAsking f b (b.first_id + i) line e.said) count e.stops;
-      };
+      front = lines;
+      line = line;
+      others = others;
+      parts = parts;
+      said = said;
+      next = e.said;
+      written = part_after old new new' said e.said h.written e.written;
+      whole = whole_after f old new new' said e.said h.written e.whole;
       asked = asked;
       behind = k.0;
       told = goes_more here from mid to asked k.0 h.told k.1;
       notices = notices;
-      last = k.2.1;
-      heard = grows_more x y z notices k.2.1 h.heard k.2.2;
+      last = k.2.0;
+      heard = grows_more x y z notices k.2.0 h.heard k.2.2;
       each = h.each;
-      next = subst (λ i. StopsAsking f b.receiver (b.first_id + i) line k.0) count k.2.0;
-      ends = subst (λ i. TellsStop f b (b.first_id + i) line k.0 k.2.1) count k.2.3;
+      ends = subst (λ i. StopsBehind f b (b.first_id + i) line e.said k.0 k.2.0) count k.2.1;
     }
 
 pub stops_at : {here : Place} (f : BatchFault) (b : Batch) (commands : List Numbered) (i : ℕ)
     (c : Numbered) (old new new' : Option (List ℕ)) (x y z : Option (List Notice))
     (from mid to : Standing) → i < length commands → c ≡ get_or commands i c
     → AreEntered here b commands i old new x y from mid
-    → FailsLine IsOfAsking f b (b.first_id + i) c.text new new'
-    → Asks here mid to (StopsTelling (between y z) f b (b.first_id + i) c.text)
-    → AsksFront (Goes here from to) (between x z) IsOfAsking f b (texts_of commands) old new'
-stops_at f b commands i c old new new' x y z from mid to within at h e k =
+    → FailsLine f b i c.text (way here mid to) (between y z) new new'
+    → AsksFront (Goes here from to) (between x z) f b (texts_of commands) old new'
+stops_at f b commands i c old new new' x y z from mid to within at h e =
     let line : c.text ≡ (get_or commands i c).text = ap (λ (k : Numbered). k.text) at in
     stops_in f b (texts_of commands) (texts_of (take i commands))
     (texts_of (drop (suc i) commands)) i c.text h.0 h.1 h.2 old new new' x y z from mid to
     (texts_parted commands i c within
     ∙ ap (λ t. texts_of (take i commands) ++ t ∷ texts_of (drop (suc i) commands)) (sym line))
-    h.3 (texts_count commands i within) e k
+    h.3 (texts_count commands i within) e
 
 -- all of the commands were entered
 pub whole_list : {here : Place} (b : Batch) (commands : List Numbered) (i : ℕ)

@@ -1,8 +1,8 @@
 -- Requests that are made one after the other, over connections that are kept.
-use Rattle.std.proofs.Common.{◌++◌, ◌∷◌, [], List, Option, None, Some, refl, sym, ap, ◌∙◌}
-use Rattle.std.proofs.Common.{append_assoc, append-nil, subst}
+use Rattle.std.proofs.Common.{ℕ, ◌++◌, ◌∷◌, [], List, Option, None, Some, refl, sym, ap, ◌∙◌}
+use Rattle.std.proofs.Common.{append_assoc, append-nil, inl, subst}
 use Rattle.batch.specs.Dialing.{Adds, AreMade, Asked, Dialed, Dials, Goes, Grows, IsMade, LetsGo}
-use Rattle.batch.specs.Dialing.{Line, Place, Standing, closed}
+use Rattle.batch.specs.Dialing.{Place, Standing, closed}
 
 -- nothing more is told
 pub grows_none : {A : Type 0} (a : Option (List A)) → Grows a a []
@@ -20,14 +20,7 @@ grows_more (Some x) (Some y) None xs ys h k = tt
 grows_more (Some x) (Some y) (Some z) xs ys h k =
     k ∙ ap (λ l. l ++ ys) h ∙ append_assoc x xs ys
 
-pub dials_none : (a : Option (List Dialed)) → Dials a a []
-dials_none a = grows_none a
-
-pub dials_more : (a b c : Option (List Dialed)) (xs ys : List Dialed) → Dials a b xs → Dials b c ys
-    → Dials a c (xs ++ ys)
-dials_more a b c xs ys h k = grows_more a b c xs ys h k
-
-made_more : (p : Place) (asked more : List Asked) (a b c : Option Line) (xs ys : List Dialed)
+made_more : (p : Place) (asked more : List Asked) (a b c : ℕ) (xs ys : List Dialed)
     → AreMade p asked a b xs → AreMade p more b c ys → AreMade p (asked ++ more) a c (xs ++ ys)
 made_more p [] more a b c xs ys h k =
     subst (λ d. AreMade p more a c (d ++ ys)) (sym h.1)
@@ -41,31 +34,26 @@ made_more p (r ∷ asked) more a b c xs ys h k = (
   ap (λ d. d ++ ys) h.5 ∙ append_assoc h.1 h.2 ys,
 )
 
--- nothing was asked, and nothing was done with connections
-pub goes_still : (here : Place) (a b : Option (List Dialed)) (line : Option Line) → Dials a b []
-    → Goes here (record { dialed = a; line = line }) (record { dialed = b; line = line }) []
-goes_still here a b line h = record { dialed = []; told = h; made = (refl, refl) }
-
 -- nothing was asked
 pub goes_none : (here : Place) (a : Standing) → Goes here a a []
-goes_none here a = goes_still here a.dialed a.dialed a.line (dials_none a.dialed)
+goes_none here a = record { dialed = []; told = grows_none a.dialed; each = (refl, refl) }
 
 pub goes_more : (here : Place) (a b c : Standing) (xs ys : List Asked) → Goes here a b xs
     → Goes here b c ys → Goes here a c (xs ++ ys)
 goes_more here a b c xs ys h k = record {
   dialed = h.dialed ++ k.dialed;
-  told = dials_more a.dialed b.dialed c.dialed h.dialed k.dialed h.told k.told;
-  made = made_more here xs ys a.line b.line c.line h.dialed k.dialed h.made k.made;
+  told = grows_more a.dialed b.dialed c.dialed h.dialed k.dialed h.told k.told;
+  each = made_more here xs ys a.made b.made c.made h.dialed k.dialed h.each k.each;
 }
 
 -- one request was made
 pub goes_by : (here : Place) (a b : Standing) (one : Asked) (dialed : List Dialed)
-    → Dials a.dialed b.dialed dialed → IsMade here a.line one b.line dialed
+    → Dials a.dialed b.dialed dialed → IsMade here a.made one b.made dialed
     → Goes here a b (one ∷ [])
 goes_by here a b one dialed h is = record {
   dialed = dialed;
   told = h;
-  made = (b.line, dialed, [], is, (refl, refl), sym (append-nil dialed));
+  each = (b.made, dialed, [], is, (refl, refl), sym (append-nil dialed));
 }
 
 -- ---- where none is kept before and afterwards
@@ -74,7 +62,7 @@ pub adds_none : (here : Place) (a : Option (List Dialed)) → Adds here a a []
 adds_none here a = record {
   last = closed a;
   goes = goes_none here (closed a);
-  ends = record { dialed = []; told = dials_none a; ended = refl };
+  ends = inl (refl, refl);
 }
 
 pub adds_by : (here : Place) (a : Option (List Dialed)) (b : Standing) (c : Option (List Dialed))

@@ -4,8 +4,6 @@ pub mod Connections
 pub mod EachLine
 pub mod Entered
 pub mod Going
-pub mod Heard
 pub mod Trying
 pub mod Newest
 pub mod Parts
-pub mod Telling

@@ -1,7 +1,6 @@
 -- Requests to a desk, and what came of each (the project's own).
-use Rattle.std.specs.Prelude.{◌≡◌, ◌⊎◌, ◌+◌, ◌++◌, ◌∷◌, [], ℕ, List, Ok, Err, IsOk, IsOkAnd}
-use Rattle.std.specs.Prelude.{Bool, true, false, if◌then◌else◌}
-use Rattle.std.specs.List.{AllByRecursion}
+use Rattle.std.specs.Prelude.{◌≡◌, ◌⊎◌, ◌+◌, ◌/◌, ◌++◌, ◌∷◌, [], ℕ, List, Result, Ok, Err, IsOk}
+use Rattle.std.specs.Prelude.{IsOkAnd, Bool, true, false, if◌then◌else◌}
 use Rattle.client.specs.Answers.{judged}
 use Rattle.client.specs.Standings.{await_request, log_request}
 use Rattle.client.specs.declared.fault.ClientFault.TheVariants.{Refused}
@@ -14,10 +13,12 @@ use Rattle.wire.specs.declared.values.CommandState.TheVariants.{Done, Unknown}
 use Rattle.wire.specs.declared.values.Version.{Version}
 use Rattle.wire.specs.declared.values.Version.TheVariants.{One, Four, Five}
 pub use Rattle.batch.specs.Dialing.{Adds, Asked, Asks, Goes, Told, asked_so, told}
+use Rattle.batch.specs.Watching.{Notice, waits_of}
 use Rattle.batch.specs.declared.asking.Receiver.{Receiver}
 use Rattle.batch.specs.declared.fault.BatchFault.{BatchFault}
 use Rattle.batch.specs.declared.fault.BatchFault.TheVariants.{Asking, CannotConnect, Late, NoMemory}
 use Rattle.batch.specs.declared.fault.BatchFault.TheVariants.{NoKey, OtherKey, HasKey}
+use Rattle.batch.specs.declared.fault.BatchFault.TheVariants.{StillPending, Lost}
 
 -- what became of a command is asked in version 4, which tells each code; one is entered in version
 -- 5 where the desk knows it, which tells each refusal; the others are of version 1
@@ -85,23 +86,13 @@ IsTicked r a = (a.request ≡ tick_of r) × IsOk a.answer
 abbrev pub IsFull : Frame → Asked → Type 0
 IsFull submit a = (a.request ≡ submit) × (a.answer ≡ Err (Asking (Refused Busy)))
 
--- the desk's queue was full, or it was ticked
-abbrev pub IsTurnedDown : Receiver → Frame → Asked → Type 0
-IsTurnedDown r submit a = IsFull submit a ⊎ IsTicked r a
-
 -- the desk was asked, and answered neither that the command is decided nor that it knows nothing
 -- of it
 abbrev pub IsWaiting : Frame → Asked → Type 0
 IsWaiting ask a =
     (a.request ≡ ask) × IsOkAnd a.answer (λ told. IsAnswer ask told × IsPending told)
 
--- to this request it did not answer that it knows nothing of the command
-abbrev pub IsKnown : Frame → Asked → Type 0
-IsKnown ask a = a.request ≡ ask → (told : FrameBody) → a.answer ≡ Ok told → ¬ IsUnknown told
-
--- it was asked, and answered neither, or was ticked
-abbrev pub IsPutOff : Receiver → Frame → Asked → Type 0
-IsPutOff r ask a = IsWaiting ask a ⊎ IsTicked r a
+-- ---- requests that are made again and again
 
 -- of this many of the requests the one is said, and of this many, all that are left, the other
 abbrev pub Counts : (Asked → Type 0) → (Asked → Type 0) → ℕ → ℕ → List Asked → Type 0
@@ -110,55 +101,78 @@ Counts Is IsElse m n (a ∷ asked) =
     (Is a × (k : ℕ) × (m ≡ k + 1) × Counts Is IsElse k n asked)
     ⊎ (IsElse a × (k : ℕ) × (n ≡ k + 1) × Counts Is IsElse m k asked)
 
--- of 10,000 requests this is said, and the others are ticks, one for each 32 of them
-abbrev pub AreAllTries : (Asked → Type 0) → Receiver → List Asked → Type 0
-AreAllTries Is r = Counts Is (IsTicked r) 10000 312
+-- how often the desk is ticked in this many tries: after each one where it waits with its answers,
+-- and else after every 32nd
+abbrev pub ticks_in : Bool → ℕ → ℕ
+ticks_in true tries = tries
+ticks_in false tries = tries / 32
 
-abbrev pub AreAllWaitsBy : Bool → (Asked → Type 0) → Receiver → List Asked → Type 0
-AreAllWaitsBy true Is r asked = Counts Is (IsTicked r) 300 300 asked
-AreAllWaitsBy false Is r asked = AreAllTries Is r asked
+-- how often it is asked at most what became of a command
+abbrev pub most_asked : Bool → ℕ
+most_asked true = 300
+most_asked false = 10000
 
--- it was asked as often as it is at most: where the desk waits with its answers, 300 times, a
--- second each, and after each one the desk was ticked
-abbrev pub AreAllWaits : (Asked → Type 0) → Receiver → List Asked → Type 0
-AreAllWaits Is r asked = AreAllWaitsBy r.awaits Is r asked
+-- these are so many tries, of each of which this is said, and the ticks among them and after them
+abbrev pub AreTries : (Asked → Type 0) → Receiver → Bool → ℕ → List Asked → Type 0
+AreTries Is r waits tries asked = Counts Is (IsTicked r) tries (ticks_in waits tries) asked
 
--- one of these two was asked, or for a tick, or for the log from some position on
-abbrev pub IsOneOf : Receiver → Frame → Frame → Asked → Type 0
-IsOneOf r submit ask a =
-    (a.request ≡ submit) ⊎ ((a.request ≡ ask)
-    ⊎ ((a.request ≡ tick_of r) ⊎ ((pos : ℕ) × (a.request ≡ log_of r pos))))
-
--- the request was made until this was answered; of each one in front this is said
-pub record Tries (Is : Asked → Type 0) (request : Frame) (answer : FrameBody) (asked : List Asked)
-    : Type 0 where
+-- after this many tries, each of which the observer hears of, the request was made once more, and
+-- this came of it
+pub record EndsTries (Is : Asked → Type 0) (r : Receiver) (waits : Bool) (request : Frame)
+    (answer : Result FrameBody BatchFault) (tries : ℕ) (asked : List Asked)
+    (told : List Notice) : Type 0 where
   pub front : List Asked
-  pub each : AllByRecursion Is front
-  pub parts : asked ≡ front ++ (record { request = request; answer = Ok answer }) ∷ []
+  pub each : AreTries Is r waits tries front
+  pub parts : asked ≡ front ++ asked_so request answer ∷ []
+  pub heard : told ≡ waits_of tries
 
--- the request that enters a text was made until the queue had room
-abbrev pub IsTakenOf : Receiver → Frame → FrameBody → List Asked → Type 0
-IsTakenOf r submit = Tries (IsTurnedDown r submit) submit
+-- so it was after some tries
+abbrev pub Tries : (Asked → Type 0) → Receiver → Bool → Frame → Result FrameBody BatchFault
+    → List Asked → List Notice → Type 0
+Tries Is r waits request answer asked told =
+    (tries : ℕ) × EndsTries Is r waits request answer tries asked told
+
+-- after some tries, each of which the observer hears of, a tick failed by this fault
+pub record TickFails (Is : Asked → Type 0) (r : Receiver) (waits : Bool) (f : BatchFault)
+    (asked : List Asked) (told : List Notice) : Type 0 where
+  pub tries : ℕ
+  pub front : List Asked
+  pub last : Asked
+  pub each : AreTries Is r waits tries front
+  pub is : Is last
+  pub parts : asked ≡ (front ++ last ∷ []) ++ asked_so (tick_of r) (Err f) ∷ []
+  pub heard : told ≡ waits_of (tries + 1)
+
+-- the request that enters a text was made until the queue had room, and was answered so
+abbrev pub IsTakenOf : Receiver → Frame → FrameBody → List Asked → List Notice → Type 0
+IsTakenOf r submit answer = Tries (IsFull submit) r false submit (Ok answer)
 
 -- the text was entered with the id as soon as the queue had room
-abbrev pub IsTaken : Receiver → ℕ → List ℕ → FrameBody → List Asked → Type 0
+abbrev pub IsTaken : Receiver → ℕ → List ℕ → FrameBody → List Asked → List Notice → Type 0
 IsTaken r id text = IsTakenOf r (submit_of r id text)
 
--- it was asked for the id until it answered that it knows nothing of that
-pub record IsForgotten (r : Receiver) (id : ℕ) (asked : List Asked) : Type 0 where
-  pub last : FrameBody
-  pub tries : Tries (IsPutOff r (ask_of r id)) (ask_of r id) last asked
-  pub unknown : IsUnknown last
+-- it failed by this fault, after 10,000 tries where the queue was full still; or a tick failed
+abbrev pub IsTurnedOff : BatchFault → Receiver → Frame → List Asked → List Notice → Type 0
+IsTurnedOff f r submit asked told =
+    ((tries : ℕ) × EndsTries (IsFull submit) r false submit (Err f) tries asked told
+    × (f ≡ Asking (Refused Busy) → tries ≡ 10000))
+    ⊎ TickFails (IsFull submit) r false f asked told
+
+-- it was asked for the id until this was answered
+abbrev pub IsAskedFor : Receiver → ℕ → Result FrameBody BatchFault → List Asked → List Notice
+    → Type 0
+IsAskedFor r id = Tries (IsWaiting (ask_of r id)) r r.awaits (ask_of r id)
 
 -- it was asked for the id until that was decided
-pub record IsAwaited (r : Receiver) (id : ℕ) (last : FrameBody) (asked : List Asked) : Type 0 where
-  pub tries : Tries (IsPutOff r (ask_of r id)) (ask_of r id) last asked
-  pub decided : IsDecided last
+abbrev pub IsAwaited : Receiver → ℕ → FrameBody → List Asked → List Notice → Type 0
+IsAwaited r id last asked told = IsAskedFor r id (Ok last) asked told × IsDecided last
 
--- each request is for this text and id, or a tick, or for the log
-abbrev pub AreOf : Receiver → ℕ → List ℕ → List Asked → Type 0
-AreOf r id text = AllByRecursion (IsOneOf r (submit_of r id text) (ask_of r id))
-
--- no answer to the request for the id says that the desk knows nothing of it
-abbrev pub AreKnown : Receiver → ℕ → List Asked → Type 0
-AreKnown r id = AllByRecursion (IsKnown (ask_of r id))
+-- Asking for the id ended otherwise: a question failed, or a tick; or it was asked as often as it
+-- is at most; or the desk answered that it knows nothing of the id.
+abbrev pub EndsWaiting : BatchFault → Receiver → ℕ → List Asked → List Notice → Type 0
+EndsWaiting f r id asked told =
+    IsAskedFor r id (Err f) asked told
+    ⊎ (TickFails (IsWaiting (ask_of r id)) r r.awaits f asked told
+    ⊎ (((f ≡ StillPending) × AreTries (IsWaiting (ask_of r id)) r r.awaits
+    (most_asked r.awaits) asked × (told ≡ waits_of (most_asked r.awaits)))
+    ⊎ ((f ≡ Lost) × (last : FrameBody) × IsUnknown last × IsAskedFor r id (Ok last) asked told)))

@@ -7,8 +7,8 @@ use Rattle.wire.specs.declared.frame.FrameBody.{FrameBody}
 use Rattle.wire.specs.declared.frame.FrameBody.TheVariants as what
 use Rattle.wire.specs.declared.values.CommandState.TheVariants.{Done}
 use Rattle.batch.specs.Asking.{IsAnswer, log_of}
-use Rattle.batch.specs.Dialing.{Asked, AsksBy, Way, asked_so}
-use Rattle.batch.specs.Watching.{Telling, Watched, notices_by, notices_of}
+use Rattle.batch.specs.Dialing.{Asked, asked_so}
+use Rattle.batch.specs.Watching.{Another, Notice}
 use Rattle.batch.specs.declared.asking.Receiver.{Receiver}
 use Rattle.batch.specs.declared.fault.BatchFault.{BatchFault}
 use Rattle.batch.specs.declared.fault.BatchFault.TheVariants as fault
@@ -42,21 +42,24 @@ pub record IsConfirmed (r : Receiver) (id : ℕ) (text : List ℕ) (told : Frame
   pub own : IsEntryAt r pos (entry_of id text) answer
   pub parts : asked ≡ asked_so (log_of r pos) (Ok answer) ∷ []
 
--- the request failed, or the entry at the position is another one, or the answer has none
-abbrev pub IsNotOwn : BatchFault → Receiver → ℕ → Entry → Result FrameBody BatchFault → Type 0
-IsNotOwn f r pos own (Err e) = f ≡ e
-IsNotOwn f r pos own (Ok answer) =
+-- the request failed, or the entry at the position is another one, which the observer hears, or the
+-- answer has none
+abbrev pub IsNotOwn : BatchFault → Receiver → ℕ → Entry → Result FrameBody BatchFault
+    → List Notice → Type 0
+IsNotOwn f r pos own (Err e) heard = (f ≡ e) × (heard ≡ [])
+IsNotOwn f r pos own (Ok answer) heard =
     ((f ≡ fault.AnotherCommand)
-    × (entry : Entry) × IsEntryAt r pos entry answer × (entry ≢ own))
-    ⊎ ((f ≡ fault.Asking NoAnswer) × ((entry : Entry) → ¬ HasFirst answer entry))
+    × (entry : Entry) × IsEntryAt r pos entry answer × (entry ≢ own)
+    × (heard ≡ Another entry ∷ []))
+    ⊎ ((f ≡ fault.Asking NoAnswer) × ((entry : Entry) → ¬ HasFirst answer entry) × (heard ≡ []))
 
 -- so it was asked, and by this fault the entry there was not seen to be this id and this text
 pub record IsUnconfirmed (f : BatchFault) (r : Receiver) (id : ℕ) (text : List ℕ) (told : FrameBody)
-    (asked : List Asked) : Type 0 where
+    (asked : List Asked) (heard : List Notice) : Type 0 where
   pub pos : ℕ
   pub result : Result FrameBody BatchFault
   pub stands : IsDecidedAt pos told
-  pub why : IsNotOwn f r pos (entry_of id text) result
+  pub why : IsNotOwn f r pos (entry_of id text) result heard
   pub parts : asked ≡ asked_so (log_of r pos) result ∷ []
 
 -- the entry at the position at which the desk has reported the command to be is another one
@@ -66,11 +69,6 @@ IsAnother f r id text told =
     × (entry : Entry) × (answer : FrameBody) × IsEntryAt r pos entry answer
     × (entry ≢ entry_of id text)
 
--- by these requests the entry in the log is seen to be the command, and the observer hears so
-abbrev pub Confirms : Receiver → ℕ → List ℕ → FrameBody → Way → Watched → Type 0
-Confirms r id text told w v = AsksBy w (Telling v notices_of (IsConfirmed r id text told))
-
--- by this fault it is not seen to be, and the observer hears so
-abbrev pub Doubts : BatchFault → Receiver → ℕ → List ℕ → FrameBody → Way → Watched → Type 0
-Doubts f r id text told w v =
-    AsksBy w (Telling v (notices_by f) (IsUnconfirmed f r id text told))
+-- so it was asked, and the observer hears nothing of that
+abbrev pub Confirms : Receiver → ℕ → List ℕ → FrameBody → List Asked → List Notice → Type 0
+Confirms r id text told asked heard = IsConfirmed r id text told asked × (heard ≡ [])

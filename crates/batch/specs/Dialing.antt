@@ -1,8 +1,8 @@
 -- What becomes of connections to desks, where that is known, and how requests are made over them
 -- (the project's own).
-use Rattle.std.specs.Prelude.{◌≡◌, ◌⊎◌, ◌++◌, ◌+◌, ◌<◌, ◌≤◌, ◌∷◌, [], ℕ, List, Option, None, Some}
-use Rattle.std.specs.Prelude.{Result, Ok, Err, ⊤}
-use Rattle.client.specs.Exchange.{Exchanges, Sides}
+use Rattle.std.specs.Prelude.{◌≡◌, ◌⊎◌, ◌++◌, ◌+◌, ◌<◌, ◌≤◌, ◌∷◌, [], ℕ, Bool, true, false}
+use Rattle.std.specs.Prelude.{if◌then◌else◌, List, Option, None, Some, Result, Ok, Err, ⊤}
+use Rattle.client.specs.Answers.{judged}
 use Rattle.client.specs.declared.fault.ClientFault.{ClientFault}
 use Rattle.client.specs.declared.fault.ClientFault.TheVariants as client
 use Rattle.wire.specs.declared.frame.Frame.{Frame}
@@ -24,14 +24,14 @@ pub record Place : Type 0 where
 abbrev pub place_of : Contact → Place
 place_of c = record { to = c.address.now; patience = c.patience; key = c.key }
 
--- A connection was opened to this place: what comes over it, and what was written in front of the
--- request. None could be opened to it. One more request is made over the connection that is open.
--- It was ended: what is left of what came, what was written in all, and what is known of its end.
+-- A connection was opened to this place. None could be opened to it. Over the one that was opened
+-- last a request was made, and this frame came first, or none did. It was ended, and this is known
+-- of its end.
 pub data Dialed : Type 0 where
-  Opened : Place → (had old : Option (List ℕ)) → Dialed
+  Opened : Place → Dialed
   Failed : Place → Dialed
-  Again : Dialed
-  Ended : (left new : Option (List ℕ)) → ConnectionLoss → Dialed
+  Came : (request : Frame) → Result Frame ClientFault → Dialed
+  Ended : ConnectionLoss → Dialed
 
 -- what is told grows by these, in order, where it is known; who tells may stop, and never begins
 abbrev pub Grows : {A : Type 0} → Option (List A) → Option (List A) → List A → Type 0
@@ -75,148 +75,119 @@ answer_of (Err e) ending = Err (fault_of e ending)
 
 -- ---- one request
 
--- the connection that is kept for the next request: what is left of what comes over it, what was
--- written to it, and how many requests were made over it
-pub record Line : Type 0 where
-  pub left : Option (List ℕ)
-  pub new : Option (List ℕ)
-  pub made : ℕ
-
--- A request begins, where this connection is kept, or none. It is made over the one that is kept,
--- over which fewer than 64 were made, or over a new one to the place.
-abbrev pub Begins : Place → Option Line → Sides → ℕ → List Dialed → Type 0
-Begins p None s made dialed = (made ≡ 0) × (dialed ≡ Opened p s.had s.old ∷ [])
-Begins p (Some l) s made dialed =
-    (l ≡ record { left = s.had; new = s.old; made = made }) × (made < 64) × (dialed ≡ Again ∷ [])
+-- what is made of the first frame that came after a request, or of none
+abbrev pub heard_as : Frame → Result Frame ClientFault → Result FrameBody ClientFault
+heard_as request (Ok given) = judged request given
+heard_as request (Err e) = Err e
 
 -- the desk answered, or refused
-abbrev pub IsAnswered : Result FrameBody ClientFault → Type 0
-IsAnswered (Ok answer) = Unit {0}
-IsAnswered (Err (client.Refused refusal)) = Unit {0}
-IsAnswered (Err client.NoAnswer) = ⊥
-IsAnswered (Err client.Write) = ⊥
-IsAnswered (Err client.NoMemory) = ⊥
-
--- After a request the connection is kept where the desk answered or refused, with one request more,
--- and else it was ended.
-abbrev pub Leaves : Sides → ℕ → Result FrameBody ClientFault → ConnectionLoss → Option Line
-    → List Dialed
-    → Type 0
-Leaves s made result ending None dialed =
-    (¬ IsAnswered result) × (dialed ≡ Ended s.left s.new ending ∷ [])
-Leaves s made result ending (Some l) dialed =
-    IsAnswered result × (ending ≡ Own)
-    × (l ≡ record { left = s.left; new = s.new; made = made + 1 }) × (dialed ≡ [])
+abbrev pub is_answered : Result FrameBody ClientFault → Bool
+is_answered (Ok answer) = true
+is_answered (Err (client.Refused refusal)) = true
+is_answered (Err _) = false
 
 -- the desk ended the connection and did not answer: the request could not be written to it, or no
 -- answer came and the end was met
-abbrev pub IsHungUp : Result FrameBody ClientFault → ConnectionLoss → Type 0
-IsHungUp (Err client.Write) ending = Unit {0}
-IsHungUp (Err client.NoAnswer) Gone = Unit {0}
-IsHungUp (Err client.NoAnswer) Late = ⊥
-IsHungUp (Err client.NoAnswer) NoKey = ⊥
-IsHungUp (Err client.NoAnswer) OtherKey = ⊥
-IsHungUp (Err client.NoAnswer) HasKey = ⊥
-IsHungUp (Err client.NoAnswer) Own = ⊥
-IsHungUp (Err (client.Refused refusal)) ending = ⊥
-IsHungUp (Err client.NoMemory) ending = ⊥
-IsHungUp (Ok answer) ending = ⊥
+abbrev pub is_hung_up : Result FrameBody ClientFault → ConnectionLoss → Bool
+is_hung_up (Err client.Write) ending = true
+is_hung_up (Err client.NoAnswer) Gone = true
+is_hung_up _ ending = false
 
--- what came of it holds, unless it was made over a connection that was kept and is cut off
-abbrev pub Stands : Option Line → Result FrameBody ClientFault → ConnectionLoss → Type 0
-Stands None result ending = Unit {0}
-Stands (Some l) result ending = ¬ IsHungUp result ending
+-- how many requests were made over the connection that is kept after one more; none is kept where
+-- the desk did not answer
+abbrev pub made_after : Result FrameBody ClientFault → ℕ → ℕ
+made_after ended made = if is_answered ended then made + 1 else 0
 
--- the request was written to one connection and its answer read from it
-pub record IsExchanged (p : Place) (before : Option Line) (a : Asked) (after : Option Line)
-    (dialed : List Dialed) : Type 0 where
-  pub result : Result FrameBody ClientFault
-  pub sides : Sides
-  pub made : ℕ
-  pub ending : ConnectionLoss
-  pub front : List Dialed
-  pub rest : List Dialed
-  pub begins : Begins p before sides made front
-  pub exchanges : Exchanges result a.request sides
-  pub leaves : Leaves sides made result ending after rest
-  pub answer : a.answer ≡ answer_of result ending
-  pub stands : Stands before result ending
-  pub parts : dialed ≡ front ++ rest
+-- so the connection was ended, unless the desk answered
+abbrev pub ended_so : Result FrameBody ClientFault → ConnectionLoss → List Dialed
+ended_so ended ending = if is_answered ended then [] else Ended ending ∷ []
+
+-- a request was made over a connection, this came of it, and this is known of the connection's end
+abbrev pub exchanged : Frame → Result Frame ClientFault → ConnectionLoss → List Dialed
+exchanged request came ending =
+    Came request came ∷ ended_so (heard_as request came) ending
+
+-- the request was made over a connection over which this many were made before
+pub record IsExchanged (made : ℕ) (a : Asked) (came : Result Frame ClientFault)
+    (ending : ConnectionLoss) (after : ℕ) (dialed : List Dialed) : Type 0 where
+  pub answer : a.answer ≡ answer_of (heard_as a.request came) ending
+  pub kept : after ≡ made_after (heard_as a.request came) made
+  pub told : dialed ≡ exchanged a.request came ending
 
 -- no connection could be opened to the place, and nothing was asked
-abbrev pub IsUnreached : Place → Option Line → Asked → Option Line → List Dialed → Type 0
-IsUnreached p before a after dialed =
-    (before ≡ None) × (after ≡ None)
-    × ((a.answer ≡ Err fault.CannotConnect) ⊎ (a.answer ≡ Err fault.NoMemory))
-    × (dialed ≡ Failed p ∷ [])
+abbrev pub IsUnreached : Place → Asked → ℕ → List Dialed → Type 0
+IsUnreached p a after dialed =
+    ((a.answer ≡ Err fault.CannotConnect) ⊎ (a.answer ≡ Err fault.NoMemory))
+    × (after ≡ 0) × (dialed ≡ Failed p ∷ [])
 
--- the request was made once, over one connection to the place, or none could be opened
-abbrev pub IsOnce : Place → Option Line → Asked → Option Line → List Dialed → Type 0
-IsOnce p before a after dialed =
-    IsExchanged p before a after dialed ⊎ IsUnreached p before a after dialed
+-- the request was made over a new connection to the place, or none could be opened
+abbrev pub IsAnew : Place → Asked → ℕ → List Dialed → Type 0
+IsAnew p a after dialed =
+    IsUnreached p a after dialed
+    ⊎ ((came : Result Frame ClientFault) × (ending : ConnectionLoss) × (rest : List Dialed)
+    × IsExchanged 0 a came ending after rest × (dialed ≡ Opened p ∷ rest))
+
+-- it was made over the connection that is kept, over which fewer than 64 were made
+pub record IsOverKept (made : ℕ) (a : Asked) (after : ℕ) (dialed : List Dialed) : Type 0 where
+  pub some : 0 < made
+  pub few : made < 64
+  pub came : Result Frame ClientFault
+  pub ending : ConnectionLoss
+  pub over : IsExchanged made a came ending after dialed
+  pub stands : is_hung_up (heard_as a.request came) ending ≡ false
+
+-- it was made so, the connection was cut off at it, and it was made once more, over a new one
+pub record IsRepeated (p : Place) (made : ℕ) (a : Asked) (after : ℕ)
+    (dialed : List Dialed) : Type 0 where
+  pub some : 0 < made
+  pub few : made < 64
+  pub came : Result Frame ClientFault
+  pub ending : ConnectionLoss
+  pub cut : is_hung_up (heard_as a.request came) ending ≡ true
+  pub rest : List Dialed
+  pub again : IsAnew p a after rest
+  pub parts : dialed ≡ exchanged a.request came ending ++ rest
 
 -- 64 requests were made over the connection that was kept; it was ended, and the request was made
 -- over a new one
-pub record IsRenewed (p : Place) (before : Option Line) (a : Asked) (after : Option Line)
+pub record IsRenewed (p : Place) (made : ℕ) (a : Asked) (after : ℕ)
     (dialed : List Dialed) : Type 0 where
-  pub line : Line
+  pub full : 64 ≤ made
   pub ending : ConnectionLoss
   pub rest : List Dialed
-  pub kept : before ≡ Some line
-  pub full : 64 ≤ line.made
-  pub once : IsOnce p None a after rest
-  pub parts : dialed ≡ Ended line.left line.new ending ∷ rest
+  pub anew : IsAnew p a after rest
+  pub parts : dialed ≡ Ended ending ∷ rest
 
--- the request was made over the connection that was kept, which was cut off and ended
-pub record IsCut (p : Place) (l : Line) (request : Frame) (dialed : List Dialed) : Type 0 where
-  pub result : Result FrameBody ClientFault
-  pub sides : Sides
-  pub made : ℕ
-  pub ending : ConnectionLoss
-  pub front : List Dialed
-  pub begins : Begins p (Some l) sides made front
-  pub exchanges : Exchanges result request sides
-  pub cut : IsHungUp result ending
-  pub parts : dialed ≡ front ++ Ended sides.left sides.new ending ∷ []
-
--- a kept connection was cut off at the request, and it was made once more, over a new one
-pub record IsRepeated (p : Place) (before : Option Line) (a : Asked) (after : Option Line)
-    (dialed : List Dialed) : Type 0 where
-  pub line : Line
-  pub first : List Dialed
-  pub second : List Dialed
-  pub kept : before ≡ Some line
-  pub cut : IsCut p line a.request first
-  pub once : IsOnce p None a after second
-  pub parts : dialed ≡ first ++ second
-
--- The request was made once: over the connection that is kept, and over a new one where none is, or
--- that one is used up. Only where a kept connection was cut off at it, it was made once more.
-abbrev pub IsMade : Place → Option Line → Asked → Option Line → List Dialed → Type 0
-IsMade p before a after dialed =
-    IsOnce p before a after dialed
-    ⊎ (IsRenewed p before a after dialed ⊎ IsRepeated p before a after dialed)
+-- The request was made once: over the connection that is kept, over which this many were made, or
+-- over a new one where none is kept, which is 0, or that one is used up. Only where a kept
+-- connection was cut off at it, it was made once more.
+abbrev pub IsMade : Place → ℕ → Asked → ℕ → List Dialed → Type 0
+IsMade p made a after dialed =
+    ((made ≡ 0) × IsAnew p a after dialed)
+    ⊎ (IsOverKept made a after dialed
+    ⊎ (IsRepeated p made a after dialed ⊎ IsRenewed p made a after dialed))
 
 -- ---- requests one after the other
 
 -- These requests were made, one after the other, over connections to the place, of which one is
 -- kept before them, or none, and one afterwards, or none. Nothing else was done with connections.
-abbrev pub AreMade : Place → List Asked → (before after : Option Line) → List Dialed → Type 0
+abbrev pub AreMade : Place → List Asked → (before after : ℕ) → List Dialed → Type 0
 AreMade p [] before after dialed = (before ≡ after) × (dialed ≡ [])
 AreMade p (a ∷ asked) before after dialed =
-    (done : Option Line) × (one rest : List Dialed) × IsMade p before a done one
+    (done : ℕ) × (one rest : List Dialed) × IsMade p before a done one
     × AreMade p asked done after rest × (dialed ≡ one ++ rest)
 
--- what became of connections, where that is known, and the one that is kept
+-- what became of connections, where that is known, and how many requests were made over the one
+-- that is kept: 0 where none is
 pub record Standing : Type 0 where
   pub dialed : Option (List Dialed)
-  pub line : Option Line
+  pub made : ℕ
 
 -- it changes by these requests, and by nothing else
 pub record Goes (p : Place) (old new : Standing) (asked : List Asked) : Type 0 where
   pub dialed : List Dialed
   pub told : Dials old.dialed new.dialed dialed
-  pub made : AreMade p asked old.line new.line dialed
+  pub each : AreMade p asked old.made new.made dialed
 
 -- it changes by requests of which this is said
 abbrev pub Asks : Place → Standing → Standing → (List Asked → Type 0) → Type 0
@@ -224,17 +195,13 @@ Asks p old new Is = (more : List Asked) × Goes p old new more × Is more
 
 -- no connection is kept
 abbrev pub closed : Option (List Dialed) → Standing
-closed dialed = record { dialed = dialed; line = None }
+closed dialed = record { dialed = dialed; made = 0 }
 
 -- the connection that was kept was ended, where there was one
-abbrev pub IsLetGo : Option Line → List Dialed → Type 0
-IsLetGo None dialed = dialed ≡ []
-IsLetGo (Some l) dialed = (ending : ConnectionLoss) × (dialed ≡ Ended l.left l.new ending ∷ [])
-
-pub record LetsGo (old : Standing) (new : Option (List Dialed)) : Type 0 where
-  pub dialed : List Dialed
-  pub told : Dials old.dialed new dialed
-  pub ended : IsLetGo old.line dialed
+abbrev pub LetsGo : Standing → Option (List Dialed) → Type 0
+LetsGo old new =
+    ((old.made ≡ 0) × (old.dialed ≡ new))
+    ⊎ ((0 < old.made) × (ending : ConnectionLoss) × Dials old.dialed new (Ended ending ∷ []))
 
 -- What became of connections grows by these requests, and by nothing else. The first of them was
 -- made over a new connection, and the one that was kept after the last of them was ended.

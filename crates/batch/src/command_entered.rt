@@ -6,7 +6,7 @@ ghost use Rattle.batch.specs.Asking.{IsOfAsking};
 ghost use Rattle.batch.specs.Dialing.{told};
 ghost use Rattle.batch.specs.Entering.{EnteredBy, Hinders, IsEntered, StopsAsking};
 ghost use Rattle.batch.specs.Logs.{AddsSo};
-ghost use Rattle.batch.specs.Watching.{Telling, notices_by, notices_of, watched};
+ghost use Rattle.batch.specs.Watching.{Telling, watched};
 
 use crate::asking::Receiver;
 use crate::dialing::{Contact, Dial};
@@ -39,17 +39,17 @@ pub fn enter_command<D: Dial, V: Watch>(
     requires { IsDesk receiver.desk }
     ensures ok { IfOk result (λ last. IsEntered waits receiver id text.now last) }
     ensures asked { IfOk result (λ last. AddsSo (told contact.entry D.dialed dial.old dial.new)
-        (Telling (watched V.heard watch.old watch.new) notices_of
+        (Telling (watched V.heard watch.old watch.new)
         (EnteredBy waits receiver id text.now last))) }
     ensures err { IfErr result (λ f. AddsSo (told contact.entry D.dialed dial.old dial.new)
-        (Telling (watched V.heard watch.old watch.new) (notices_by f)
+        (Telling (watched V.heard watch.old watch.new)
         (StopsAsking f receiver id text.now))) }
     ensures cause { IfErr result (λ f. IsOfAsking f ⊎ Hinders f waits receiver id text.now) }
 {
-    let mut held = None;
+    let mut made = 0;
     let last = entered(
-        alloc, dial, &mut held, contact, receiver, waits, id, text, watch,
+        alloc, dial, &mut made, contact, receiver, waits, id, text, watch,
     );
-    let_go(dial, &mut held);
+    let_go(dial, made);
     last
 }

@@ -4,19 +4,18 @@ ghost use Rattle.std.specs.Prelude.{◌≡◌, ◌≢◌, ◌⊎◌, ◌≤◌, 
 ghost use Rattle.std.specs.Prelude.{false};
 ghost use Rattle.wire.specs.Ranges.{IsDesk};
 ghost use Rattle.batch.specs.Asking.{IsAnswer, IsDecided, IsOfAsking, ask_of};
-ghost use Rattle.batch.specs.Confirming.{Confirms, Doubts, HasFirst, IsAnother, IsDecidedAt};
+ghost use Rattle.batch.specs.Confirming.{Confirms, HasFirst, IsAnother, IsDecidedAt, IsUnconfirmed};
 ghost use Rattle.batch.specs.Confirming.{entry_of};
 ghost use Rattle.batch.specs.declared.asking.Receiver.{Receiver as Desk};
-ghost use Rattle.batch.specs.model.Keeping.{InCall};
+ghost use Rattle.batch.specs.model.Keeping.{AsksIn};
 
 use crate::asking::Receiver;
 use crate::dialing::{Contact, Dial};
 use crate::fault::BatchFault;
-use crate::keeping::{HeldConnection, ask};
+use crate::keeping::ask;
 use crate::watching::Watch;
 use acceptor::entry::Entry;
 use client::{ClientFault, log_request};
-use std::alloc::Global;
 use wire::{CommandState, FrameBody};
 
 /// The position at which a command is reported to be.
@@ -61,9 +60,8 @@ fn is_this(entry: &Entry, id: u64, text: &[u8]) -> bool
 /// Those of [`ask_over`](crate::ask_over). `AnotherCommand` where the entry is another one, of
 /// which the observer hears; `Asking` with `NoAnswer` where the answer has no entry.
 pub(crate) fn confirm<D: Dial, V: Watch>(
-    alloc: Global,
     dial: &mut D,
-    held: &mut Option<HeldConnection<D::Reader, D::Writer>>,
+    made: &mut u32,
     contact: Contact<'_>,
     receiver: Receiver,
     watch: &mut V,
@@ -74,17 +72,17 @@ pub(crate) fn confirm<D: Dial, V: Watch>(
     requires desk { IsDesk receiver.desk }
     requires answer { IsAnswer (ask_of receiver id) told.now }
     requires decided { IsDecided told.now }
-    ensures ok { OnOk result (InCall D.dialed D.Reader.remaining D.Writer.contents V.heard
-        contact.entry dial.old dial.new held.old held.new watch.old watch.new
+    ensures ok { OnOk result (AsksIn D.dialed V.heard contact.entry
+        dial.old dial.new made.old made.new watch.old watch.new
         (Confirms receiver id text.now told.now)) }
-    ensures err { IfErr result (λ f. InCall D.dialed D.Reader.remaining D.Writer.contents V.heard
-        contact.entry dial.old dial.new held.old held.new watch.old watch.new
-        (Doubts f receiver id text.now told.now)) }
+    ensures err { IfErr result (λ f. AsksIn D.dialed V.heard contact.entry
+        dial.old dial.new made.old made.new watch.old watch.new
+        (IsUnconfirmed f receiver id text.now told.now)) }
     ensures cause { IfErr result (λ f. IsOfAsking f ⊎ IsAnother f receiver id text.now told.now) }
 {
     let position = position_of(told);
     let request = log_request(receiver.hall, receiver.desk, position);
-    let answer = ask(alloc, dial, held, contact, &request)?;
+    let answer = ask(dial, made, contact, &request)?;
     let Some(entry) = first_of(&answer) else {
         return Err(BatchFault::Asking(ClientFault::NoAnswer));
     };

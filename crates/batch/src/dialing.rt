@@ -1,10 +1,12 @@
 //! Where connections to a desk come from.
 
-ghost use Rattle.std.specs.Prelude.{◌≡◌, ◌∷◌, [], List, Option, IfOk, OnErr};
-ghost use Rattle.batch.specs.Dialing.{Again, Dialed, Dials, Ended, Failed, Opened, place_of};
+ghost use Rattle.std.specs.Prelude.{◌∷◌, [], List, Option, IfOk, OnErr, OnOk};
+ghost use Rattle.wire.specs.Ranges.{IsFrame};
+ghost use Rattle.batch.specs.Dialing.{Came, Dialed, Dials, Ended, Failed, Opened, place_of};
 
+use client::ClientFault;
 use std::io;
-use std::io::{Read, Write};
+use wire::Frame;
 
 /// Where a desk is asked, how long it is waited for, and under which key.
 #[derive(Clone, Copy)]
@@ -35,38 +37,39 @@ pub enum ConnectionLoss {
     Own,
 }
 
-/// Connections to desks, one after the other. Over each, requests are made one after the other.
+/// One connection at a time to a desk, over which requests are made one after the other, each of
+/// which is waited for.
 pub trait Dial {
-    type Reader: Read + Drop;
-
-    type Writer: Write + Drop;
-
     /// What became of the connections, in order, where that is known.
     ghost dialed: { Self → Option (List Dialed) };
 
-    /// Opens a connection for a request, under the contact's key: what the desk says, and where
-    /// requests go. Where the desk doesn't speak under that key, nothing can be written, and the
-    /// end of the connection tells why.
-    fn dial(&mut self, contact: Contact<'_>) -> io::Result<(Self::Reader, Self::Writer)>
-        ensures opened { IfOk result (λ c. Dials (dialed self.old) (dialed self.new)
-            (Opened (place_of contact.entry) (Self.Reader.remaining c.0)
-            (Self.Writer.contents c.1) ∷ [])) }
+    /// Opens a connection for a request, under the contact's key. Where the desk doesn't speak
+    /// under that key, nothing can be written, and the end of the connection tells why.
+    fn dial(&mut self, contact: Contact<'_>) -> io::Result<()>
+        ensures opened { OnOk result (Dials (dialed self.old) (dialed self.new)
+            (Opened (place_of contact.entry) ∷ [])) }
         ensures failed { OnErr result (Dials (dialed self.old) (dialed self.new)
             (Failed (place_of contact.entry) ∷ [])) };
 
-    /// Begins one more request over the connection that was opened last: from here on the desk is
-    /// waited for as long as its contact says.
-    fn again(&mut self, reader: &mut Self::Reader)
-        ensures told { Dials (dialed self.old) (dialed self.new) (Again ∷ []) }
-        ensures same { Self.Reader.remaining reader.new ≡ Self.Reader.remaining reader.old };
+    /// Makes a request over the connection that was opened last, and gives the first frame that the
+    /// desk sends after it, whichever it is. The desk is waited for as long as its contact says.
+    ///
+    /// # Errors
+    ///
+    /// - `Write` where the request can't be written, and so where the desk doesn't speak under the
+    ///   contact's key.
+    /// - `NoAnswer` where no frame comes: in time, before the connection ends or fails, or since
+    ///   the bytes that come break the format of frames.
+    /// - `NoMemory` where memory runs out.
+    fn ask(&mut self, request: &Frame) -> Result<Frame, ClientFault>
+        requires { IsFrame request.now }
+        ensures told { Dials (dialed self.old) (dialed self.new) (Came request.now result ∷ []) }
+        ensures frame { IfOk result IsFrame };
 
-    /// Ends a connection, and gives what is known of its end.
-    fn hang_up(&mut self, reader: Self::Reader, writer: Self::Writer) -> ConnectionLoss
-        ensures { Dials (dialed self.old) (dialed self.new)
-            (Ended (Self.Reader.remaining reader) (Self.Writer.contents writer) result ∷ []) };
+    /// Ends the connection, and gives what is known of its end.
+    fn hang_up(&mut self) -> ConnectionLoss
+        ensures { Dials (dialed self.old) (dialed self.new) (Ended result ∷ []) };
 
-    /// Rests, before the same is asked once more, after this many tries, counted from 0. Nothing is
-    /// done with connections.
-    fn pause(&mut self, tries: u32)
-        ensures { Dials (dialed self.old) (dialed self.new) [] };
+    /// Rests, before the same is asked once more, after this many tries, counted from 0.
+    fn pause(&self, tries: u32);
 }

@@ -1,16 +1,17 @@
 //! One command entered at the desk, and waited for.
 
-ghost use Rattle.std.specs.Prelude.{◌≡◌, ◌≢◌, ◌⊎◌, ◌∷◌, [], Bool, Err, false, true, IfErr, IfOk};
+ghost use Rattle.std.specs.Prelude.{◌≡◌, ◌≢◌, ◌⊎◌, ◌∷◌, ◌+◌, [], Bool, Err, false, IfErr, IfOk};
 ghost use Rattle.std.specs.Prelude.{OnOk, IsTrue};
 ghost use Rattle.wire.specs.Ranges.{IsDesk, IsEntry, IsFrame, IsId};
-ghost use Rattle.batch.specs.Asking.{IsAnswer, IsDecided, IsOfAsking, IsPending, IsUnknown, ask_of};
-ghost use Rattle.batch.specs.Asking.{asked_so, submit_of, tick_of};
+ghost use Rattle.batch.specs.Asking.{EndsWaiting, IsAnswer, IsAwaited, IsDecided, IsOfAsking};
+ghost use Rattle.batch.specs.Asking.{IsPending, IsTaken, IsTakenOf, IsTurnedOff, IsUnknown, ask_of};
+ghost use Rattle.batch.specs.Asking.{asked_so, most_asked, submit_of, tick_of, ticks_in};
 ghost use Rattle.batch.specs.Dialing.{AsksBy, GoesBy};
-ghost use Rattle.batch.specs.model.Keeping.{InCall, way_of};
-ghost use Rattle.batch.specs.Entering.{Enters, Hinders, IsEntered, IsOther, StopsEntering};
+ghost use Rattle.batch.specs.model.Keeping.{AsksIn, way_of};
+ghost use Rattle.batch.specs.Entering.{EnteredBy, Hinders, IsEntered, IsUnasked, StopsAsking};
+ghost use Rattle.batch.specs.Entering.{StopsTaking};
 ghost use Rattle.batch.specs.declared.asking.Receiver.{Receiver as Desk};
-ghost use Rattle.batch.specs.model.Trying.{AreTicked, AreTicks, Decides, IsUndecided, RefusesText};
-ghost use Rattle.batch.specs.model.Trying.{StopsWaiting, TakesFrame, TakesText, TurnsOff};
+ghost use Rattle.batch.specs.model.Trying.{AreTicks, IsUndecided};
 ghost use Rattle.batch.specs.Watching.{Tells, Waits, watched};
 ghost use Rattle.batch.specs.declared.entering.Fate.TheVariants as fate;
 
@@ -18,81 +19,67 @@ use crate::asking::{Receiver, question_of, request_to};
 use crate::confirming::confirm;
 use crate::dialing::{Contact, Dial};
 use crate::fault::BatchFault;
-use crate::keeping::{HeldConnection, ask};
+use crate::keeping::ask;
 use crate::watching::Watch;
 use acceptor::entry::{Entry, EntryFault};
 use client::ClientFault;
 use std::alloc::Global;
 use wire::{ClientRefusal, CommandState, Frame, FrameBody};
 
-/// How many times a desk is asked again whose queue is full, or that has not decided a command.
+/// How many times a desk is asked again whose queue is full.
 const MOST_TRIES: u32 = 10_000;
 
-/// How many times a desk is asked that waits a second with its answer, and is ticked then.
-const MOST_WAITS: u32 = 300;
-
-/// After this many of them the desk is ticked.
+/// After this many tries the desk is ticked that does not wait with its answers.
 const TRIES_TO_TICK: u32 = 32;
 
 /// The greatest id.
 const GREATEST: u64 = 9_223_372_036_854_775_807;
 
-/// Rests after a try, counted from 0, of which the observer hears, and gives the desk a tick after
-/// every 32nd one.
+/// Whether the desk is ticked after a try, counted from 0: after each one where it waited with its
+/// answer, and else after every 32nd.
+fn is_tick_due(waited: bool, tries: u32) -> bool
+    ensures yes { IsTrue result → ticks_in waited tries + 1 ≡ ticks_in waited (tries + 1) }
+    ensures no { result ≡ false → ticks_in waited tries ≡ ticks_in waited (tries + 1) }
+{
+    if waited {
+        return true;
+    }
+    if tries % TRIES_TO_TICK < TRIES_TO_TICK - 1 {
+        return false;
+    }
+    true
+}
+
+/// After a try, counted from 0, of which the observer hears, rests, unless the desk waited with its
+/// answer, and gives the desk a tick where one is due.
 fn rest_behind<D: Dial, V: Watch>(
-    alloc: Global,
     dial: &mut D,
-    held: &mut Option<HeldConnection<D::Reader, D::Writer>>,
+    made: &mut u32,
     contact: Contact<'_>,
     receiver: Receiver,
     watch: &mut V,
+    waited: bool,
     tries: u32,
 ) -> Result<(), BatchFault>
     requires { IsDesk receiver.desk }
     ensures ok { OnOk result
-        (AsksBy (way_of D.dialed D.Reader.remaining D.Writer.contents
-        contact.entry dial.old dial.new held.old held.new)
-        (AreTicks receiver tries)) }
-    ensures err { IfErr result (λ f. GoesBy (way_of D.dialed D.Reader.remaining D.Writer.contents
-        contact.entry dial.old dial.new held.old held.new)
+        (AsksBy (way_of D.dialed contact.entry dial.old dial.new made.old made.new)
+        (AreTicks receiver waited tries)) }
+    ensures err { IfErr result
+        (λ f. GoesBy (way_of D.dialed contact.entry dial.old dial.new made.old made.new)
         (asked_so (tick_of receiver) (Err f) ∷ [])) }
     ensures fails { IfErr result IsOfAsking }
     ensures heard { Tells (watched V.heard watch.old watch.new) (Waits tries ∷ []) }
 {
     watch.waits(tries);
-    dial.pause(tries);
-    if tries % TRIES_TO_TICK < TRIES_TO_TICK - 1 {
+    if !waited {
+        dial.pause(tries);
+    }
+    if !is_tick_due(waited, tries) {
         return Ok(());
     }
     let tick = request_to(receiver, FrameBody::Tick);
-    ask(alloc, dial, held, contact, &tick)?;
-    Ok(())
-}
-
-/// Gives the desk a tick after a question, counted from 0, with whose answer it waited a second.
-fn tick_behind<D: Dial, V: Watch>(
-    alloc: Global,
-    dial: &mut D,
-    held: &mut Option<HeldConnection<D::Reader, D::Writer>>,
-    contact: Contact<'_>,
-    receiver: Receiver,
-    watch: &mut V,
-    waits: u32,
-) -> Result<(), BatchFault>
-    requires { IsDesk receiver.desk }
-    ensures ok { OnOk result
-        (AsksBy (way_of D.dialed D.Reader.remaining D.Writer.contents
-        contact.entry dial.old dial.new held.old held.new)
-        (AreTicked receiver)) }
-    ensures err { IfErr result (λ f. GoesBy (way_of D.dialed D.Reader.remaining D.Writer.contents
-        contact.entry dial.old dial.new held.old held.new)
-        (asked_so (tick_of receiver) (Err f) ∷ [])) }
-    ensures fails { IfErr result IsOfAsking }
-    ensures heard { Tells (watched V.heard watch.old watch.new) (Waits waits ∷ []) }
-{
-    watch.waits(waits);
-    let only = request_to(receiver, FrameBody::Tick);
-    ask(alloc, dial, held, contact, &only)?;
+    ask(dial, made, contact, &tick)?;
     Ok(())
 }
 
@@ -111,9 +98,8 @@ fn is_busy(fault: BatchFault) -> bool
 
 /// Makes a request until the desk's queue has room.
 fn asked_until_taken<D: Dial, V: Watch>(
-    alloc: Global,
     dial: &mut D,
-    held: &mut Option<HeldConnection<D::Reader, D::Writer>>,
+    made: &mut u32,
     contact: Contact<'_>,
     receiver: Receiver,
     watch: &mut V,
@@ -122,16 +108,16 @@ fn asked_until_taken<D: Dial, V: Watch>(
     requires desk { IsDesk receiver.desk }
     requires spelled { IsFrame submit.now }
     ensures answer { IfOk result (λ answer. IsAnswer submit.now answer) }
-    ensures ok { IfOk result (λ answer. InCall D.dialed D.Reader.remaining D.Writer.contents V.heard
-        contact.entry dial.old dial.new held.old held.new watch.old watch.new
-        (TakesFrame receiver submit.now answer)) }
-    ensures err { IfErr result (λ f. InCall D.dialed D.Reader.remaining D.Writer.contents V.heard
-        contact.entry dial.old dial.new held.old held.new watch.old watch.new
-        (TurnsOff f receiver submit.now)) }
+    ensures ok { IfOk result (λ answer. AsksIn D.dialed V.heard contact.entry
+        dial.old dial.new made.old made.new watch.old watch.new
+        (IsTakenOf receiver submit.now answer)) }
+    ensures err { IfErr result (λ f. AsksIn D.dialed V.heard contact.entry
+        dial.old dial.new made.old made.new watch.old watch.new
+        (IsTurnedOff f receiver submit.now)) }
     ensures fails { IfErr result IsOfAsking }
 {
     for tries in 0..MOST_TRIES {
-        match ask(alloc, dial, held, contact, submit) {
+        match ask(dial, made, contact, submit) {
             Ok(answer) => return Ok(answer),
             Err(fault) => {
                 if !is_busy(fault) {
@@ -139,9 +125,9 @@ fn asked_until_taken<D: Dial, V: Watch>(
                 }
             }
         }
-        rest_behind(alloc, dial, held, contact, receiver, watch, tries)?;
+        rest_behind(dial, made, contact, receiver, watch, false, tries)?;
     }
-    ask(alloc, dial, held, contact, submit)
+    ask(dial, made, contact, submit)
 }
 
 /// The entry, whose id and text are in their ranges: the contracts of the two calls say so.
@@ -160,7 +146,7 @@ fn entry_of(alloc: Global, id: u64, text: &[u8]) -> Result<Entry, BatchFault>
     ensures in_range { IfOk result IsEntry }
     ensures err { IfErr result
         (λ f. (waits : Bool) (r : Desk) → Hinders f waits r id text.now) }
-    ensures other { IfErr result IsOther }
+    ensures unasked { IfErr result IsUnasked }
 {
     match Entry::new(alloc, id, text) {
         Ok(entry) => Ok(kept(entry)),
@@ -174,7 +160,7 @@ fn entry_of(alloc: Global, id: u64, text: &[u8]) -> Result<Entry, BatchFault>
 fn submitted<D: Dial, V: Watch>(
     alloc: Global,
     dial: &mut D,
-    held: &mut Option<HeldConnection<D::Reader, D::Writer>>,
+    made: &mut u32,
     contact: Contact<'_>,
     receiver: Receiver,
     watch: &mut V,
@@ -183,18 +169,18 @@ fn submitted<D: Dial, V: Watch>(
 ) -> Result<FrameBody, BatchFault>
     requires { IsDesk receiver.desk }
     ensures answer { IfOk result (λ answer. IsAnswer (submit_of receiver id text.now) answer) }
-    ensures ok { IfOk result (λ answer. InCall D.dialed D.Reader.remaining D.Writer.contents V.heard
-        contact.entry dial.old dial.new held.old held.new watch.old watch.new
-        (TakesText receiver id text.now answer)) }
-    ensures err { IfErr result (λ f. InCall D.dialed D.Reader.remaining D.Writer.contents V.heard
-        contact.entry dial.old dial.new held.old held.new watch.old watch.new
-        (RefusesText f receiver id text.now)) }
+    ensures ok { IfOk result (λ answer. AsksIn D.dialed V.heard contact.entry
+        dial.old dial.new made.old made.new watch.old watch.new
+        (IsTaken receiver id text.now answer)) }
+    ensures err { IfErr result (λ f. AsksIn D.dialed V.heard contact.entry
+        dial.old dial.new made.old made.new watch.old watch.new
+        (StopsTaking f receiver id text.now)) }
     ensures cause { IfErr result
         (λ f. IsOfAsking f ⊎ ((waits : Bool) (r : Desk) → Hinders f waits r id text.now)) }
 {
     let entry = entry_of(alloc, id, text)?;
     let submit = request_to(receiver, FrameBody::Submit { entry });
-    asked_until_taken(alloc, dial, held, contact, receiver, watch, &submit)
+    asked_until_taken(dial, made, contact, receiver, watch, &submit)
 }
 
 /// What an answer says of a command.
@@ -222,12 +208,20 @@ fn fate_of(told: &FrameBody) -> Fate
     }
 }
 
+/// How often a desk is asked at most what became of a command: one that waits a second with its
+/// answer less often.
+fn most_asked(waits: bool) -> u32
+    ensures { result ≡ most_asked waits }
+{
+    if waits { 300 } else { 10_000 }
+}
+
 /// Asks again and again until the command with an id is decided, and gives the answer. The first
-/// answer that the desk knows nothing of it ends that with `Lost`.
-fn asked<D: Dial, V: Watch>(
-    alloc: Global,
+/// answer that the desk knows nothing of it ends that with `Lost`. A desk that waits with its
+/// answer until the command is decided, for a second at most, is ticked then, and asked once more.
+fn decided<D: Dial, V: Watch>(
     dial: &mut D,
-    held: &mut Option<HeldConnection<D::Reader, D::Writer>>,
+    made: &mut u32,
     contact: Contact<'_>,
     receiver: Receiver,
     watch: &mut V,
@@ -235,92 +229,27 @@ fn asked<D: Dial, V: Watch>(
 ) -> Result<FrameBody, BatchFault>
     requires desk { IsDesk receiver.desk }
     requires id { IsId id }
-    requires plain { receiver.awaits ≡ false }
     ensures answer { IfOk result (λ told. IsAnswer (ask_of receiver id) told × IsDecided told) }
-    ensures ok { IfOk result (λ told. InCall D.dialed D.Reader.remaining D.Writer.contents V.heard
-        contact.entry dial.old dial.new held.old held.new watch.old watch.new
-        (Decides receiver id told)) }
-    ensures err { IfErr result (λ f. InCall D.dialed D.Reader.remaining D.Writer.contents V.heard
-        contact.entry dial.old dial.new held.old held.new watch.old watch.new
-        (StopsWaiting f receiver id)) }
+    ensures ok { IfOk result (λ told. AsksIn D.dialed V.heard contact.entry
+        dial.old dial.new made.old made.new watch.old watch.new
+        (IsAwaited receiver id told)) }
+    ensures err { IfErr result (λ f. AsksIn D.dialed V.heard contact.entry
+        dial.old dial.new made.old made.new watch.old watch.new
+        (EndsWaiting f receiver id)) }
     ensures cause { IfErr result (λ f. IsOfAsking f ⊎ IsUndecided f receiver id) }
 {
     let question = question_of(receiver, id);
-    for tries in 0..MOST_TRIES {
-        let told = ask(alloc, dial, held, contact, &question)?;
+    let waits = receiver.awaits;
+    for tries in 0..most_asked(waits) {
+        let told = ask(dial, made, contact, &question)?;
         match fate_of(&told) {
             Fate::Decided => return Ok(told),
             Fate::Unknown => return Err(BatchFault::Lost),
             Fate::Waits => {}
         }
-        rest_behind(alloc, dial, held, contact, receiver, watch, tries)?;
+        rest_behind(dial, made, contact, receiver, watch, waits, tries)?;
     }
     Err(BatchFault::StillPending)
-}
-
-/// The same, where the desk waits with its answer until the command is decided, for a second at
-/// most: it is ticked then, and asked once more.
-fn awaited<D: Dial, V: Watch>(
-    alloc: Global,
-    dial: &mut D,
-    held: &mut Option<HeldConnection<D::Reader, D::Writer>>,
-    contact: Contact<'_>,
-    receiver: Receiver,
-    watch: &mut V,
-    id: u64,
-) -> Result<FrameBody, BatchFault>
-    requires desk { IsDesk receiver.desk }
-    requires id { IsId id }
-    requires waits { receiver.awaits ≡ true }
-    ensures answer { IfOk result (λ told. IsAnswer (ask_of receiver id) told × IsDecided told) }
-    ensures ok { IfOk result (λ told. InCall D.dialed D.Reader.remaining D.Writer.contents V.heard
-        contact.entry dial.old dial.new held.old held.new watch.old watch.new
-        (Decides receiver id told)) }
-    ensures err { IfErr result (λ f. InCall D.dialed D.Reader.remaining D.Writer.contents V.heard
-        contact.entry dial.old dial.new held.old held.new watch.old watch.new
-        (StopsWaiting f receiver id)) }
-    ensures cause { IfErr result (λ f. IsOfAsking f ⊎ IsUndecided f receiver id) }
-{
-    let question = question_of(receiver, id);
-    for tries in 0..MOST_WAITS {
-        let answer = ask(alloc, dial, held, contact, &question)?;
-        match fate_of(&answer) {
-            Fate::Decided => return Ok(answer),
-            Fate::Unknown => return Err(BatchFault::Lost),
-            Fate::Waits => {}
-        }
-        tick_behind(alloc, dial, held, contact, receiver, watch, tries)?;
-    }
-    Err(BatchFault::StillPending)
-}
-
-/// Asks until the command with an id is decided, and gives the answer. The first answer that the
-/// desk knows nothing of it ends that with `Lost`.
-fn decided<D: Dial, V: Watch>(
-    alloc: Global,
-    dial: &mut D,
-    held: &mut Option<HeldConnection<D::Reader, D::Writer>>,
-    contact: Contact<'_>,
-    receiver: Receiver,
-    watch: &mut V,
-    id: u64,
-) -> Result<FrameBody, BatchFault>
-    requires desk { IsDesk receiver.desk }
-    requires id { IsId id }
-    ensures answer { IfOk result (λ told. IsAnswer (ask_of receiver id) told × IsDecided told) }
-    ensures ok { IfOk result (λ told. InCall D.dialed D.Reader.remaining D.Writer.contents V.heard
-        contact.entry dial.old dial.new held.old held.new watch.old watch.new
-        (Decides receiver id told)) }
-    ensures err { IfErr result (λ f. InCall D.dialed D.Reader.remaining D.Writer.contents V.heard
-        contact.entry dial.old dial.new held.old held.new watch.old watch.new
-        (StopsWaiting f receiver id)) }
-    ensures cause { IfErr result (λ f. IsOfAsking f ⊎ IsUndecided f receiver id) }
-{
-    if receiver.awaits {
-        awaited(alloc, dial, held, contact, receiver, watch, id)
-    } else {
-        asked(alloc, dial, held, contact, receiver, watch, id)
-    }
 }
 
 /// Enters a command, and where that is asked for waits until it is decided and sees that the entry
@@ -328,7 +257,7 @@ fn decided<D: Dial, V: Watch>(
 pub(crate) fn entered<D: Dial, V: Watch>(
     alloc: Global,
     dial: &mut D,
-    held: &mut Option<HeldConnection<D::Reader, D::Writer>>,
+    made: &mut u32,
     contact: Contact<'_>,
     receiver: Receiver,
     waits: bool,
@@ -338,22 +267,22 @@ pub(crate) fn entered<D: Dial, V: Watch>(
 ) -> Result<FrameBody, BatchFault>
     requires { IsDesk receiver.desk }
     ensures answer { IfOk result (λ last. IsEntered waits receiver id text.now last) }
-    ensures ok { IfOk result (λ last. InCall D.dialed D.Reader.remaining D.Writer.contents V.heard
-        contact.entry dial.old dial.new held.old held.new watch.old watch.new
-        (Enters waits receiver id text.now last)) }
-    ensures err { IfErr result (λ f. InCall D.dialed D.Reader.remaining D.Writer.contents V.heard
-        contact.entry dial.old dial.new held.old held.new watch.old watch.new
-        (StopsEntering f receiver id text.now)) }
+    ensures ok { IfOk result (λ last. AsksIn D.dialed V.heard contact.entry
+        dial.old dial.new made.old made.new watch.old watch.new
+        (EnteredBy waits receiver id text.now last)) }
+    ensures err { IfErr result (λ f. AsksIn D.dialed V.heard contact.entry
+        dial.old dial.new made.old made.new watch.old watch.new
+        (StopsAsking f receiver id text.now)) }
     ensures cause { IfErr result (λ f. IsOfAsking f ⊎ Hinders f waits receiver id text.now) }
 {
     if id == 0 || id > GREATEST {
         return Err(BatchFault::NoMoreIds);
     }
-    let taken = submitted(alloc, dial, held, contact, receiver, watch, id, text)?;
+    let taken = submitted(alloc, dial, made, contact, receiver, watch, id, text)?;
     if !waits {
         return Ok(taken);
     }
-    let told = decided(alloc, dial, held, contact, receiver, watch, id)?;
-    confirm(alloc, dial, held, contact, receiver, watch, id, text, &told)?;
+    let told = decided(dial, made, contact, receiver, watch, id)?;
+    confirm(dial, made, contact, receiver, watch, id, text, &told)?;
     Ok(told)
 }

@@ -1,31 +1,23 @@
-//! A connection that is kept for as many requests as a desk answers on one.
+//! A connection that is kept for as many requests as a desk answers on one. Where requests are
+//! made, `made` counts those over the connection that is kept: none is kept where it is 0.
 
-ghost use Rattle.std.specs.Prelude.{◌≡◌, ◌⊎◌, ◌<◌, ◌∷◌, [], None, Some, IfErr, IfOk, IsTrue};
-ghost use Rattle.std.specs.Prelude.{IfNone, IfSome, false};
+ghost use Rattle.std.specs.Prelude.{◌≡◌, ◌⊎◌, ◌<◌, ◌∷◌, [], IfErr, IfNone, IfOk, IfSome};
 ghost use Rattle.wire.specs.Ranges.{IsFrame};
 ghost use Rattle.batch.specs.Asking.{IsAnswer, IsOfAsking};
-ghost use Rattle.batch.specs.Dialing.{Adds, GoesBy, IsAnswered, IsHungUp, LetsGo, answer_of};
-ghost use Rattle.batch.specs.Dialing.{asked_so, fault_of, place_of};
-ghost use Rattle.batch.specs.model.Keeping.{Cuts, MakesBy, Uses, line_of, standing, way_of};
+ghost use Rattle.batch.specs.Dialing.{Adds, GoesBy, LetsGo, answer_of, asked_so, fault_of};
+ghost use Rattle.batch.specs.Dialing.{is_answered, is_hung_up, made_after, place_of};
+ghost use Rattle.batch.specs.model.Keeping.{Cuts, Hears, MakesAnew, MakesKept, Uses, standing};
+ghost use Rattle.batch.specs.model.Keeping.{way_of};
 
 use crate::dialing::{ConnectionLoss, Contact, Dial};
 use crate::fault::BatchFault;
-use client::{ClientFault, exchange};
-use std::alloc::Global;
+use client::{ClientFault, judged};
 use std::io;
-use std::io::{ErrorKind, Read, Write};
+use std::io::ErrorKind;
 use wire::{Frame, FrameBody};
 
 /// The most requests over one connection: a desk ends it after this many frames.
 const MOST_REQUESTS: u32 = 64;
-
-/// A connection that is kept for the next request, and how many were made over it.
-#[derive(Drop)]
-pub(crate) struct HeldConnection<R, W> {
-    reader: R,
-    writer: W,
-    made: u32,
-}
 
 /// Why nobody could be reached.
 fn no_connection(error: &io::Error) -> BatchFault
@@ -37,7 +29,7 @@ fn no_connection(error: &io::Error) -> BatchFault
     BatchFault::CannotConnect
 }
 
-/// Why there is no answer, by the fault of the exchange and by the connection's end.
+/// Why there is no answer, by the fault of the request and by the connection's end.
 fn no_answer(fault: ClientFault, ending: ConnectionLoss) -> BatchFault
     ensures same { result ≡ fault_of fault ending }
     ensures cause { IsOfAsking result }
@@ -55,7 +47,7 @@ fn no_answer(fault: ClientFault, ending: ConnectionLoss) -> BatchFault
     }
 }
 
-/// What came of a request, by what came of its exchange.
+/// What came of a request, by what was heard and by the connection's end.
 fn answer_of(
     ended: Result<FrameBody, ClientFault>,
     ending: ConnectionLoss,
@@ -71,114 +63,99 @@ fn answer_of(
 
 /// Whether the desk answered, or refused.
 fn is_answered(ended: &Result<FrameBody, ClientFault>) -> bool
-    ensures yes { IsTrue result → IsAnswered ended.now }
-    ensures no { result ≡ false → ¬ IsAnswered ended.now }
+    ensures { result ≡ is_answered ended.now }
 {
     match ended {
         Ok(_) => true,
-        Err(fault) => matches!(fault, ClientFault::Refused { .. }),
+        Err(ClientFault::Refused { .. }) => true,
+        Err(_) => false,
     }
 }
 
 /// Whether the desk ended the connection and did not answer.
 fn is_hung_up(ended: &Result<FrameBody, ClientFault>, ending: ConnectionLoss) -> bool
-    ensures yes { IsTrue result → IsHungUp ended.now ending }
-    ensures no { result ≡ false → ¬ IsHungUp ended.now ending }
+    ensures { result ≡ is_hung_up ended.now ending }
 {
     match ended {
         Err(ClientFault::Write) => true,
-        Err(ClientFault::NoAnswer) => ending == ConnectionLoss::Gone,
+        Err(ClientFault::NoAnswer) => matches!(ending, ConnectionLoss::Gone),
         _ => false,
     }
 }
 
-/// Makes a request over a connection, and keeps it where the desk answers or refuses. Else the
-/// connection is ended.
+/// Makes a request over the connection that is open, and judges the first frame that comes.
+fn heard<D: Dial>(dial: &mut D, request: &Frame) -> Result<FrameBody, ClientFault>
+    requires { IsFrame request.now }
+    ensures told { Hears request.now result (D.dialed dial.old) (D.dialed dial.new) }
+    ensures answered { IfOk result (IsAnswer request.now) }
+{
+    match dial.ask(request) {
+        Ok(given) => judged(request, given),
+        Err(fault) => Err(fault),
+    }
+}
+
+/// Makes a request over the connection that is open, and keeps it where the desk answers or
+/// refuses. Else the connection is ended.
 fn exchange_over<D: Dial>(
-    alloc: Global,
     dial: &mut D,
-    held: &mut Option<HeldConnection<D::Reader, D::Writer>>,
-    used: HeldConnection<D::Reader, D::Writer>,
+    made: &mut u32,
     request: &Frame,
 ) -> (Result<FrameBody, ClientFault>, ConnectionLoss)
     requires spelled { IsFrame request.now }
-    requires few { used.made < 64 }
-    ensures used { Uses (line_of D.Reader.remaining D.Writer.contents used) request.now result.0
-        result.1 (D.dialed dial.old)
-        (standing D.dialed D.Reader.remaining D.Writer.contents dial.new held.new) }
+    requires few { made.old < 64 }
+    ensures used { Uses request.now result.0 result.1 (D.dialed dial.old) (D.dialed dial.new) }
+    ensures made { made.new ≡ made_after result.0 made.old }
     ensures answered { IfOk result.0 (IsAnswer request.now) }
 {
-    let HeldConnection {
-        mut reader,
-        mut writer,
-        made,
-    } = used;
-    let ended = exchange(alloc, request, &mut reader, &mut writer);
+    let ended = heard(dial, request);
     if is_answered(&ended) {
-        *held = Some(HeldConnection {
-            reader,
-            writer,
-            made: made + 1,
-        });
+        *made += 1;
         return (ended, ConnectionLoss::Own);
     }
-    *held = None;
-    let ending = dial.hang_up(reader, writer);
+    *made = 0;
+    let ending = dial.hang_up();
     (ended, ending)
 }
 
 /// Makes a request over a new connection.
 fn ask_anew<D: Dial>(
-    alloc: Global,
     dial: &mut D,
-    held: &mut Option<HeldConnection<D::Reader, D::Writer>>,
+    made: &mut u32,
     contact: Contact<'_>,
     request: &Frame,
 ) -> Result<FrameBody, BatchFault>
     requires spelled { IsFrame request.now }
-    ensures told { MakesBy (way_of D.dialed D.Reader.remaining D.Writer.contents
-        contact.entry dial.old dial.new None held.new) (asked_so request.now result) }
+    ensures told { MakesAnew (place_of contact.entry) (D.dialed dial.old) (D.dialed dial.new)
+        (asked_so request.now result) made.new }
     ensures answered { IfOk result (IsAnswer request.now) }
     ensures failed { IfErr result IsOfAsking }
 {
-    let (reader, writer) = match dial.dial(contact) {
-        Ok(connection) => connection,
-        Err(error) => {
-            *held = None;
-            return Err(no_connection(&error));
-        }
-    };
-    let used = HeldConnection {
-        reader,
-        writer,
-        made: 0,
-    };
-    let (ended, ending) = exchange_over(alloc, dial, held, used, request);
+    *made = 0;
+    match dial.dial(contact) {
+        Ok(()) => {}
+        Err(error) => return Err(no_connection(&error)),
+    }
+    let (ended, ending) = exchange_over(dial, made, request);
     answer_of(ended, ending)
 }
 
-/// Makes a request over a connection that was kept. None where it is cut off.
+/// Makes a request over the connection that is kept. None where it is cut off.
 fn ask_kept<D: Dial>(
-    alloc: Global,
     dial: &mut D,
-    held: &mut Option<HeldConnection<D::Reader, D::Writer>>,
-    mut used: HeldConnection<D::Reader, D::Writer>,
-    contact: Contact<'_>,
+    made: &mut u32,
     request: &Frame,
 ) -> Option<Result<FrameBody, BatchFault>>
     requires spelled { IsFrame request.now }
-    requires few { used.made < 64 }
-    ensures cut { IfNone result
-        (Cuts (place_of contact.entry) (line_of D.Reader.remaining D.Writer.contents used)
-        request.now (D.dialed dial.old) (D.dialed dial.new)) }
-    ensures told { IfSome result (λ answer. MakesBy
-        (way_of D.dialed D.Reader.remaining D.Writer.contents
-        contact.entry dial.old dial.new (Some used) held.new) (asked_so request.now answer)) }
+    requires some { 0 < made.old }
+    requires few { made.old < 64 }
+    ensures cut { IfNone result (Cuts request.now (D.dialed dial.old) (D.dialed dial.new)) }
+    ensures told { IfSome result (λ answer. MakesKept made.old (D.dialed dial.old)
+        (D.dialed dial.new) (asked_so request.now answer) made.new) }
     ensures answered { IfSome result (λ answer. IfOk answer (IsAnswer request.now)) }
     ensures failed { IfSome result (λ answer. IfErr answer IsOfAsking) }
 {
-    dial.again(&mut used.reader);
-    let (ended, ending) = exchange_over(alloc, dial, held, used, request);
+    let (ended, ending) = exchange_over(dial, made, request);
     if is_hung_up(&ended, ending) {
         return None;
     }
@@ -186,15 +163,13 @@ fn ask_kept<D: Dial>(
 }
 
 /// Ends the connection that is kept, where there is one.
-pub(crate) fn let_go<D: Dial>(dial: &mut D, held: &mut Option<HeldConnection<D::Reader, D::Writer>>)
-    ensures told { LetsGo
-        (standing D.dialed D.Reader.remaining D.Writer.contents dial.old held.old)
-        (D.dialed dial.new) }
-    ensures gone { held.new ≡ None }
+pub(crate) fn let_go<D: Dial>(dial: &mut D, made: u32)
+    ensures { LetsGo (standing D.dialed dial.old made) (D.dialed dial.new) }
 {
-    if let Some(HeldConnection { reader, writer, .. }) = held.take() {
-        let _ending = dial.hang_up(reader, writer);
+    if made == 0 {
+        return;
     }
+    let _ending = dial.hang_up();
 }
 
 /// Makes a request over the connection that is kept, or over a new one where none is, or that one
@@ -205,29 +180,27 @@ pub(crate) fn let_go<D: Dial>(dial: &mut D, held: &mut Option<HeldConnection<D::
 ///
 /// As [`ask_over`].
 pub(crate) fn ask<D: Dial>(
-    alloc: Global,
     dial: &mut D,
-    held: &mut Option<HeldConnection<D::Reader, D::Writer>>,
+    made: &mut u32,
     contact: Contact<'_>,
     request: &Frame,
 ) -> Result<FrameBody, BatchFault>
     requires { IsFrame request.now }
-    ensures told { GoesBy (way_of D.dialed D.Reader.remaining D.Writer.contents
-        contact.entry dial.old dial.new held.old held.new)
+    ensures told { GoesBy (way_of D.dialed contact.entry dial.old dial.new made.old made.new)
         (asked_so request.now result ∷ []) }
     ensures answered { IfOk result (IsAnswer request.now) }
     ensures failed { IfErr result IsOfAsking }
 {
-    let Some(used) = held.take() else {
-        return ask_anew(alloc, dial, held, contact, request);
-    };
-    if used.made >= MOST_REQUESTS {
-        let _ending = dial.hang_up(used.reader, used.writer);
-        return ask_anew(alloc, dial, held, contact, request);
+    if *made == 0 {
+        return ask_anew(dial, made, contact, request);
     }
-    match ask_kept(alloc, dial, held, used, contact, request) {
+    if *made >= MOST_REQUESTS {
+        let _ending = dial.hang_up();
+        return ask_anew(dial, made, contact, request);
+    }
+    match ask_kept(dial, made, request) {
         Some(answer) => answer,
-        None => ask_anew(alloc, dial, held, contact, request),
+        None => ask_anew(dial, made, contact, request),
     }
 }
 
@@ -243,7 +216,6 @@ pub(crate) fn ask<D: Dial>(
 ///   key, under another one, or only under one: nothing was done.
 /// - `NoMemory` where memory runs out.
 pub fn ask_over<D: Dial>(
-    alloc: Global,
     dial: &mut D,
     contact: Contact<'_>,
     request: &Frame,
@@ -254,8 +226,8 @@ pub fn ask_over<D: Dial>(
     ensures answered { IfOk result (IsAnswer request.now) }
     ensures failed { IfErr result IsOfAsking }
 {
-    let mut held = None;
-    let answer = ask(alloc, dial, &mut held, contact, request);
-    let_go(dial, &mut held);
+    let mut made = 0;
+    let answer = ask(dial, &mut made, contact, request);
+    let_go(dial, made);
     answer
 }

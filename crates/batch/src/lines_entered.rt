@@ -1,14 +1,13 @@
 //! Commands that are entered one after the other, each with an id of its own.
 
-ghost use Rattle.std.specs.Prelude.{◌≡◌, ◌+◌, IfErr, OnOk, OnErr};
+ghost use Rattle.std.specs.Prelude.{◌≡◌, IfErr, OnOk, OnErr};
 ghost use Rattle.wire.specs.Ranges.{IsDesk};
 ghost use Rattle.std.specs.Io.KnownBytes.{Appends};
 ghost use Rattle.lines.specs.Bytes.{AppendsPart};
 ghost use Rattle.client.specs.Printing.{reply_text};
-ghost use Rattle.batch.specs.Asking.{IsOfAsking};
 ghost use Rattle.batch.specs.Dialing.{told};
-ghost use Rattle.batch.specs.Entering.{AsksAll, AsksUpTo, EntersAll, EntersBy, EntersOne};
-ghost use Rattle.batch.specs.Entering.{EntersSome, FailsLine, IsOfPrinting, StopsAt, StopsBy};
+ghost use Rattle.batch.specs.Entering.{AsksAll, AsksSome, EntersBy, EntersOne, FailsOne};
+ghost use Rattle.batch.specs.Entering.{IsOfPrinting};
 ghost use Rattle.batch.specs.Entering.{ends_after, is_refused, texts_of, told_answer};
 ghost use Rattle.batch.specs.Watching.{watched};
 ghost use Rattle.batch.specs.model.Keeping.{InCall};
@@ -17,7 +16,7 @@ use crate::asking::Receiver;
 use crate::dialing::{Contact, Dial};
 use crate::entering::entered;
 use crate::fault::BatchFault;
-use crate::keeping::{HeldConnection, let_go};
+use crate::keeping::let_go;
 use crate::watching::Watch;
 use client::reply_text;
 use lines::command_file::InputCommand;
@@ -96,7 +95,7 @@ fn print_answer<W: Write>(
 fn enter_line<D: Dial, W: Write, V: Watch>(
     alloc: Global,
     dial: &mut D,
-    held: &mut Option<HeldConnection<D::Reader, D::Writer>>,
+    made: &mut u32,
     contact: Contact<'_>,
     batch: Batch,
     n: usize,
@@ -105,14 +104,12 @@ fn enter_line<D: Dial, W: Write, V: Watch>(
     watch: &mut V,
 ) -> Result<(), BatchFault>
     requires { IsDesk batch.receiver.desk }
-    ensures ok { OnOk result (InCall D.dialed D.Reader.remaining D.Writer.contents V.heard
-        contact.entry dial.old dial.new held.old held.new watch.old watch.new
+    ensures ok { OnOk result (InCall D.dialed V.heard contact.entry
+        dial.old dial.new made.old made.new watch.old watch.new
         (EntersOne batch n line.now W.contents out.old out.new)) }
-    ensures err { IfErr result (λ f. FailsLine IsOfAsking f batch (batch.first_id + n)
-        line.now.text (W.contents out.old) (W.contents out.new)) }
-    ensures asked { IfErr result (λ f. InCall D.dialed D.Reader.remaining D.Writer.contents V.heard
-        contact.entry dial.old dial.new held.old held.new watch.old watch.new
-        (StopsAt f batch n line.now.text)) }
+    ensures err { IfErr result (λ f. InCall D.dialed V.heard contact.entry
+        dial.old dial.new made.old made.new watch.old watch.new
+        (FailsOne f batch n line.now W.contents out.old out.new)) }
 {
     let Some(id) = batch.first_id.checked_add(n as u64) else {
         return Err(BatchFault::NoMoreIds);
@@ -121,7 +118,7 @@ fn enter_line<D: Dial, W: Write, V: Watch>(
     let answer = entered(
         alloc,
         dial,
-        held,
+        made,
         contact,
         batch.receiver,
         batch.waits,
@@ -143,7 +140,7 @@ fn enter_line<D: Dial, W: Write, V: Watch>(
 fn enter_lines_over<D: Dial, W: Write, V: Watch>(
     alloc: Global,
     dial: &mut D,
-    held: &mut Option<HeldConnection<D::Reader, D::Writer>>,
+    made: &mut u32,
     contact: Contact<'_>,
     batch: Batch,
     commands: &[InputCommand],
@@ -151,13 +148,13 @@ fn enter_lines_over<D: Dial, W: Write, V: Watch>(
     watch: &mut V,
 ) -> Result<(), BatchFault>
     requires { IsDesk batch.receiver.desk }
-    ensures { InCall D.dialed D.Reader.remaining D.Writer.contents V.heard
-        contact.entry dial.old dial.new held.old held.new watch.old watch.new
+    ensures { InCall D.dialed V.heard contact.entry
+        dial.old dial.new made.old made.new watch.old watch.new
         (EntersBy result batch commands.now W.contents writer.old writer.new) }
 {
     for (number, command) in commands.iter().enumerate() {
         enter_line(
-            alloc, dial, held, contact, batch, number, command, writer, watch,
+            alloc, dial, made, contact, batch, number, command, writer, watch,
         )?;
     }
     Ok(())
@@ -197,23 +194,17 @@ pub fn enter_lines<D: Dial, W: Write, V: Watch>(
     watch: &mut V,
 ) -> Result<(), BatchFault>
     requires { IsDesk batch.receiver.desk }
-    ensures ok { OnOk result (EntersAll batch (texts_of commands.now)
-        (W.contents writer.old) (W.contents writer.new)) }
-    ensures err { OnErr result (EntersSome batch (texts_of commands.now)
-        (W.contents writer.old) (W.contents writer.new)) }
-    ensures cause { IfErr result (λ f. StopsBy IsOfAsking f batch (texts_of commands.now)
-        (W.contents writer.old) (W.contents writer.new)) }
-    ensures asked { OnOk result (AsksAll batch (texts_of commands.now)
+    ensures ok { OnOk result (AsksAll batch (texts_of commands.now)
         (told contact.entry D.dialed dial.old dial.new) (watched V.heard watch.old watch.new)
         (W.contents writer.old) (W.contents writer.new)) }
-    ensures asked_so_far { IfErr result (λ f. AsksUpTo f batch commands.now
+    ensures err { IfErr result (λ f. AsksSome f batch (texts_of commands.now)
         (told contact.entry D.dialed dial.old dial.new) (watched V.heard watch.old watch.new)
         (W.contents writer.old) (W.contents writer.new)) }
 {
-    let mut held = None;
+    let mut made = 0;
     let ended = enter_lines_over(
-        alloc, dial, &mut held, contact, batch, commands, writer, watch,
+        alloc, dial, &mut made, contact, batch, commands, writer, watch,
     );
-    let_go(dial, &mut held);
+    let_go(dial, made);
     ended
 }

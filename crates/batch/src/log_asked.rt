@@ -14,7 +14,7 @@ ghost use Rattle.batch.specs.declared.asking.Receiver.{Receiver as Desk};
 use crate::asking::Receiver;
 use crate::dialing::{Contact, Dial};
 use crate::fault::BatchFault;
-use crate::keeping::{HeldConnection, ask, let_go};
+use crate::keeping::{ask, let_go};
 use acceptor::NoMemory;
 use client::{ClientFault, log_request};
 use learner::log::Log;
@@ -64,9 +64,8 @@ fn part_of(answer: FrameBody, position: u32, told: u32) -> Option<(u32, Entries)
 /// Asks for what is in a desk's log behind the entries that have come, and puts it behind them. The
 /// length of the log that was reported before is `told`; the one that is reported now is returned.
 fn ask_part<D: Dial>(
-    alloc: Global,
     dial: &mut D,
-    held: &mut Option<HeldConnection<D::Reader, D::Writer>>,
+    made: &mut u32,
     contact: Contact<'_>,
     receiver: Receiver,
     log: &mut Log,
@@ -75,18 +74,16 @@ fn ask_part<D: Dial>(
     requires desk { IsDesk receiver.desk }
     requires behind { length log.old.entries ≤ told }
     ensures ok { IfOk result (λ len. AddsPart
-        (way_of D.dialed D.Reader.remaining D.Writer.contents
-        contact.entry dial.old dial.new held.old held.new)
+        (way_of D.dialed contact.entry dial.old dial.new made.old made.new)
         receiver log.old.entries told log.new.entries len) }
     ensures err { IfErr result (λ f. FailsPart
-        (way_of D.dialed D.Reader.remaining D.Writer.contents
-        contact.entry dial.old dial.new held.old held.new)
+        (way_of D.dialed contact.entry dial.old dial.new made.old made.new)
         receiver log.old.entries told f) }
     ensures fails { IfErr result IsOfAsking }
 {
     let position = log.len();
     let request = log_request(receiver.hall, receiver.desk, position);
-    let answer = ask(alloc, dial, held, contact, &request)?;
+    let answer = ask(dial, made, contact, &request)?;
     let Some((length, entries)) = part_of(answer, position, told) else {
         return Err(BatchFault::Asking(ClientFault::NoAnswer));
     };
@@ -100,23 +97,25 @@ fn ask_part<D: Dial>(
 fn ask_log_over<D: Dial>(
     alloc: Global,
     dial: &mut D,
-    held: &mut Option<HeldConnection<D::Reader, D::Writer>>,
+    made: &mut u32,
     contact: Contact<'_>,
     receiver: Receiver,
 ) -> Result<Log, BatchFault>
     requires { IsDesk receiver.desk }
-    ensures ok { IfOk result (λ log. AsksBy (way_of D.dialed D.Reader.remaining D.Writer.contents
-        contact.entry dial.old dial.new held.old held.new) (TellsLog receiver log.entries)) }
-    ensures err { IfErr result (λ f. AsksBy (way_of D.dialed D.Reader.remaining D.Writer.contents
-        contact.entry dial.old dial.new held.old held.new) (FailsLog f receiver)) }
+    ensures ok { IfOk result
+        (λ log. AsksBy (way_of D.dialed contact.entry dial.old dial.new made.old made.new)
+        (TellsLog receiver log.entries)) }
+    ensures err { IfErr result
+        (λ f. AsksBy (way_of D.dialed contact.entry dial.old dial.new made.old made.new)
+        (FailsLog f receiver)) }
     ensures fails { IfErr result IsOfAsking }
 {
     let Ok(mut log) = Log::new(alloc) else {
         return Err(BatchFault::NoMemory);
     };
-    let mut told = ask_part(alloc, dial, held, contact, receiver, &mut log, 0)?;
+    let mut told = ask_part(dial, made, contact, receiver, &mut log, 0)?;
     while log.len() < told {
-        told = ask_part(alloc, dial, held, contact, receiver, &mut log, told)?;
+        told = ask_part(dial, made, contact, receiver, &mut log, told)?;
     }
     Ok(log)
 }
@@ -144,8 +143,8 @@ pub fn ask_log<D: Dial>(
         (FailsLog f receiver)) }
     ensures fails { IfErr result IsOfAsking }
 {
-    let mut held = None;
-    let log = ask_log_over(alloc, dial, &mut held, contact, receiver);
-    let_go(dial, &mut held);
+    let mut made = 0;
+    let log = ask_log_over(alloc, dial, &mut made, contact, receiver);
+    let_go(dial, made);
     log
 }

@@ -11,10 +11,9 @@ ghost use Rattle.batch.specs.model.Keeping.{way_of};
 use crate::asking::Receiver;
 use crate::dialing::{Contact, Dial};
 use crate::fault::BatchFault;
-use crate::keeping::{HeldConnection, ask, let_go};
+use crate::keeping::{ask, let_go};
 use client::{ClientFault, sheet_version, status_request};
 use formats::Event;
-use std::alloc::Global;
 use wire::{DeskStatus, Frame, FrameBody, SheetStyle};
 
 /// A round's sheet, at whichever position.
@@ -60,32 +59,29 @@ fn standing_said(answer: FrameBody) -> Option<DeskStatus>
 
 /// As [`ask_newest`], with the connection that is kept, or none.
 fn ask_newest_over<D: Dial>(
-    alloc: Global,
     dial: &mut D,
-    held: &mut Option<HeldConnection<D::Reader, D::Writer>>,
+    made: &mut u32,
     contact: Contact<'_>,
     receiver: Receiver,
     sheet: RoundSheet,
 ) -> Result<FrameBody, BatchFault>
     requires { IsDesk receiver.desk }
     ensures ok { IfOk result (λ answer. AsksBy
-        (way_of D.dialed D.Reader.remaining D.Writer.contents
-        contact.entry dial.old dial.new held.old held.new)
+        (way_of D.dialed contact.entry dial.old dial.new made.old made.new)
         (GivesNewest receiver sheet answer)) }
     ensures err { IfErr result (λ f. AsksBy
-        (way_of D.dialed D.Reader.remaining D.Writer.contents
-        contact.entry dial.old dial.new held.old held.new)
+        (way_of D.dialed contact.entry dial.old dial.new made.old made.new)
         (FailsNewest f receiver sheet)) }
     ensures fails { IfErr result IsOfAsking }
 {
     let asked = status_request(receiver.hall, receiver.desk);
-    let answer = ask(alloc, dial, held, contact, &asked)?;
+    let answer = ask(dial, made, contact, &asked)?;
     let Some(standing) = standing_said(answer) else {
         // no other frame is the answer to a Status
         return Err(BatchFault::Asking(ClientFault::NoAnswer));
     };
     let request = sheet_request(receiver, sheet, standing.length);
-    ask(alloc, dial, held, contact, &request)
+    ask(dial, made, contact, &request)
 }
 
 /// Asks a desk how it is, and then for the sheet of a round at the length that it says its log has.
@@ -99,7 +95,6 @@ fn ask_newest_over<D: Dial>(
 /// Those of [`ask_over`](crate::ask_over), of either request. Where the first one fails, the second
 /// one is not made.
 pub fn ask_newest<D: Dial>(
-    alloc: Global,
     dial: &mut D,
     contact: Contact<'_>,
     receiver: Receiver,
@@ -112,8 +107,8 @@ pub fn ask_newest<D: Dial>(
         (FailsNewest f receiver sheet)) }
     ensures fails { IfErr result IsOfAsking }
 {
-    let mut held = None;
-    let answer = ask_newest_over(alloc, dial, &mut held, contact, receiver, sheet);
-    let_go(dial, &mut held);
+    let mut made = 0;
+    let answer = ask_newest_over(dial, &mut made, contact, receiver, sheet);
+    let_go(dial, made);
     answer
 }

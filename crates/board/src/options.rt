@@ -11,8 +11,7 @@ use hall_file::hall_options::{
 };
 use hall_survey::Hall;
 use http_server::Config;
-use page_sockets::browsers_at;
-use pages::BrowserLimits;
+use pages::{BrowserLimits, browsers_at};
 use std::alloc::{AllocError, Global};
 use std::io;
 use std::io::Write;

@@ -14,12 +14,13 @@ use Rattle.texts.specs.declared.command.Command.{Command}
 use Rattle.texts.specs.declared.command.RoundId.{RoundId}
 use Rattle.texts.specs.declared.command.Settings.{Settings}
 use Rattle.markup.specs.board_page.Escaped.{escaped}
-use Rattle.markup.specs.Pieces.{joined}
+use Rattle.markup.specs.Pieces.{fill}
 use Rattle.board_rounds.specs.Rounds.{below, heading}
 use Rattle.board_rounds.specs.Rows.{attempt_words, cell, line_end, name_cell, place_words}
 use Rattle.board_rounds.specs.Rows.{result_cells}
 use Rattle.round_words.specs.Words.{round_name, round_words, state_words}
 use Rattle.board_rounds.specs.declared.persons.TheConstants.{PEOPLE}
+use Rattle.board_rounds.specs.declared.persons.TheConstants.{START}
 
 -- the round, whose own page is behind it
 unfoldable pub round_cell : List ℕ → List ℕ → List ℕ
@@ -57,10 +58,7 @@ entry cs n id = unwrap_or (option_map (entry_in n id) (round_of cs id.event id.r
 
 -- name and number
 unfoldable pub person_start : ℕ → List ℕ → List ℕ
-person_start n name = joined (
-    codes "<section class=\"person\"><table><caption><h2><bdi>" ∷ escaped name
-    ∷ codes "</bdi>, number " ∷ decimal n ∷ codes "</h2></caption>\n<thead><tr>" ∷ []
-    )
+person_start n name = fill START.now (escaped name ∷ decimal n ∷ [])
 
 abbrev pub person_headings : List ℕ
 person_headings =

@@ -13,7 +13,8 @@ use crate::shown::{BoardRound, shown_round};
 use attempts::{NoMemory, Unit, Value};
 use commands::Meet;
 use formats::{Advance, Format, attempts_of, unit_of};
-use markup::{Piece, push_pieces};
+use markup::Piece::{Number, Text};
+use markup::fill;
 use round_words::{push_round_name, push_round_words, state_words};
 use std::alloc::Global;
 use texts::RoundId;
@@ -112,20 +113,15 @@ fn push_entries(
     Ok(())
 }
 
+const START: &[u8] = b"\
+<section class=\"person\"><table><caption><h2><bdi>$</bdi>, number $</h2></caption>
+<thead><tr>";
+
 #[tactic(auto, unfolding(crate::specs::Persons::person_start))]
 fn push_start(out: &mut Vec<u8>, number: u16, name: &[u8]) -> Result<(), NoMemory>
     ensures { OnOk result (out.new.items ≡ out.old.items ++ person_start number name.now) }
 {
-    push_pieces(
-        out,
-        &[
-            Piece::Html(b"<section class=\"person\"><table><caption><h2><bdi>"),
-            Piece::Text(name),
-            Piece::Html(b"</bdi>, number "),
-            Piece::Number(number as u64),
-            Piece::Html(b"</h2></caption>\n<thead><tr>"),
-        ],
-    )
+    fill(out, START, &[Text(name), Number(number as u64)])
 }
 
 fn push_person_headings(out: &mut Vec<u8>) -> Result<(), NoMemory>

@@ -2,10 +2,11 @@
 
 use crate::service::BoardService;
 use desk_sockets::{DeskStream, DialogueChange};
-use hall_survey::{AskedDesks, AskedStream, Hall, count_desks, lent_stream, tell_difference};
+use hall_survey::{
+    AskedDesks, AskedStream, Hall, asked_desks, count_desks, lent_stream, tell_difference,
+};
 use kept_mirror::Mirroring;
-use page_sockets::{BrowserSockets, address_of, round, say_where};
-use pages::Browsers;
+use pages::{TcpBrowsers, say_where};
 use std::alloc::Global;
 use std::io;
 use std::io::Write;
@@ -42,25 +43,23 @@ fn tell_if_differs<F: Write>(service: &BoardService, faults: &mut F) -> bool {
 /// Serves until it can't continue, over the connection to the desk that is asked for its log, and
 /// those to the desks that are asked how they are. Says what is wrong with their keys.
 fn serve_on<R: Net + RandomSource + Clock + Drop, F: Write>(
-    browsers: &mut Browsers<BrowserSockets<'_, R>>,
+    browsers: &mut TcpBrowsers<'_, R>,
     service: &mut BoardService,
     followed: &mut DeskStream<'_, R>,
-    asked: &mut Vec<AskedStream<'_, R>>,
+    asked: &mut [AskedStream<'_, R>],
     faults: &mut F,
 ) -> BoardEnd {
     let mut now = 0;
     let mut said = false;
     for _round in 0..u64::MAX {
         let wait = service.wait(now).min(LONGEST_WAIT);
-        let Some(after) = round(browsers, service, wait) else {
+        let Some(after) = browsers.round(service, wait) else {
             return BoardEnd::Failed;
         };
         now = after;
         for place in 0..asked.len() {
-            if let Some(one) = asked.get_mut(place) {
-                service.keep_desk(place, &mut one.stream, now);
-                one.tell(faults, PROGRAM);
-            }
+            service.keep_desk(place, asked[place].stream, now);
+            asked[place].tell(faults, PROGRAM);
         }
         said = said || tell_if_differs(service, faults);
         if service.keep(followed, now) == DialogueChange::Broken {
@@ -77,15 +76,21 @@ pub fn serve<'a, R: Net + RandomSource + Clock + Drop, W: Write, F: Write>(
     alloc: Global,
     hall: Hall<'_>,
     title: String,
-    browsers: &mut Browsers<BrowserSockets<'a, R>>,
+    browsers: &mut TcpBrowsers<'a, R>,
     writer: &mut W,
     faults: &mut F,
 ) -> io::Result<BoardEnd> {
-    let address = address_of(browsers)?;
-    let AskedDesks { desks, streams } = AskedDesks::new(runtime, alloc, browsers, hall)?;
+    let address = browsers.sockets().address()?;
+    let AskedDesks { desks, mut streams } = asked_desks(runtime, alloc, browsers, hall)?;
     let followed = lent_stream(runtime, alloc, browsers, 0, hall)?;
     let mirroring = Mirroring::new(alloc, hall.number, count_desks(hall.addresses))?;
     let mut service = BoardService::new(alloc, title, mirroring, desks)?;
     say_where(address, PROGRAM, writer)?;
-    Ok(serve_on(browsers, &mut service, followed, streams, faults))
+    Ok(serve_on(
+        browsers,
+        &mut service,
+        followed,
+        streams.as_mut_slice(),
+        faults,
+    ))
 }

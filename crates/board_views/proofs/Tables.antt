@@ -4,7 +4,7 @@ use Rattle.std.proofs.Common.{nat_le, refl, sym, arith}
 use Rattle.std.proofs.lemmas.Bool.Decides.{nat_tests}
 use Rattle.acceptor.specs.declared.entry.Entry.{Entry}
 use Rattle.texts.specs.declared.command.RoundId.{RoundId}
-use Rattle.sheets.specs.declared.Style.TheVariants as style
+use Rattle.formats.specs.declared.styles.SheetStyle.TheVariants as style
 use Rattle.answers.specs.Answers.{sheet_at}
 use Rattle.board_views.specs.Rounds.{table_at}
 

@@ -1,26 +1,23 @@
 -- The frame of a page of HTML: what is before, between and after its rounds.
-use Rattle.std.specs.Prelude.{ℕ, List, [], ◌∷◌, ◌++◌, codes}
-use Rattle.board_views.specs.declared.frame.TheConstants.{HEAD, HEAD_END, LINKS}
-use Rattle.board_views.specs.declared.frame.TheConstants.{LINKS_END, END}
+use Rattle.std.specs.Prelude.{ℕ, List, [], ◌∷◌, ◌++◌}
+use Rattle.board_views.specs.declared.frame.TheConstants.{END, HEAD, LINKS, NO_ROUND, OPENING}
 use Rattle.markup.specs.board_page.Escaped.{escaped}
-use Rattle.markup.specs.Pieces.{joined}
+use Rattle.markup.specs.Pieces.{fill}
 
 -- what the page shows is in its title before the competition
 abbrev pub head : List ℕ → List ℕ → List ℕ
-head shows title = joined (HEAD.now ∷ shows ∷ codes " - " ∷ escaped title ∷ HEAD_END.now ∷ [])
+head shows title = fill HEAD.now (shows ∷ escaped title ∷ [])
 
 -- the beginning of the body, under a class of the style
-unfoldable pub opening : List ℕ → List ℕ → List ℕ
-opening class title =
-    codes "<body class=\"" ++ class ++ codes "\"><main>\n<h1 dir=\"auto\">" ++ escaped title
-    ++ codes "</h1>\n"
+abbrev pub opening : List ℕ → List ℕ → List ℕ
+opening class title = fill OPENING.now (class ∷ escaped title ∷ [])
 
-unfoldable pub links : List ℕ → List ℕ
-links between = LINKS.now ++ between ++ LINKS_END.now
+abbrev pub links : List ℕ → List ℕ
+links between = fill LINKS.now (between ∷ [])
 
 -- the rounds, or that there is none
 unfoldable pub inside : List ℕ → List ℕ
-inside [] = codes "<p class=\"none\">No round is open yet.</p>\n"
+inside [] = NO_ROUND.now
 inside (b ∷ bs) = b ∷ bs
 
 -- a page, with further links and with what it shows

@@ -7,7 +7,7 @@ use Rattle.answers.specs.Answers.{sheet_at, texts}
 use Rattle.commands.specs.History.{history}
 use Rattle.formats.specs.declared.events.Event.{Event}
 use Rattle.formats.specs.Events.{all_events, last_round}
-use Rattle.sheets.specs.declared.Style.TheVariants as style
+use Rattle.formats.specs.declared.styles.SheetStyle.TheVariants as style
 use Rattle.texts.specs.declared.command.Command.{Command}
 use Rattle.texts.specs.declared.command.RoundId.{RoundId}
 

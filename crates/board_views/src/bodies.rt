@@ -10,9 +10,10 @@ ghost use Rattle.board_views.specs.Views.{round_page, round_page_of};
 use crate::all_rounds::{all_rounds, links_of, podiums_of, sections_of};
 use crate::frame::page_of;
 use crate::looks::{script, style};
-use crate::meets::{meet_at, table_at};
+use crate::meets::table_at;
 use crate::paths::View;
 use acceptor::NoMemory;
+use answers::Transcript;
 use archive::write_log;
 use board_rounds::{push_people, push_person, push_round};
 use commands::Meet;
@@ -104,8 +105,8 @@ fn round_page(
     if position == mirror.len() {
         return round_page_of(alloc, mirror.meet(), class, title, position, id);
     }
-    let meet = meet_at(alloc, mirror, position)?;
-    round_page_of(alloc, &meet, class, title, position, id)
+    let first = Transcript::of_first(alloc, mirror.log(), position)?;
+    round_page_of(alloc, first.meet(), class, title, position, id)
 }
 
 /// The page of a competitor; none where the number is not registered.

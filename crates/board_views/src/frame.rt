@@ -4,30 +4,30 @@ ghost use Rattle.std.specs.Prelude.{◌≡◌, ◌++◌, OnOk, IfOk};
 ghost use Rattle.board_views.specs.Frame.{framed, head, inside, links, opening};
 
 use acceptor::NoMemory;
-use markup::board_page::push_escaped;
-use markup::{Piece, push_pieces};
+use markup::Piece::{Html, Text};
+use markup::fill;
 use std::alloc::Global;
 
 const HEAD: &[u8] = b"\
 <!DOCTYPE html>
 <html lang=\"en\"><head><meta charset=\"utf-8\">
 <meta name=\"viewport\" content=\"width=device-width, initial-scale=1\">
-<title>";
-
-const HEAD_END: &[u8] = b"\
-</title><link rel=\"stylesheet\" href=\"/style.css\">
+<title>$ - $</title><link rel=\"stylesheet\" href=\"/style.css\">
 <noscript><meta http-equiv=\"refresh\" content=\"5\"></noscript>
 <script src=\"/update.js\" defer></script></head>
 ";
+
+const OPENING: &[u8] = b"<body class=\"$\"><main>\n<h1 dir=\"auto\">$</h1>\n";
 
 const LINKS: &[u8] = b"\
 <nav>
 <a href=\"/\">all rounds</a>
 <a href=\"/people\">find a name</a>
 <a href=\"/podiums\">podiums</a>
+$<a href=\"/hall\">projector</a></nav>
 ";
 
-const LINKS_END: &[u8] = b"<a href=\"/hall\">projector</a></nav>\n";
+const NO_ROUND: &[u8] = b"<p class=\"none\">No round is open yet.</p>\n";
 
 const END: &[u8] = b"</main></body></html>\n";
 
@@ -36,38 +36,21 @@ const END: &[u8] = b"</main></body></html>\n";
 fn push_head<'a>(out: &mut Vec<u8>, shows: &'a [u8], title: &'a [u8]) -> Result<(), NoMemory>
     ensures { OnOk result (out.new.items ≡ out.old.items ++ head shows.now title.now) }
 {
-    push_pieces(
-        out,
-        &[
-            Piece::Html(HEAD),
-            Piece::Html(shows),
-            Piece::Html(b" - "),
-            Piece::Text(title),
-            Piece::Html(HEAD_END),
-        ],
-    )
+    fill(out, HEAD, &[Html(shows), Text(title)])
 }
 
 /// Adds the beginning of a body, under a class of the style.
 fn push_opening(out: &mut Vec<u8>, class: &[u8], title: &[u8]) -> Result<(), NoMemory>
     ensures { OnOk result (out.new.items ≡ out.old.items ++ opening class.now title.now) }
 {
-    out.extend_from_slice(b"<body class=\"")?;
-    out.extend_from_slice(class)?;
-    out.extend_from_slice(b"\"><main>\n<h1 dir=\"auto\">")?;
-    push_escaped(out, title)?;
-    out.extend_from_slice(b"</h1>\n")?;
-    Ok(())
+    fill(out, OPENING, &[Html(class), Text(title)])
 }
 
 /// Adds the links of a page, further ones between its own.
 fn push_links(out: &mut Vec<u8>, between: &[u8]) -> Result<(), NoMemory>
     ensures { OnOk result (out.new.items ≡ out.old.items ++ links between.now) }
 {
-    out.extend_from_slice(LINKS)?;
-    out.extend_from_slice(between)?;
-    out.extend_from_slice(LINKS_END)?;
-    Ok(())
+    fill(out, LINKS, &[Html(between)])
 }
 
 /// Adds what is shown, or that no round is open.
@@ -76,7 +59,7 @@ fn push_inside(out: &mut Vec<u8>, shown: &[u8]) -> Result<(), NoMemory>
     ensures { OnOk result (out.new.items ≡ out.old.items ++ inside shown.now) }
 {
     if shown.is_empty() {
-        return out.extend_from_slice(b"<p class=\"none\">No round is open yet.</p>\n");
+        return out.extend_from_slice(NO_ROUND);
     }
     out.extend_from_slice(shown)
 }

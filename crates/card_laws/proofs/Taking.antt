@@ -9,7 +9,6 @@ use Rattle.std.proofs.lemmas.Bool.{false≢true}
 use Rattle.std.proofs.lemmas.Bool.Decides.{nat_tests}
 use Rattle.cube.specs.declared.moves.Move.{Move}
 use Rattle.attempts.specs.declared.Value.{Value}
-use Rattle.attempts.specs.declared.Value.TheVariants as value
 use Rattle.formats.specs.declared.events.Event.{Event}
 use Rattle.formats.specs.Events.{same_event, event_number}
 use Rattle.formats.proofs.SameEvent.{same_event-equal}
@@ -22,11 +21,12 @@ use Rattle.texts.specs.declared.command.RoundId.{RoundId}
 use Rattle.texts.specs.declared.command.Settings.{Settings}
 use Rattle.rounds.specs.Tables.{Entrant, Table, has_number, has_done, is_attempted}
 use Rattle.commands.specs.Accepted.{refusal, round_of, round_by, scramble_of, is_of, is_cancelled}
-use Rattle.commands.specs.Accepted.{is_registered, is_value, are_values, seen_refusal}
+use Rattle.commands.specs.Accepted.{is_registered, are_values, seen_refusal}
 use Rattle.commands.specs.Accepted.{unfit_card_refusal, card_refusal, fix_refusal, cancel_refusal}
 use Rattle.commands.specs.Accepted.{competitors_seen, values_now, counts_in, card_values}
 use Rattle.commands.specs.model.Cards.{scrambles_of, with_outcomes}
 use Rattle.commands.proofs.CardRounds.{IsOfCard, card_is, fix_is, round_dealt}
+use Rattle.commands.proofs.CardSteps.{same_values}
 use Rattle.commands.proofs.Lookups.{some≢none}
 use Rattle.card_laws.specs.Accepting.{first_refusal, AreAccepted}
 use Rattle.card_laws.specs.Holding.{held, names, values_left, entrant_with, CardStands, FixStands}
@@ -35,19 +35,6 @@ use Rattle.card_laws.proofs.Accepted.{none_first, none_second}
 use Rattle.card_laws.proofs.Entrants.{any_found, found_made, found_number}
 use Rattle.card_laws.proofs.Staying.{one_more}
 
--- Values that are the same
-
-value_equal : (v w : Value) → is_value v w ≡ true → v ≡ w
-value_equal (value.Number n) (value.Number m) h = ap value.Number (eqb-true n m h)
-value_equal (value.Number n) value.Dnf h = absurd (false≢true h)
-value_equal (value.Number n) value.Dns h = absurd (false≢true h)
-value_equal value.Dnf (value.Number m) h = absurd (false≢true h)
-value_equal value.Dnf value.Dnf h = refl
-value_equal value.Dnf value.Dns h = absurd (false≢true h)
-value_equal value.Dns (value.Number m) h = absurd (false≢true h)
-value_equal value.Dns value.Dnf h = absurd (false≢true h)
-value_equal value.Dns value.Dns h = refl
-
 both_first : (a b : Bool) → (a && b) ≡ true → a ≡ true
 both_first true b h = refl
 both_first false b h = h
@@ -55,17 +42,6 @@ both_first false b h = h
 both_second : (a b : Bool) → (a && b) ≡ true → b ≡ true
 both_second true b h = h
 both_second false b h = absurd (false≢true h)
-
-values_equal : (vs ws : List Value) → are_values vs ws ≡ true → vs ≡ ws
-values_equal [] [] h = refl
-values_equal [] (w ∷ ws) h = absurd (false≢true h)
-values_equal (v ∷ vs) [] h = absurd (false≢true h)
-values_equal (v ∷ vs) (w ∷ ws) h =
-    rw (
-      value_equal v w (both_first (is_value v w) (are_values vs ws) h),
-      values_equal vs ws (both_second (is_value v w) (are_values vs ws) h),
-    )
-    refl
 
 -- A card that is accepted
 
@@ -149,7 +125,7 @@ entered scrambles card round shown =
         ∙ ap (λ (k : ℕ). Some (entrant_with k (change one.values)))
         (sym (found_number card.number round.1.entrants one is))
         ∙ ap (λ (vs : List Value). Some (entrant_with card.number (change vs)))
-        (sym (values_equal card.was one.values h))
+        (sym (same_values card.was one.values h))
 
 -- after a command that enters a card over what counts
 entered_by : (cs : List Command) (c : Command) (card : CardEntry) → IsOfCard c card

@@ -12,7 +12,7 @@ use Rattle.texts.specs.declared.command.Settings.{Settings}
 use Rattle.texts.specs.Fields.{attempt_entry, card_entry}
 use Rattle.rounds.specs.Tables.{Table, IsCutoff, has_number}
 use Rattle.commands.specs.Accepted.{refusal, round_of, round_by, scramble_of, unfit_card_refusal}
-use Rattle.sheets.specs.declared.Style.{Style}
+use Rattle.formats.specs.declared.styles.SheetStyle.{SheetStyle as Style}
 use Rattle.sheets.specs.Sheet.{sheet}
 use Rattle.card_laws.specs.Accepting.{first_refusal, AreAccepted}
 

@@ -10,7 +10,7 @@ use Rattle.texts.specs.Reading.{command_of}
 use Rattle.texts.specs.Spelling.{AreCounted, IsFitTold, told_spelling, was_text}
 use Rattle.commands.specs.Accepted.{edition_in}
 use Rattle.commands.specs.History.{History, after_in, answer_in, history_in}
-use Rattle.sheets.specs.declared.Style.{Style}
+use Rattle.formats.specs.declared.styles.SheetStyle.{SheetStyle as Style}
 use Rattle.sheets.specs.Sheet.{sheet}
 
 -- up to five values that can count are read back from the field of a card that says that they do

@@ -12,7 +12,7 @@ use Rattle.wire.specs.declared.frame.Frame.{Frame}
 use Rattle.wire.specs.Spelling.{spelling}
 use Rattle.wire.specs.Stream.{Front, Reader, Waits, Begins, Breaks, Fed, IsBegun, front, holding}
 use Rattle.wire.specs.Stream.{keeps}
-use Rattle.client.specs.Exchange.{StandsFirst}
+use Rattle.client.specs.Hearing.{StandsFirst}
 
 keeps_none : (at : Front) (rest : List ℕ) (reader : Reader) → (IsBegun at → ⊥)
     → reader ≡ keeps at rest → reader.fault ≡ None → (reader ≡ holding rest) × (at ≡ Waits)

@@ -1,5 +1,5 @@
 pub mod Answers
-pub mod Exchange
+pub mod Hearing
 pub mod Printing
 pub mod Standings
 pub mod Versions

@@ -2,7 +2,7 @@
 
 ghost use Rattle.std.specs.Prelude.{◌≡◌, ◌++◌, [], None, IfOk, IfErr};
 ghost use Rattle.wire.specs.Stream.{holding};
-ghost use Rattle.client.specs.Exchange.{GivesFirst, Heard, HeardNone, LacksFor};
+ghost use Rattle.client.specs.Hearing.{GivesFirst, Heard, HeardNone, LacksFor};
 
 use crate::fault::ClientFault;
 use std::io::Read;
@@ -27,7 +27,7 @@ fn first_frame(stream: &mut FrameReader, piece: &[u8]) -> Result<Option<Frame>, 
 
 /// Reads pieces of at most 4,096 bytes until a whole frame was read, and returns it. An interrupted
 /// read counts as a failed one.
-pub(crate) fn hear<R: Read>(reader: &mut R, stream: &mut FrameReader) -> Result<Frame, ClientFault>
+pub fn hear<R: Read>(reader: &mut R, stream: &mut FrameReader) -> Result<Frame, ClientFault>
     requires fresh { stream.old ≡ holding [] }
     ensures ok { IfOk result (Heard (R.remaining reader.old) (R.remaining reader.new)) }
     ensures err { IfErr result (HeardNone (R.remaining reader.old) (R.remaining reader.new)) }

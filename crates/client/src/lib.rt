@@ -1,12 +1,11 @@
-//! A client of a desk: one request over a connection, and the desk's answer.
+//! A client of a desk: what it asks, what it hears, and what it makes of that.
 //!
-//! [`exchange`] writes the frame of a request and reads the frame that answers it; [`reply_text`]
-//! is the answer as the program prints it; [`sheet_version`] is the version of the wire that has
-//! the sheets of an event; [`status_request`] and [`log_request`] are the requests for how a desk
-//! is and for its log.
+//! [`hear`] reads the first frame of a stream; [`judged`] says whether a frame is the answer to a
+//! request; [`reply_text`] is the answer as the program prints it; [`sheet_version`] is the version
+//! of the wire that has the sheets of an event; [`status_request`] and [`log_request`] are the
+//! requests for how a desk is and for its log.
 #![tactic(auto)]
 
-mod exchanging;
 mod fault;
 mod hearing;
 mod judging;
@@ -14,8 +13,8 @@ mod printing;
 mod standings;
 mod versions;
 
-pub use exchanging::exchange;
 pub use fault::{ClientFault, refusal_name};
+pub use hearing::hear;
 pub use judging::{answers, judged};
 pub use printing::reply_text;
 pub use standings::{

@@ -5,7 +5,7 @@ ghost use Rattle.std.specs.List.{list_all};
 ghost use Rattle.card_forms.specs.Entries.{command_entries};
 ghost use Rattle.command_lists.specs.Answered.{first_refusal, is_done, refusal};
 ghost use Rattle.command_lists.specs.Answered.{refused_from, shown};
-ghost use Rattle.mirror.specs.Answered.{answers_after};
+ghost use Rattle.answers.specs.Transcripts.{answers_after};
 
 use card_forms::{CommandText, CommandTexts, FormId, command_entries};
 use dry_run::foretell;

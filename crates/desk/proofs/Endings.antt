@@ -1,10 +1,6 @@
 -- How tasks end at a fault.
-use Rattle.std.proofs.Common.{◌≡◌, ◌∙◌, ℕ, List, Option, arith, sym}
+use Rattle.std.proofs.Common.{◌≡◌, ℕ, List, Option, arith}
 use Rattle.desk.specs.Statuses.{PrintsAtMost}
-use Rattle.desk_requests.specs.Statuses.{key_status, status_of}
-use Rattle.desk_requests.specs.declared.fault.DeskFault.{DeskFault}
-use Rattle.desk_requests.specs.declared.fault.DeskFault.TheVariants as fault
-use Rattle.fault_lines.specs.Statuses.{status_of_run}
 use Rattle.exports.specs.Statuses.{export_status, log_status, results_status}
 use Rattle.exports.specs.declared.fault.ExportsFault.{ExportsFault}
 use Rattle.exports.specs.declared.fault.ExportsFault.TheVariants as exports
@@ -15,10 +11,6 @@ use Rattle.exports.specs.declared.logs.LogFault.TheVariants as log
 use Rattle.exports.specs.imports.Printing.{status_of as status_of_import}
 use Rattle.exports.specs.declared.imports.fault.ImportsFault.{ImportsFault}
 use Rattle.exports.specs.declared.imports.fault.ImportsFault.TheVariants as imported
-use Rattle.keys.specs.declared.key_file.fault.KeyFileFault.{KeyFileFault}
-use Rattle.keys.specs.declared.key_file.fault.KeyFileFault.TheVariants as key
-use Rattle.lines.specs.declared.fault.RunFault.{RunFault}
-use Rattle.lines.specs.declared.fault.RunFault.TheVariants as run
 use Rattle.sqlite.specs.Recovery.{Image}
 use Rattle.desk_file.specs.stored_log.StoredLogs.{FailsLog, PrintsLogPart}
 use Rattle.desk_file.specs.declared.stored_log.fault.StoredLogFault.{StoredLogFault}
@@ -36,57 +28,6 @@ prints_at_most stored.Write IsHonest files old new fails part = part
 prints_at_most stored.NoMemory IsHonest files old new fails part = part
 
 -- no fault ends with status 0
-run_not_zero : (e : RunFault) → status_of_run e ≡ 0 → ⊥
-run_not_zero run.BadCount h = omega (arith, h)
-run_not_zero run.InputTooLong h = omega (arith, h)
-run_not_zero (run.BadLine line) h = omega (arith, h)
-run_not_zero run.Read h = omega (arith, h)
-run_not_zero run.Write h = omega (arith, h)
-run_not_zero run.NoMemory h = omega (arith, h)
-
-key_not_zero : (e : KeyFileFault) → key_status e ≡ 0 → ⊥
-key_not_zero key.NotThere h = omega (arith, h)
-key_not_zero key.Unreadable h = omega (arith, h)
-key_not_zero key.NotFile h = omega (arith, h)
-key_not_zero key.Open h = omega (arith, h)
-key_not_zero key.Mark h = omega (arith, h)
-key_not_zero key.Return h = omega (arith, h)
-key_not_zero key.Zeros h = omega (arith, h)
-key_not_zero key.NoKey h = omega (arith, h)
-key_not_zero key.NoMemory h = omega (arith, h)
-
-pub not_zero : (f : DeskFault) (status : ℕ) → status ≡ status_of f → status ≡ 0 → ⊥
-not_zero (fault.Run e) status is zero = run_not_zero e (sym is ∙ zero)
-not_zero fault.BadDesk status is zero = omega (arith, is, zero)
-not_zero fault.TextTooLong status is zero = omega (arith, is, zero)
-not_zero (fault.Refused refusal) status is zero = omega (arith, is, zero)
-not_zero fault.CannotConnect status is zero = omega (arith, is, zero)
-not_zero fault.NoAnswer status is zero = omega (arith, is, zero)
-not_zero fault.Late status is zero = omega (arith, is, zero)
-not_zero fault.NoKey status is zero = omega (arith, is, zero)
-not_zero fault.OtherKey status is zero = omega (arith, is, zero)
-not_zero fault.HasKey status is zero = omega (arith, is, zero)
-not_zero (fault.KeyFile e) status is zero = key_not_zero e (sym is ∙ zero)
-not_zero fault.KeyThere status is zero = omega (arith, is, zero)
-not_zero fault.SameKeys status is zero = omega (arith, is, zero)
-not_zero fault.NoHallKey status is zero = omega (arith, is, zero)
-not_zero fault.WrongDesk status is zero = omega (arith, is, zero)
-not_zero fault.DamagedStore status is zero = omega (arith, is, zero)
-not_zero fault.StoreDevice status is zero = omega (arith, is, zero)
-not_zero fault.StoreDown status is zero = omega (arith, is, zero)
-not_zero fault.CannotListen status is zero = omega (arith, is, zero)
-not_zero fault.NoMoreIds status is zero = omega (arith, is, zero)
-not_zero fault.StillPending status is zero = omega (arith, is, zero)
-not_zero fault.Lost status is zero = omega (arith, is, zero)
-not_zero fault.NoStore status is zero = omega (arith, is, zero)
-not_zero fault.StoreThere status is zero = omega (arith, is, zero)
-not_zero fault.SameAddresses status is zero = omega (arith, is, zero)
-not_zero (fault.UnknownHost desk) status is zero = omega (arith, is, zero)
-not_zero fault.BadHallFile status is zero = omega (arith, is, zero)
-not_zero fault.NoCommand status is zero = omega (arith, is, zero)
-not_zero fault.AnotherCommand status is zero = omega (arith, is, zero)
-not_zero fault.AtRefusal status is zero = omega (arith, is, zero)
-
 pub import_not_zero : (f : ImportsFault) (status : ℕ) → status ≡ status_of_import f → status ≡ 0
     → ⊥
 import_not_zero imported.Read status is zero = omega (arith, is, zero)

@@ -9,7 +9,7 @@ use Rattle.arguments.specs.declared.task.Task.TheVariants as task
 use Rattle.desk.specs.Statuses.{HasFew}
 
 pub found_few : (found : Option (Text × List Row)) (t : Task) → Finds found t → HasFew t
-found_few found (task.Replay event round style only_sheet) h = tt
+found_few found (task.Replay replay) h = tt
 found_few found (task.Import file options) h = tt
 found_few found (task.Export file running) h = tt
 found_few found task.Results h = tt

@@ -181,7 +181,7 @@ form_of false = form.Text
 -- at most five desks are asked at once
 abbrev pub HasFew : Task → Type 0
 HasFew (task.Status desks patience json watches all) = AreFew desks
-HasFew (task.Replay event round style only_sheet) = Unit {0}
+HasFew (task.Replay replay) = Unit {0}
 HasFew (task.Import file options) = Unit {0}
 HasFew (task.Export file running) = Unit {0}
 HasFew task.Results = Unit {0}
@@ -200,9 +200,7 @@ HasFew (task.ServeHall file wanted) = Unit {0}
 -- how a task ended: by a status, with what was read, written and reported, and what became of
 -- connections
 abbrev pub Ends : Task → ℕ → Sides → Calls → Told → Type 0
-Ends (task.Replay event round style only_sheet) status s c t =
-    EndsTask (record { event = event; round = round; style = style; only_sheet = only_sheet })
-    status s t
+Ends (task.Replay replay) status s c t = EndsTask replay status s t
 Ends (task.Import file options) status s c t =
     Keeps s.had s.left × EndsImport status options s.old s.new × IsQuiet status t
 Ends (task.Export file running) status s c t =

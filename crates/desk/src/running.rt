@@ -22,7 +22,6 @@ use exports::imports::{print_file, tell_import};
 use fault_lines::{run_replay, tell_bad_number, tell_fault, tell_parse_error, tell_run};
 use hall::hall;
 use lines::RunFault;
-use replay_arguments::ReplayTask;
 use sqlite::Unknown;
 use standings::Form;
 use std::io::{Read, Write};
@@ -90,20 +89,7 @@ fn run_task<D: Dial, R: Read, W: Write, F: Write>(
 {
     let explains = asked.explains;
     match asked.task {
-        Task::Replay {
-            event,
-            round,
-            style,
-            only_sheet,
-        } => {
-            let task = ReplayTask {
-                event,
-                round,
-                style,
-                only_sheet,
-            };
-            run_replay(rt.alloc(), task, reader, writer, faults)
-        }
+        Task::Replay(task) => run_replay(rt.alloc(), task, reader, writer, faults),
         Task::Import { file, options } => match print_file(rt, file, options, writer) {
             Ok(()) => 0,
             Err(fault) => tell_import(faults, file, &fault),

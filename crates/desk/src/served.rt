@@ -98,14 +98,7 @@ fn may_serve<D: Dial, F: Write>(
         patience: 2,
         key,
     };
-    may_make(
-        rt.alloc(),
-        dial,
-        inquiry,
-        wanted.desk,
-        wanted.new_hall,
-        faults,
-    )
+    may_make(dial, inquiry, wanted.desk, wanted.new_hall, faults)
 }
 
 /// Runs a desk of the hall that a file describes, and returns the exit status. Its key's file is

@@ -117,7 +117,7 @@ fn chosen<D: Dial, F: Write>(
     ensures err { IfErr result (λ f. FailsToChoose f file.now key patience
         (outside D.dialed F.contents dial.old dial.new faults.old faults.new)) }
 {
-    let desk = match seek(alloc, dial, file, patience, key, file.desk_count()) {
+    let desk = match seek(dial, file, patience, key, file.desk_count()) {
         Ok(desk) => desk,
         Err(fault) => return Err(fault),
     };

@@ -8,7 +8,6 @@ use client::status_request;
 use desk_requests::DeskFault;
 use hall_file::HallFile;
 use lines::RunFault;
-use std::alloc::Global;
 use wire::FrameBody;
 
 /// Why the answer to a Status says nothing, or none where it says how the desk is.
@@ -41,7 +40,6 @@ fn is_last(desk: u8, fault: DeskFault) -> bool
 ///
 /// The fault of the last one that was asked; `Run` with `NoMemory` as soon as memory runs out.
 pub(crate) fn seek<D: Dial>(
-    alloc: Global,
     dial: &mut D,
     hall: &HallFile,
     patience: u32,
@@ -63,14 +61,14 @@ pub(crate) fn seek<D: Dial>(
         key,
     };
     let request = status_request(hall.hall, desk);
-    let answer = ask_over(alloc, dial, contact, &request);
+    let answer = ask_over(dial, contact, &request);
     match why_not(answer) {
         None => Ok(desk),
         Some(fault) => {
             if is_last(desk, fault) {
                 return Err(fault);
             }
-            seek(alloc, dial, hall, patience, key, desk - 1)
+            seek(dial, hall, patience, key, desk - 1)
         }
     }
 }

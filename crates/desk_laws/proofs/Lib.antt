@@ -6,3 +6,4 @@ pub mod Coming
 pub mod FullLinks
 pub mod Message
 pub mod SmallLoops
+pub mod Answering

@@ -51,7 +51,7 @@ use Rattle.sealed.specs.ends.Laws.{IsCall}
 use Rattle.sealed.proofs.Fresh.{fresh_of_locks}
 use Rattle.serving.specs.Connection.{serve_frame}
 use Rattle.serving.specs.Making.{Outside, outside_of, speaking}
-use Rattle.serving.specs.Serving.{answer_out, call, settle_by, start_if_grown, tell}
+use Rattle.serving.specs.Serving.{answer_out, call, push_all, start_if_grown, tell}
 use Rattle.serving.specs.Telling.{entries_told, run_of}
 use Rattle.serving.specs.TurnLaw.{Came}
 use Rattle.serving.specs.Turns.{Talk, new_talk}
@@ -120,7 +120,7 @@ called locks client server = record {
 -- ---- the answer of the frame: there is none
 
 answer_none : answer_to (third_home 2) said_frame ≡ []
-unfolding serve_frame call settle_by start_if_grown tell answer_out run_of entries_told
+unfolding serve_frame call push_all start_if_grown tell answer_out run_of entries_told
 answer_none = refl
 
 abbrev home : Home

@@ -3,3 +3,4 @@ pub mod LoopRuns
 pub mod Ways
 pub mod FullLinks
 pub mod Example
+pub mod Questions

@@ -10,7 +10,7 @@ use Rattle.learner.specs.Laws.{IsPrefix}
 use Rattle.learner.specs.Steps.{IsDesk}
 use Rattle.learner.specs.Worlds.{World, new_world}
 use Rattle.multiplex.specs.EachClient.{AreDoneInTurn, Deed, Frame, OwnTick, Settling, point_in}
-use Rattle.multiplex.specs.Happenings.{Happened}
+use Rattle.polled.specs.Happenings.{Happened}
 use Rattle.multiplex.specs.Passing.{IsServedEach, Room, Step}
 use Rattle.multiplex.specs.declared.ends.ServingsOutcome.{ServingsOutcome}
 use Rattle.multiplex.specs.declared.table.ServingOptions.{ServingOptions}

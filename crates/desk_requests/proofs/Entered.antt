@@ -6,7 +6,7 @@ use Rattle.batch.specs.Asking.{IsOfAsking}
 use Rattle.batch.specs.Dialing.{Dialed, Place, Told}
 use Rattle.batch.specs.Entering.{Hinders, StopsAsking}
 use Rattle.batch.specs.Logs.{AddsSo}
-use Rattle.batch.specs.Watching.{Telling, notices_by, unheard}
+use Rattle.batch.specs.Watching.{Telling, unheard}
 use Rattle.batch.specs.declared.asking.Receiver.{Receiver}
 use Rattle.batch.specs.declared.fault.BatchFault.{BatchFault}
 use Rattle.wire.specs.Ranges.{IsDesk}
@@ -56,7 +56,7 @@ pub stopped : (f : DeskFault) (e : BatchFault) (r : Receiver) (given : Option �
     (id : ℕ) (text line : List ℕ) (t : Told) (old : Option (List ℕ))
     → IsDesk r.desk → text ≡ line → f ≡ fault_of_batch e → IsFirstId given 1 id
     → IsOfAsking e ⊎ Hinders e waits r id text
-    → AddsSo t (Telling unheard (notices_by e) (StopsAsking e r id text))
+    → AddsSo t (Telling unheard (StopsAsking e r id text))
     → FailsOne f r given waits line t old old
 stopped f e r given waits id text line t old desk same is first cause asked =
     inr (inl (
@@ -67,7 +67,7 @@ stopped f e r given waits id text line t old desk same is first cause asked =
         first_id = first;
         is = is;
         cause = subst (λ x. IsOfAsking e ⊎ Hinders e waits r id x) same cause;
-        asked = subst (λ x. AddsSo t (StopsAsking e r id x)) same (asked.0, asked.1, asked.2.0);
+        asked = subst (λ x. AddsSo t (Telling unheard (StopsAsking e r id x))) same asked;
       },
       Keeps-refl old,
     ))

@@ -8,7 +8,7 @@ use Rattle.batch.specs.Dialing.{Adds, Told}
 use Rattle.batch.specs.Entering.{AsksAll, AsksSome, EnteredBy, Hinders, IsEntered, StopsAsking}
 use Rattle.batch.specs.Entering.{texts_of, told_answer}
 use Rattle.batch.specs.Logs.{AddsSo}
-use Rattle.batch.specs.Watching.{unheard}
+use Rattle.batch.specs.Watching.{Telling, unheard}
 use Rattle.batch.specs.declared.asking.Receiver.{Receiver}
 use Rattle.batch.specs.declared.fault.BatchFault.{BatchFault}
 use Rattle.batch.specs.declared.lines_entered.Batch.{Batch}
@@ -104,7 +104,7 @@ FailsInput f r l s t =
     ⊎ ((IsDesk r.desk × IsUnready f l s.had s.left × IsSilent s t)
     ⊎ ((commands : List Numbered) × (id : ℕ) × (e : BatchFault) × IsDesk r.desk
     × IsReady l commands id s × (f ≡ fault_of_batch e)
-    × AsksSome IsOfAsking e (batch_of r l id) (texts_of commands) t unheard s.old s.new))
+    × AsksSome e (batch_of r l id) (texts_of commands) t unheard s.old s.new))
 
 -- ---- one
 
@@ -148,7 +148,7 @@ pub record Enters (r : Receiver) (given : Option ℕ) (waits : Bool) (text : Lis
   pub id : ℕ
   pub first_id : IsFirstId given 1 id
   pub entered : IsEntered waits r id text last
-  pub asked : AddsSo t (EnteredBy waits r id text last)
+  pub asked : AddsSo t (Telling unheard (EnteredBy waits r id text last))
 
 -- so it was, and that is printed and is said by the exit status
 abbrev pub EntersOne : ℕ → Receiver → Option ℕ → Bool → List ℕ → Told
@@ -165,7 +165,7 @@ pub record IsStopped (f : DeskFault) (r : Receiver) (given : Option ℕ) (waits 
   pub first_id : IsFirstId given 1 id
   pub is : f ≡ fault_of_batch why
   pub cause : IsOfAsking why ⊎ Hinders why waits r id text
-  pub asked : AddsSo t (StopsAsking why r id text)
+  pub asked : AddsSo t (Telling unheard (StopsAsking why r id text))
 
 abbrev pub IsOfPrinting : DeskFault → Type 0
 IsOfPrinting f = (f ≡ fault.Run run.Write) ⊎ (f ≡ fault.Run run.NoMemory)

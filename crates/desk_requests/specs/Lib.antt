@@ -7,4 +7,3 @@ pub mod Newest
 pub mod Polling
 pub mod Statuses
 pub mod Watching
-pub mod Keying

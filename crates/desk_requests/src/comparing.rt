@@ -67,7 +67,6 @@ fn standing_desk(reply: &StatusReply) -> Option<u8>
 
 /// The entries that a desk reports from a position on, where it said how it is.
 fn entries_at<D: Dial>(
-    alloc: Global,
     dial: &mut D,
     inquiry: Inquiry<'_>,
     position: u32,
@@ -86,7 +85,7 @@ fn entries_at<D: Dial>(
         key: inquiry.key,
     };
     let request = log_request(inquiry.hall, desk, position);
-    let came = ask_over(alloc, dial, contact, &request);
+    let came = ask_over(dial, contact, &request);
     entries_of(came)
 }
 
@@ -138,7 +137,6 @@ fn first_told(known: Option<Entries>, told: Option<Entries>) -> Option<Entries>
 /// known, or those of the first one that reports any, and puts each desk after the others, with
 /// where it has another entry.
 fn compare_each<'a, D: Dial>(
-    alloc: Global,
     dial: &mut D,
     inquiry: Inquiry<'_>,
     position: u32,
@@ -154,7 +152,7 @@ fn compare_each<'a, D: Dial>(
     let [one, rest @ ..] = polled else {
         return Ok(());
     };
-    let told = entries_at(alloc, dial, inquiry, position, one);
+    let told = entries_at(dial, inquiry, position, one);
     let other = other_in(position, end, &known, &told);
     compared.push(PolledDesk {
         asked: one.asked,
@@ -163,7 +161,7 @@ fn compare_each<'a, D: Dial>(
         other,
     })?;
     let first = first_told(known, told);
-    compare_each(alloc, dial, inquiry, position, end, first, rest, compared)
+    compare_each(dial, inquiry, position, end, first, rest, compared)
 }
 
 /// Compares the last entries that all logs have of the desks that said how they are, at most 400,
@@ -181,6 +179,6 @@ pub(crate) fn compare<'a, D: Dial>(
     let end = common_length(polled);
     let from = end.saturating_sub(COMPARED);
     let mut compared = Vec::new(alloc);
-    compare_each(alloc, dial, inquiry, from, end, None, polled, &mut compared)?;
+    compare_each(dial, inquiry, from, end, None, polled, &mut compared)?;
     Ok(compared)
 }

@@ -2,7 +2,6 @@
 
 ghost use Rattle.std.specs.Prelude.{◌≡◌, ◌≤◌, None, IfErr, IfOk, OnErr, OnOk, length};
 ghost use Rattle.std.specs.Io.KnownBytes.{Appends};
-ghost use Rattle.batch.specs.Asking.{IsOfAsking};
 ghost use Rattle.batch.specs.Dialing.{told};
 ghost use Rattle.batch.specs.Entering.{AsksAll, AsksSome, texts_of, told_answer};
 ghost use Rattle.batch.specs.Watching.{unheard};
@@ -106,7 +105,7 @@ fn enter_good<T: Clock, D: Dial, W: Write, F: Write, H: Reasons>(
     ensures ok { OnOk result (AsksAll batch (texts_of commands.now)
         (told contact.entry D.dialed dial.old dial.new) unheard
         (W.contents writer.old) (W.contents writer.new)) }
-    ensures err { IfErr result (λ f. AsksSome IsOfAsking f batch (texts_of commands.now)
+    ensures err { IfErr result (λ f. AsksSome f batch (texts_of commands.now)
         (told contact.entry D.dialed dial.old dial.new) unheard
         (W.contents writer.old) (W.contents writer.new)) }
 {

@@ -4,14 +4,13 @@
 #![tactic(auto)]
 
 mod comparing;
+mod connection;
 mod drawing;
 mod endings;
 mod entering;
 mod fault;
-mod incoming;
 mod logs;
 mod newest;
-mod outgoing;
 mod polling;
 mod reasons;
 mod report;

@@ -37,7 +37,7 @@ pub fn print_newest<D: Dial, W: Write>(
     if receiver.desk == 0 || receiver.desk > 5 {
         return Err(DeskFault::BadDesk);
     }
-    let answer = match ask_newest(alloc, dial, contact, receiver, sheet) {
+    let answer = match ask_newest(dial, contact, receiver, sheet) {
         Ok(answer) => answer,
         Err(fault) => return Err(DeskFault::from(fault)),
     };

@@ -139,7 +139,6 @@ fn reply_to(
 
 /// Asks at a place for the desks of these numbers, until one does not refuse as foreign.
 fn ask_each<D: Dial>(
-    alloc: Global,
     dial: &mut D,
     question: Question,
     hall: u32,
@@ -156,9 +155,9 @@ fn ask_each<D: Dial>(
         });
     };
     let request = request_of(question, hall, *desk);
-    let answer = ask_over(alloc, dial, contact, &request);
+    let answer = ask_over(dial, contact, &request);
     if is_foreign(&answer) {
-        return ask_each(alloc, dial, question, hall, contact, rest);
+        return ask_each(dial, question, hall, contact, rest);
     }
     reply_to(question, *desk, answer)
 }
@@ -175,7 +174,6 @@ fn is_unanswered(first: &Option<StatusReply>) -> bool
 /// version 3 of the wire. Where there is no answer, each desk is asked once more, as one of a
 /// program before that. None: memory ran out.
 fn ask_earlier<D: Dial>(
-    alloc: Global,
     dial: &mut D,
     hall: u32,
     contact: Contact<'_>,
@@ -186,36 +184,29 @@ fn ask_earlier<D: Dial>(
         (D.dialed dial.old) (D.dialed dial.new) result }
 {
     let desks = tried(desk);
-    let first = ask_each(alloc, dial, Question::Standing, hall, contact, &desks);
+    let first = ask_each(dial, Question::Standing, hall, contact, &desks);
     if is_unanswered(&first) {
-        return ask_each(alloc, dial, Question::Id, hall, contact, &desks);
+        return ask_each(dial, Question::Id, hall, contact, &desks);
     }
     first
 }
 
 /// The same, in version 5 first.
-fn ask_at<D: Dial>(
-    alloc: Global,
-    dial: &mut D,
-    hall: u32,
-    contact: Contact<'_>,
-    desk: u8,
-) -> Option<StatusReply>
+fn ask_at<D: Dial>(dial: &mut D, hall: u32, contact: Contact<'_>, desk: u8) -> Option<StatusReply>
     requires { IsDesk desk }
     ensures { IsPolled (place_of contact.entry) hall desk
         (D.dialed dial.old) (D.dialed dial.new) result }
 {
     let desks = tried(desk);
-    let first = ask_each(alloc, dial, Question::Fully, hall, contact, &desks);
+    let first = ask_each(dial, Question::Fully, hall, contact, &desks);
     if is_unanswered(&first) {
-        return ask_earlier(alloc, dial, hall, contact, desk);
+        return ask_earlier(dial, hall, contact, desk);
     }
     first
 }
 
 /// Asks at an address for the desk of a number.
 fn ask_for<'a, D: Dial>(
-    alloc: Global,
     dial: &mut D,
     inquiry: Inquiry<'_>,
     desk: u8,
@@ -230,7 +221,7 @@ fn ask_for<'a, D: Dial>(
         patience: inquiry.patience,
         key: inquiry.key,
     };
-    match ask_at(alloc, dial, inquiry.hall, contact, desk) {
+    match ask_at(dial, inquiry.hall, contact, desk) {
         Some(reply) => Ok(PolledDesk {
             asked: desk,
             address,
@@ -244,7 +235,6 @@ fn ask_for<'a, D: Dial>(
 /// Asks the desks at these addresses, the first as the desk of this number, and each further one
 /// as the next.
 fn ask_all<'a, D: Dial>(
-    alloc: Global,
     dial: &mut D,
     inquiry: Inquiry<'_>,
     desk: u8,
@@ -259,9 +249,9 @@ fn ask_all<'a, D: Dial>(
     let [address, rest @ ..] = addresses else {
         return Ok(());
     };
-    let one = ask_for(alloc, dial, inquiry, desk, address)?;
+    let one = ask_for(dial, inquiry, desk, address)?;
     polled.push(one)?;
-    ask_all(alloc, dial, inquiry, desk + 1, rest, polled)
+    ask_all(dial, inquiry, desk + 1, rest, polled)
 }
 
 /// Asks all desks of an inquiry, the first address for desk 1, and compares their logs.
@@ -276,7 +266,7 @@ fn polled_of<'a, D: Dial>(
     ensures few { IfOk result (λ polled. length polled.items ≤ 5) }
 {
     let mut polled = Vec::new(alloc);
-    ask_all(alloc, dial, inquiry, 1, inquiry.addresses, &mut polled)?;
+    ask_all(dial, inquiry, 1, inquiry.addresses, &mut polled)?;
     let compared = compare(alloc, dial, inquiry, &polled)?;
     Ok(compared)
 }

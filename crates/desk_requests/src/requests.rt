@@ -92,11 +92,7 @@ pub(crate) fn frame_of(errand: Errand<'_>) -> Result<Frame, DeskFault>
 }
 
 /// Asks a desk once, and gives its answer.
-fn answered<D: Dial>(
-    alloc: Global,
-    dial: &mut D,
-    errand: Errand<'_>,
-) -> Result<FrameBody, DeskFault>
+fn answered<D: Dial>(dial: &mut D, errand: Errand<'_>) -> Result<FrameBody, DeskFault>
     requires { HasId errand.request }
     ensures ok { IfOk result (λ answer. GetsAnswer errand.entry answer
         (told errand.entry.contact D.dialed dial.old dial.new)) }
@@ -108,7 +104,7 @@ fn answered<D: Dial>(
         Ok(asked) => asked,
         Err(fault) => return Err(fault),
     };
-    match ask_over(alloc, dial, errand.contact, &asked) {
+    match ask_over(dial, errand.contact, &asked) {
         Ok(answer) => Ok(answer),
         Err(fault) => Err(DeskFault::from(fault)),
     }
@@ -177,7 +173,7 @@ pub fn carry<D: Dial, W: Write>(
         (told errand.entry.contact D.dialed dial.old dial.new)
         (W.contents writer.old) (W.contents writer.new)) }
 {
-    let answer = match answered(alloc, dial, errand) {
+    let answer = match answered(dial, errand) {
         Ok(answer) => answer,
         Err(fault) => return Err(fault),
     };

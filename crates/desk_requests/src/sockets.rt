@@ -3,23 +3,20 @@
 
 ghost use Rattle.std.specs.Prelude.{◌≡◌, IfOk};
 ghost use Rattle.sealed.specs.ends.ClientStreams.{own_key};
-ghost use Rattle.desk_requests.specs.Keying.{AreUnder};
 
+use crate::connection::OpenConnection;
 use crate::drawing::drawn_bytes;
 use crate::endings::{ends_so_too, sure_ending};
-use crate::incoming::AnswerReader;
-use crate::outgoing::Outgoing;
 use crate::waiting::Wait;
 use batch::{ConnectionLoss, Contact, Dial};
+use client::ClientFault;
 use sealed::ends::ClientStream;
 use std::alloc::Global;
 use std::io::ErrorKind;
 use std::net::{SocketAddr, TcpStream, ToSocketAddrs};
 use std::time::Duration;
 use std::{io, thread};
-
-/// How many bytes show whether a desk speaks under a key, and so how many reads bring them.
-const PREFACE: u32 = 20;
+use wire::Frame;
 
 /// How long a client rests after this many tries: 250 microseconds at first, twice as long after
 /// every third try, and at most 32 milliseconds.
@@ -31,12 +28,14 @@ fn rest_after(tries: u32) -> Duration {
 #[derive(Drop)]
 pub struct TcpDialer<'a> {
     rt: &'a HostRuntime,
+    /// The one that is open, if there is one.
+    open: Option<OpenConnection<'a>>,
 }
 
 impl<'a> TcpDialer<'a> {
     /// Connections of this process.
     pub fn new(rt: &'a HostRuntime) -> TcpDialer<'a> {
-        TcpDialer { rt }
+        TcpDialer { rt, open: None }
     }
 }
 
@@ -56,7 +55,7 @@ fn connected(
     Err(last)
 }
 
-/// One side of a new connection, of a caller who has this key, or none.
+/// The caller's end of a new connection, under this key, if there is one.
 fn call_of(alloc: Global, key: Option<[u8; 32]>, random: [u8; 16]) -> io::Result<ClientStream>
     ensures { IfOk result (λ call. own_key call ≡ key) }
 {
@@ -66,31 +65,6 @@ fn call_of(alloc: Global, key: Option<[u8; 32]>, random: [u8; 16]) -> io::Result
     }
 }
 
-/// Begins a connection under a key: sends the client's preface and waits for the desk's. Where none
-/// comes, nothing can be sent, and the answer notes how the connection ends.
-fn open(answer: &mut AnswerReader<'_>, outgoing: &mut Outgoing) -> io::Result<()>
-    ensures hears { own_key answer.new.call ≡ own_key answer.old.call }
-    ensures says { own_key outgoing.new.call ≡ own_key outgoing.old.call }
-{
-    if outgoing.is_open() {
-        return Ok(());
-    }
-    outgoing.send()?;
-    let mut piece = [0; 20];
-    for _read in 0..PREFACE {
-        if outgoing.is_open() || answer.is_over() {
-            return Ok(());
-        }
-        let count = answer.take(&mut piece)?;
-        if count == 0 {
-            return Ok(());
-        }
-        let _said = answer.receive(&piece[..count])?;
-        outgoing.receive(&piece[..count])?;
-    }
-    Ok(())
-}
-
 /// Begins what goes over a new connection to a desk, under this key, if there is one.
 fn begun<'a>(
     rt: &'a HostRuntime,
@@ -98,28 +72,26 @@ fn begun<'a>(
     to: SocketAddr,
     wait: Wait<'a>,
     key: Option<[u8; 32]>,
-) -> io::Result<(AnswerReader<'a>, Outgoing)>
-    ensures { IfOk result (λ c. AreUnder key c.0 c.1) }
+) -> io::Result<OpenConnection<'a>>
+    ensures { IfOk result (λ c. own_key c.call ≡ key) }
 {
     let alloc = rt.alloc();
     // where it is refused, the request is only slower
     let _ = stream.set_nodelay(true);
     stream.set_write_timeout(Some(wait.left()?))?;
     let random = drawn_bytes(rt)?;
-    let hears = call_of(alloc, key, random)?;
-    let says = call_of(alloc, key, random)?;
-    let mut outgoing = Outgoing::new(stream.try_clone()?, says);
-    let mut answer = AnswerReader::new(alloc, stream, to, wait, hears);
-    match open(&mut answer, &mut outgoing) {
+    let call = call_of(alloc, key, random)?;
+    let mut connection = OpenConnection::new(alloc, stream, to, wait, call);
+    match connection.open() {
         Err(error) if error.kind() == ErrorKind::OutOfMemory => Err(error),
-        // where it failed, the answer knows how the connection ends
-        _ => Ok((answer, outgoing)),
+        // where it failed, the connection knows how it ends
+        _ => Ok(connection),
     }
 }
 
 /// Opens a connection for a request, under the contact's key, if it has one.
-fn dialed<'a>(rt: &'a HostRuntime, contact: Contact<'_>) -> io::Result<(AnswerReader<'a>, Outgoing)>
-    ensures { IfOk result (λ c. AreUnder contact.entry.key c.0 c.1) }
+fn dialed<'a>(rt: &'a HostRuntime, contact: Contact<'_>) -> io::Result<OpenConnection<'a>>
+    ensures { IfOk result (λ c. own_key c.call ≡ contact.entry.key) }
 {
     let wait = Wait::new(rt, contact.patience)?;
     let (stream, to) = connected(rt, contact.address, &wait)?;
@@ -128,18 +100,15 @@ fn dialed<'a>(rt: &'a HostRuntime, contact: Contact<'_>) -> io::Result<(AnswerRe
 
 /// Whether a desk that ended a connection as a desk without a key, or with another one, begins the
 /// next one in the same way. Only a preface is sent on it, and no key has a part in that.
-fn is_there(rt: &HostRuntime, reader: &AnswerReader<'_>) -> bool {
-    let (to, wait) = reader.place();
-    let Ok(left) = wait.left() else {
+fn is_there(rt: &HostRuntime, first: &OpenConnection<'_>) -> bool {
+    let Ok(left) = first.wait.left() else {
         return false;
     };
-    let Ok(stream) = TcpStream::connect_timeout(rt, &to, left) else {
+    let Ok(stream) = TcpStream::connect_timeout(rt, &first.to, left) else {
         return false;
     };
-    match begun(rt, stream, to, wait, Some([0; 32])) {
-        Ok((answer, outgoing)) => {
-            ends_so_too(reader.ending(), answer.ending(), outgoing.is_open())
-        }
+    match begun(rt, stream, first.to, first.wait, Some([0; 32])) {
+        Ok(second) => ends_so_too(first.ending, second.ending, second.call.is_open()),
         Err(_) => false,
     }
 }
@@ -147,28 +116,33 @@ fn is_there(rt: &HostRuntime, reader: &AnswerReader<'_>) -> bool {
 impl<'a> Dial for TcpDialer<'a> {
     ghost use Rattle.std.specs.Prelude.{None};
 
-    type Reader = AnswerReader<'a>;
-
-    type Writer = Outgoing;
-
     ghost dialed = { λ _. None };
 
-    fn dial(&mut self, contact: Contact<'_>) -> io::Result<(AnswerReader<'a>, Outgoing)> {
-        dialed(self.rt, contact)
+    fn dial(&mut self, contact: Contact<'_>) -> io::Result<()> {
+        self.open = None;
+        let connection = dialed(self.rt, contact)?;
+        self.open = Some(connection);
+        Ok(())
     }
 
-    fn again(&mut self, reader: &mut AnswerReader<'a>) {
-        reader.begin();
+    fn ask(&mut self, request: &Frame) -> Result<Frame, ClientFault> {
+        match &mut self.open {
+            Some(connection) => connection.ask(request),
+            None => Err(ClientFault::NoAnswer),
+        }
     }
 
     /// That the keys don't fit is said where a second connection shows it too.
-    fn hang_up(&mut self, reader: AnswerReader<'a>, _writer: Outgoing) -> ConnectionLoss {
-        let ending = reader.ending();
+    fn hang_up(&mut self) -> ConnectionLoss {
+        let Some(connection) = self.open.take() else {
+            return ConnectionLoss::Own;
+        };
+        let ending = connection.ending;
         let is_told = matches!(ending, ConnectionLoss::NoKey | ConnectionLoss::OtherKey);
-        sure_ending(ending, is_told && is_there(self.rt, &reader))
+        sure_ending(ending, is_told && is_there(self.rt, &connection))
     }
 
-    fn pause(&mut self, tries: u32) {
+    fn pause(&self, tries: u32) {
         thread::sleep(self.rt, rest_after(tries));
     }
 }

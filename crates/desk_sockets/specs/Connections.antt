@@ -15,10 +15,8 @@ after_came came.NoAnswer = after.Ended None
 
 -- nothing is wrong with the keys
 abbrev pub is_harmless : NextStep → Bool
-is_harmless after.More = true
-is_harmless after.Later = true
-is_harmless (after.Ended None) = true
 is_harmless (after.Ended (Some trouble)) = false
+is_harmless _ = true
 
 -- a connection that goes on is under this key still, or under none still; of one that has ended,
 -- what is wrong is what can be wrong

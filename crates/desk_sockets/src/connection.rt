@@ -6,10 +6,9 @@ ghost use Rattle.sealed.specs.ends.ClientStreams.{own_key};
 ghost use Rattle.desk_sockets.specs.Connections.{Follows, after_came, is_harmless};
 
 use desk_talks::{Dialogue, ReceiveOutcome};
-use mio::net::TcpStream;
+use polled::sockets::{CallerSocket, is_waiting};
 use sealed::ends::{CallTrouble, ClientStream};
-use std::io;
-use std::io::{ErrorKind, Read, Write};
+use std::io::ErrorKind;
 
 /// How often the connection is read or written at once: more often than an answer needs, which has
 /// 300,004 bytes at most, and the tags beside them.
@@ -38,26 +37,9 @@ pub(crate) struct ReadingOutcome {
 
 /// A connection that is open or is being opened, and the call over it.
 #[derive(Drop)]
-pub(crate) struct DeskConnection {
-    stream: TcpStream,
+pub(crate) struct DeskConnection<S> {
+    stream: S,
     call: ClientStream,
-}
-
-/// Whether a call is to be made again once the socket is ready.
-fn is_waiting(error: &io::Error) -> bool {
-    matches!(error.kind(), ErrorKind::WouldBlock | ErrorKind::Interrupted)
-}
-
-/// Whether a connection that was begun is open. None: it can't be opened.
-fn is_open(stream: &TcpStream) -> Option<bool> {
-    if !matches!(stream.take_error(), Ok(None)) {
-        return None;
-    }
-    match stream.peer_addr() {
-        Ok(_) => Some(true),
-        Err(error) if error.kind() == ErrorKind::NotConnected => Some(false),
-        Err(_) => None,
-    }
 }
 
 /// What came of a read that gave nothing of use.
@@ -111,9 +93,9 @@ fn hear_some<D: Dialogue>(dialogue: &mut D, now: u64, handed: &[u8]) -> ReadingO
     reading_of(dialogue.hear(now, handed))
 }
 
-impl DeskConnection {
+impl<S: CallerSocket> DeskConnection<S> {
     /// A connection that is being opened, for this call.
-    pub(crate) fn new(stream: TcpStream, call: ClientStream) -> DeskConnection
+    pub(crate) fn new(stream: S, call: ClientStream) -> DeskConnection<S>
         ensures { result.call ≡ call }
     {
         DeskConnection { stream, call }
@@ -124,10 +106,10 @@ impl DeskConnection {
         ensures held { D.held dialogue.new ≡ D.held dialogue.old }
         ensures went { Reaches D.leads dialogue.old dialogue.new }
     {
-        match is_open(&self.stream) {
-            Some(true) => dialogue.opened(),
-            Some(false) => true,
-            None => {
+        match self.stream.connected() {
+            Ok(()) => dialogue.opened(),
+            Err(ErrorKind::NotConnected) => true,
+            Err(_) => {
                 dialogue.lost();
                 false
             }
@@ -156,8 +138,7 @@ impl DeskConnection {
         ensures went { Reaches D.leads dialogue.old dialogue.new }
     {
         let mut piece = [0; 4096];
-        let mut stream = &self.stream;
-        match stream.read(&mut piece) {
+        match self.stream.read(&mut piece) {
             Ok(0) => reading_lost(dialogue, self.call.trouble_at_end()),
             Ok(count) => self.hear(dialogue, now, &piece[..count]),
             Err(error) if is_waiting(&error) => reading_nothing(NextStep::Later),
@@ -220,8 +201,7 @@ impl DeskConnection {
         if !self.is_waiting() {
             return NextStep::Later;
         }
-        let mut stream = &self.stream;
-        match stream.write(self.call.output()) {
+        match self.stream.write(self.call.output()) {
             Ok(0) => NextStep::Later,
             Ok(count) => {
                 self.call.sent(count);

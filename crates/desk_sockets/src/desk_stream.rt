@@ -10,15 +10,13 @@ ghost use Rattle.desk_sockets.specs.Troubles.{confirmed, fits};
 
 use crate::connection::{DeskConnection, NextStep};
 use desk_talks::{Dialogue, DialogueAction};
-use mio::net::TcpStream;
-use mio::{Interest, Registry, Token};
+use polled::sockets::{Connector, TcpConnector};
 use sealed::ends::{CallTrouble, ClientStream};
 use std::alloc::Global;
 use std::io;
 use std::io::ErrorKind;
 use std::marker::Model;
-use std::net::{Net, SocketAddr};
-use std::random::RandomSource;
+use std::net::SocketAddr;
 
 /// How many wishes of a dialogue are fulfilled at once, more than there are between two moments of
 /// rest.
@@ -35,21 +33,24 @@ pub enum DialogueChange {
     Broken,
 }
 
+/// The connection of a dialogue over TCP.
+pub type DeskStream<'a, R> = DialogueStream<TcpConnector<'a, R>>;
+
 /// The connection of a dialogue to a desk of a hall, if there is one. Where the hall has a key, all
 /// that goes over it is sealed under that key.
 ///
 /// A contract sees the key, what is wrong with it, and what the last connection that ended said of
 /// that.
 #[derive(Drop)]
-pub struct DeskStream<'a, R> {
-    source: &'a R,
+pub struct DialogueStream<C: Connector> {
+    connector: C,
     alloc: Global,
-    registry: Registry,
-    token: Token,
+    /// The number of the socket.
+    number: u8,
     /// The address of desk 1, of desk 2 and so on, where it is known.
     addresses: Vec<Option<SocketAddr>>,
     key: Option<[u8; 32]>,
-    connection: Option<DeskConnection>,
+    connection: Option<DeskConnection<C::Socket>>,
     trouble: Option<CallTrouble>,
     /// What the end of the last connection said, of which a second one has to say the same.
     suspected: Option<CallTrouble>,
@@ -75,7 +76,7 @@ fn confirmed(
     }
 }
 
-impl<'a, R> Model for DeskStream<'a, R> {
+impl<C: Connector> Model for DialogueStream<C> {
     ghost use Rattle.std.specs.Prelude.{◌≡◌, is_some, true};
     ghost use Rattle.std.specs.Option.{ForSome};
     ghost use Rattle.sealed.specs.ends.ClientStreams.{own_key};
@@ -90,25 +91,22 @@ impl<'a, R> Model for DeskStream<'a, R> {
         × ForSome s.connection (λ c. own_key c.call ≡ s.key) };
 }
 
-impl<'a, R: Net + RandomSource> DeskStream<'a, R> {
-    /// No connection yet. The poll of this registry names its socket by a token. The addresses are
-    /// those of desk 1, of desk 2 and so on. The key is that of the hall, or its entry key; None
-    /// where the hall has no key.
+impl<C: Connector> DialogueStream<C> {
+    /// No connection yet. Its socket has this number. The addresses are those of desk 1, of desk 2
+    /// and so on. The key is that of the hall, or its entry key; None where the hall has no key.
     pub fn new(
-        source: &'a R,
+        connector: C,
         alloc: Global,
-        registry: Registry,
-        token: Token,
+        number: u8,
         addresses: Vec<Option<SocketAddr>>,
         key: Option<[u8; 32]>,
-    ) -> DeskStream<'a, R>
+    ) -> DialogueStream<C>
         ensures { result ≡ fresh_stream key }
     {
-        DeskStream {
-            source,
+        DialogueStream {
+            connector,
             alloc,
-            registry,
-            token,
+            number,
             addresses,
             key,
             connection: None,
@@ -133,27 +131,23 @@ impl<'a, R: Net + RandomSource> DeskStream<'a, R> {
         ensures { IfSome result (λ call. own_key call ≡ self.now.key) }
     {
         let mut random = [0; 16];
-        match self.source.fill_bytes(&mut random) {
+        match self.connector.fill_bytes(&mut random) {
             Ok(()) => ClientStream::new(self.alloc, self.key, random).ok(),
             Err(_) => None,
         }
     }
 
     /// A connection to a desk that is being opened.
-    fn connect(&self, desk: u8) -> io::Result<TcpStream> {
+    fn connect(&self, desk: u8) -> io::Result<C::Socket> {
         let place = usize::from(desk).wrapping_sub(1);
         let Some(Some(address)) = self.addresses.get(place) else {
             return Err(ErrorKind::NotFound.into());
         };
-        let mut stream = TcpStream::connect(self.source, *address)?;
-        let _ = stream.set_nodelay(true);
-        let interest = Interest::READABLE | Interest::WRITABLE;
-        self.registry.register(&mut stream, self.token, interest)?;
-        Ok(stream)
+        self.connector.connect(self.number, *address)
     }
 
     /// Begins to open a connection to a desk. None: it can't be opened.
-    fn connection_to(&self, desk: u8) -> Option<DeskConnection>
+    fn connection_to(&self, desk: u8) -> Option<DeskConnection<C::Socket>>
         ensures { IfSome result (λ c. own_key c.call ≡ self.now.key) }
     {
         let call = self.call()?;
@@ -164,7 +158,7 @@ impl<'a, R: Net + RandomSource> DeskStream<'a, R> {
     }
 
     /// Goes on with a connection, unless it has ended; what its end tells of the keys is noted.
-    fn go_on(&mut self, connection: DeskConnection, after: NextStep)
+    fn go_on(&mut self, connection: DeskConnection<C::Socket>, after: NextStep)
         requires { Follows after self.old.key connection.call }
         ensures { self.new ≡ noted after self.old }
     {

@@ -94,9 +94,7 @@ Asks wish.Write now old new =
     (after : KeptConnectionOf) × AsksOver true now (question old) old.line after
     × (new ≡ with_line old after)
 Asks wish.Close now old new = new ≡ given_up old
-Asks wish.Rest now old new = ⊥
-Asks (wish.Open desk) now old new = ⊥
-Asks wish.Stop now old new = ⊥
+Asks _ now old new = ⊥
 
 -- a connection over which the desk answers no more is closed, and the desk is not silent for that
 abbrev pub ActsBy : DueAction → DialogueAction → ℕ → SurveyOf → SurveyOf → Type 0

@@ -2,8 +2,8 @@
 
 ghost use Rattle.std.specs.Prelude.{◌≡◌, ◌≤◌};
 ghost use Rattle.desk_talks.specs.KeptConnections.{unsent_by, wait_of};
-ghost use Rattle.desk_survey.specs.Surveys.{Acts, Asks, Follows, HearsDesk, Opens, lost};
-ghost use Rattle.desk_survey.specs.Surveys.{is_earlier, new_survey, question, sent_by, speaks_five};
+ghost use Rattle.desk_survey.specs.Surveys.{Asks, Follows, is_earlier, lost, new_survey, question};
+ghost use Rattle.desk_survey.specs.Surveys.{speaks_five};
 ghost use Rattle.wire.specs.Ranges.{IsDesk, IsFrame};
 
 use client::{status_request, status_request_in_five};
@@ -122,29 +122,6 @@ impl Survey {
         self.line.wait(now)
     }
 
-    /// What is to be done now, at this many milliseconds of a clock that doesn't go back. It counts
-    /// as begun.
-    pub fn act(&mut self, now: u64) -> DialogueAction
-        ensures { Acts result now self.old self.new }
-    {
-        match self.line.due(now) {
-            DueAction::Rest => DialogueAction::Rest,
-            DueAction::Open => {
-                self.line.open(now);
-                DialogueAction::Open { desk: self.desk }
-            }
-            DueAction::Ask => self.ask(now),
-            DueAction::Close => {
-                self.lost();
-                DialogueAction::Close
-            }
-            DueAction::Renew => {
-                self.line.close();
-                DialogueAction::Close
-            }
-        }
-    }
-
     /// How the desk is asked how it is.
     fn question(&self) -> Frame
         ensures question { result ≡ question self.now }
@@ -169,18 +146,6 @@ impl Survey {
         DialogueAction::Close
     }
 
-    /// Says that the connection that was being opened is open. Where memory is refused, it counts
-    /// as lost, and the answer is false: it is to be closed.
-    pub fn opened(&mut self) -> bool
-        ensures { Opens result self.old self.new }
-    {
-        let opened = self.line.opened();
-        if !opened {
-            self.contact = Reachability::Silent;
-        }
-        opened
-    }
-
     /// Whether the desk is to be asked in version 3 over the next connection, where this one is
     /// lost: a desk of an earlier program ends one over which it is asked in version 5. One that
     /// answers is asked on in the same version.
@@ -191,37 +156,6 @@ impl Survey {
             return self.earlier;
         }
         !self.earlier && matches!(self.line.stage(), ConnectionStage::Asked { .. })
-    }
-
-    /// Says that the connection is lost: it couldn't be opened, it failed, or the desk ended it.
-    pub fn lost(&mut self)
-        ensures { self.new ≡ lost self.old }
-    {
-        self.earlier = self.is_earlier();
-        self.line.close();
-        self.contact = Reachability::Silent;
-    }
-
-    /// What is to be written now.
-    pub fn output(&self) -> &[u8]
-        ensures { result.now ≡ unsent_by self.now.line.talking }
-    {
-        self.line.output()
-    }
-
-    /// Says that this many bytes of the output were written.
-    pub fn sent(&mut self, count: usize)
-        ensures { self.new ≡ sent_by self.old count }
-    {
-        self.line.sent(count);
-    }
-
-    /// Takes bytes that came from the desk over the connection.
-    pub fn hear(&mut self, now: u64, piece: &[u8]) -> ReceiveOutcome
-        ensures { HearsDesk result now piece.now self.old self.new }
-    {
-        let heard = self.line.hear(piece);
-        self.follow(now, heard)
     }
 
     /// Does what follows of what the desk's bytes came to.
@@ -262,7 +196,22 @@ impl Dialogue for Survey {
     ghost leads = { DialogueLeads };
 
     fn act(&mut self, now: u64) -> DialogueAction {
-        self.act(now)
+        match self.line.due(now) {
+            DueAction::Rest => DialogueAction::Rest,
+            DueAction::Open => {
+                self.line.open(now);
+                DialogueAction::Open { desk: self.desk }
+            }
+            DueAction::Ask => self.ask(now),
+            DueAction::Close => {
+                self.lost();
+                DialogueAction::Close
+            }
+            DueAction::Renew => {
+                self.line.close();
+                DialogueAction::Close
+            }
+        }
     }
 
     fn is_opening(&self) -> bool
@@ -272,24 +221,33 @@ impl Dialogue for Survey {
     }
 
     fn opened(&mut self) -> bool {
-        self.opened()
+        let opened = self.line.opened();
+        if !opened {
+            self.contact = Reachability::Silent;
+        }
+        opened
     }
 
-    fn lost(&mut self) {
-        self.lost();
+    fn lost(&mut self)
+        ensures { self.new ≡ lost self.old }
+    {
+        self.earlier = self.is_earlier();
+        self.line.close();
+        self.contact = Reachability::Silent;
     }
 
     fn output(&self) -> &[u8]
         ensures { result.now ≡ unsent_by self.now.line.talking }
     {
-        self.output()
+        self.line.output()
     }
 
     fn sent(&mut self, count: usize) {
-        self.sent(count);
+        self.line.sent(count);
     }
 
     fn hear(&mut self, now: u64, piece: &[u8]) -> ReceiveOutcome {
-        self.hear(now, piece)
+        let heard = self.line.hear(piece);
+        self.follow(now, heard)
     }
 }

@@ -80,11 +80,8 @@ abbrev pub wait_of : KeptConnectionOf → ℕ → ℕ
 wait_of l now = wait_at l.stage (is_used_up l.asked) l.pace now
 
 abbrev pub is_opening : ConnectionStage → Bool
-is_opening (stage.Closed last) = false
 is_opening (stage.Opening since) = true
-is_opening (stage.Opened since) = false
-is_opening (stage.Asked since) = false
-is_opening (stage.Answered last) = false
+is_opening _ = false
 
 -- ---- what becomes of the connection
 

@@ -5,7 +5,7 @@ use Rattle.formats.specs.declared.events.Event.{Event}
 use Rattle.texts.specs.declared.answer.Answer.{Answer}
 use Rattle.texts.specs.declared.answer.Code.{Code}
 use Rattle.commands.specs.History.{History, nothing, answer_of, answer_to, after, history}
-use Rattle.sheets.specs.declared.Style.{Style}
+use Rattle.formats.specs.declared.styles.SheetStyle.{SheetStyle as Style}
 use Rattle.sheets.specs.Sheet.{sheet}
 
 -- a text, and the code of its refusal where it is refused

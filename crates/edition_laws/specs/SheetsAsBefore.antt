@@ -5,7 +5,7 @@ use Rattle.texts.specs.declared.command.Command.{Command}
 use Rattle.texts.specs.declared.command.Command.TheVariants.{Close, Reopen}
 use Rattle.texts.specs.declared.command.RoundId.{RoundId}
 use Rattle.commands.specs.Accepted.{refusal}
-use Rattle.sheets.specs.declared.Style.{Style}
+use Rattle.formats.specs.declared.styles.SheetStyle.{SheetStyle as Style}
 use Rattle.sheets.specs.Sheet.{sheet}
 
 -- a round that may be opened again, and is closed with nothing between, has the sheet that it had,

@@ -2,7 +2,7 @@
 use Rattle.std.specs.Prelude.{◌≡◌, ℕ, List, [], ◌∷◌, ◌++◌, codes, Some}
 use Rattle.formats.specs.declared.events.Event.TheVariants.{Cube3, FewestMoves}
 use Rattle.texts.specs.declared.answer.Code.TheVariants as code
-use Rattle.sheets.specs.declared.Style.TheVariants as style
+use Rattle.formats.specs.declared.styles.SheetStyle.TheVariants as style
 use Rattle.edition_laws.specs.Answered.{Row, IsAnswered, done, printed, refused}
 use Rattle.edition_laws.specs.WorkedRounds.{tied}
 

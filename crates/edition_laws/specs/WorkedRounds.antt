@@ -5,7 +5,7 @@ use Rattle.formats.specs.declared.events.Event.TheVariants.{Cube3, Cube7, Fewest
 use Rattle.texts.specs.declared.answer.Code.TheVariants as code
 use Rattle.advancement.specs.Advancing.{later_rounds}
 use Rattle.commands.specs.History.{history}
-use Rattle.sheets.specs.declared.Style.TheVariants as style
+use Rattle.formats.specs.declared.styles.SheetStyle.TheVariants as style
 use Rattle.edition_laws.specs.Answered.{Row, IsAnswered, done, entries, printed, refused}
 use Rattle.edition_laws.specs.WorkedDays.{those_in}
 

@@ -19,7 +19,7 @@ use Rattle.texts.specs.declared.command.Command.TheVariants.{Attempt, Close, Set
 use Rattle.texts.specs.declared.command.Entered.{Entered}
 use Rattle.texts.specs.declared.command.Entered.TheVariants as entered
 use Rattle.texts.specs.declared.command.Settings.{Settings}
-use Rattle.sheets.specs.declared.Style.TheVariants as style
+use Rattle.formats.specs.declared.styles.SheetStyle.TheVariants as style
 use Rattle.sheets.specs.Sheet.{sheet}
 
 abbrev pub settings_of : Format → Option (ℕ × ℕ) → Option ℕ → Advance → Settings

@@ -6,7 +6,6 @@
 #![tactic(auto)]
 
 mod addresses;
-mod asking;
 mod files;
 mod findings;
 mod looking;

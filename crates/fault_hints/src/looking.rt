@@ -6,12 +6,11 @@ ghost use Rattle.fault_hints.specs.Looking.{IsFound, IsHeard, IsOfAsking, IsOfLo
 ghost use Rattle.fault_hints.specs.declared.findings.Finding.TheVariants as finding;
 
 use crate::addresses;
-use crate::asking::heard_of;
 use crate::files::{of_damage, of_device, of_reading};
 use crate::findings::{AddressFinding, FileFinding, Finding};
 use crate::matters::FaultSubject;
 use crate::told::{length_in, of_key, other_desk};
-use batch::Contact;
+use batch::{Contact, Dial};
 use client::status_request;
 use desk_requests::{DeskFault, TcpDialer};
 use wire::ClientRefusal;
@@ -75,7 +74,12 @@ fn of_desk<'a>(
         return None;
     }
     let mut dial = TcpDialer::new(rt);
-    let given = heard_of(rt.alloc(), &mut dial, contact, &status_request(hall, desk))?;
+    if dial.dial(contact).is_err() {
+        return None;
+    }
+    let Ok(given) = dial.ask(&status_request(hall, desk)) else {
+        return None;
+    };
     if wants_length {
         length_in(&given)
     } else {

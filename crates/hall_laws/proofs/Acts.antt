@@ -12,24 +12,13 @@ use Rattle.proposer.specs.declared.fault.Refusal.TheVariants as refusal
 use Rattle.replica.specs.declared.roles.fault.NodeFault.{NodeFault}
 use Rattle.replica.specs.declared.roles.fault.NodeFault.TheVariants as fault
 use Rattle.serving.specs.Nodes.{Fate, Goes, Starves, Breaks, by_step, by_fate, reply}
-use Rattle.serving.specs.Serving.{Act, Called, Pushed, Answered, waiting_after, to_others}
+use Rattle.serving.specs.Serving.{Act, Called, Pushed, Answered, waiting_after}
 use Rattle.store.specs.declared.home.Home.{Home}
 use Rattle.hall_laws.specs.Pushing.{handed, said_by, pushed_messages, runs_pushed, says_down}
 use Rattle.hall_laws.specs.Pushing.{after_down}
 use Rattle.hall_laws.specs.Served.{handed_out}
 
 -- ---- lists of acts
-
-pub others_both : (d : ℕ) (xs ys : List Message)
-    → to_others d (xs ++ ys) ≡ to_others d xs ++ to_others d ys
-others_both d [] ys = refl
-others_both d (m ∷ xs) ys = go (m.to == d) (others_both d xs ys)
-  where
-    go : (t : Bool) → to_others d (xs ++ ys) ≡ to_others d xs ++ to_others d ys
-        → (if t then to_others d (xs ++ ys) else m ∷ to_others d (xs ++ ys))
-        ≡ (if t then to_others d xs else m ∷ to_others d xs) ++ to_others d ys
-    go true h = h
-    go false h = ap (λ z. m ∷ z) h
 
 pub handed_both : (xs ys : List Act) → handed (xs ++ ys) ≡ handed xs ++ handed ys
 handed_both [] ys = refl

@@ -3,7 +3,7 @@ use Rattle.std.proofs.Common.{◌≡◌, refl, ap, ℕ, Bool, true, false, cond,
 use Rattle.acceptor.specs.declared.entry.Entry.{Entry}
 use Rattle.formats.specs.declared.events.Event.{Event}
 use Rattle.wire.specs.declared.standing.Difference.{Difference}
-use Rattle.wire.specs.declared.values.SheetStyle.{SheetStyle}
+use Rattle.formats.specs.declared.styles.SheetStyle.{SheetStyle}
 use Rattle.serving.specs.Differing.{withheld, withheld_by}
 use Rattle.serving.specs.Permissions.{admits, enters, permitted, reads, turned_away}
 use Rattle.serving.specs.declared.permission.Permission.{Permission}

@@ -10,8 +10,8 @@ use Rattle.learner.specs.declared.event.DeskEvent.{DeskEvent}
 use Rattle.learner.specs.declared.event.DeskEvent.TheVariants.{Start}
 use Rattle.serving.specs.Making.{calls_of}
 use Rattle.serving.specs.Nodes.{Fate}
-use Rattle.serving.specs.Serving.{Act, Called, Pushed, Answered, Service, reply_to, call, in_front}
-use Rattle.serving.specs.Serving.{from_own, to_others, push_all, waits, deliver, settle_by, settle}
+use Rattle.serving.specs.Serving.{Act, Called, Pushed, Answered, Service, reply_to, call, push_all}
+use Rattle.serving.specs.Serving.{waits}
 use Rattle.serving.specs.Serving.{grew, start_if_grown, decided, learn, learn_all, begun}
 use Rattle.serving.specs.declared.request.Request.{Request}
 use Rattle.serving.specs.declared.request.Request.TheVariants.{Learned}
@@ -108,60 +108,47 @@ begins_learnt home from to pos [] events s g none = record {
   none = none;
 }
 begins_learnt home from to pos (e ∷ es) events s g none =
-    go (call home (decided from to pos e) (waits [] s.left s)).seen.is_down refl
+    go (call home (decided from to pos e) (waits [] s)).seen.is_down refl
     (λ h.
     begins_learnt home from to (pos + 1) es (events ++ decided from to pos e ∷ [])
-    (call home (decided from to pos e) (waits [] s.left s))
-    (gives_one home (decided from to pos e) events (waits [] s.left s)
+    (call home (decided from to pos e) (waits [] s))
+    (gives_one home (decided from to pos e) events (waits [] s)
     (record { events_are = g.events_are; each = g.each })) h)
   where
     go : (t : Bool)
-        → (call home (decided from to pos e) (waits [] s.left s)).seen.is_down ≡ t
-        → (((call home (decided from to pos e) (waits [] s.left s)).seen.is_down ≡ true
-        → (call home (decided from to pos e) (waits [] s.left s)).waiting ≡ [])
+        → (call home (decided from to pos e) (waits [] s)).seen.is_down ≡ t
+        → (((call home (decided from to pos e) (waits [] s)).seen.is_down ≡ true
+        → (call home (decided from to pos e) (waits [] s)).waiting ≡ [])
         → Begins ((events ++ decided from to pos e ∷ []) ++ decided_each from to (pos + 1) es)
-        (learn home from to (pos + 1) es (call home (decided from to pos e) (waits [] s.left s))))
+        (learn home from to (pos + 1) es (call home (decided from to pos e) (waits [] s))))
         → Begins (events ++ decided_each from to pos (e ∷ es))
-        (if t then call home (decided from to pos e) (waits [] s.left s)
+        (if t then call home (decided from to pos e) (waits [] s)
         else learn home from to (pos + 1) es
-        (call home (decided from to pos e) (waits [] s.left s)))
+        (call home (decided from to pos e) (waits [] s)))
     go true is ih =
-        subst (λ z. Begins z (call home (decided from to pos e) (waits [] s.left s)))
+        subst (λ z. Begins z (call home (decided from to pos e) (waits [] s)))
         (append_assoc events (decided from to pos e ∷ []) (decided_each from to (pos + 1) es))
         (stops_here (events ++ decided from to pos e ∷ []) (decided_each from to (pos + 1) es)
-        (call home (decided from to pos e) (waits [] s.left s))
-        (gives_one home (decided from to pos e) events (waits [] s.left s)
+        (call home (decided from to pos e) (waits [] s))
+        (gives_one home (decided from to pos e) events (waits [] s)
         (record { events_are = g.events_are; each = g.each }))
         is
-        (call_none_at_down home (decided from to pos e) (waits [] s.left s) refl is))
+        (call_none_at_down home (decided from to pos e) (waits [] s) refl is))
     go false is ih =
         subst
         (λ z. Begins z (learn home from to (pos + 1) es
-        (call home (decided from to pos e) (waits [] s.left s))))
+        (call home (decided from to pos e) (waits [] s))))
         (append_assoc events (decided from to pos e ∷ []) (decided_each from to (pos + 1) es))
         (ih (λ down. absurd cc))
 
 -- ---- nothing is done
 
-settles_nothing : (home : Home) (k : ℕ) (s : Service) → s.waiting ≡ []
-    → ((settle_by home k s).done ≡ s.done) × ((settle_by home k s).seen ≡ s.seen)
-unfolding settle_by
-settles_nothing home zero s none = (
-  ap (λ z. s.done ++ map (λ m. Pushed m) (to_others home.desk z)) none ∙ append-nil s.done,
+pushes_nothing : (s : Service) → s.waiting ≡ []
+    → ((push_all s).done ≡ s.done) × ((push_all s).seen ≡ s.seen)
+unfolding push_all
+pushes_nothing s none = (
+  ap (λ z. s.done ++ map (λ m. Pushed m) z) none ∙ append-nil s.done,
   refl,
-)
-settles_nothing home (suc k) s none = (
-  ap
-      (λ z.
-      (deliver home (λ t. settle_by home k t) k (from_own home.desk z)
-      (push_all (in_front home.desk z) [] s)).done)
-      none
-      ∙ append-nil s.done,
-  ap
-      (λ z.
-      (deliver home (λ t. settle_by home k t) k (from_own home.desk z)
-      (push_all (in_front home.desk z) [] s)).seen)
-      none,
 )
 
 starts_not : (home : Home) (before : ℕ) (s : Service) → grew before s.seen ≡ false
@@ -169,7 +156,7 @@ starts_not : (home : Home) (before : ℕ) (s : Service) → grew before s.seen �
 unfolding start_if_grown
 starts_not home before s = go (grew before s.seen)
   where
-    go : (t : Bool) → t ≡ false → (if t then settle home (call home Start s) else s) ≡ s
+    go : (t : Bool) → t ≡ false → (if t then push_all (call home Start s) else s) ≡ s
     go true h = absurd cc
     go false h = refl
 
@@ -196,26 +183,26 @@ pub learns_nothing : (home : Home) (run : DecidedRun) (x : Seen) (fates : List F
 unfolding learn_all learn
 learns_nothing home run x fates none =
     let s : Service = begun x fates in
-    let quiet = settles_nothing home 16 s refl in
+    let quiet = pushes_nothing s refl in
     ap
     (λ z.
     (start_if_grown home (length x.desk.log)
-    (settle_by home 16 (learn home run.from run.to run.pos z s))).done)
+    (push_all (learn home run.from run.to run.pos z s))).done)
     none
     ∙ ap (λ z. z.done)
-    (starts_not home (length x.desk.log) (settle_by home 16 s)
+    (starts_not home (length x.desk.log) (push_all s)
     (ap (λ z. grew (length x.desk.log) z) quiet.1 ∙ not_grown x))
     ∙ quiet.0
 
 -- ---- a frame of several entries
 
 -- after a desk that is down and has nothing waiting, nothing is done
-nothing_after : (home : Home) (before k : ℕ) (s : Service) → s.seen.is_down ≡ true
-    → s.waiting ≡ [] → (start_if_grown home before (settle_by home k s)).done ≡ s.done
-nothing_after home before k s down none =
-    let quiet = settles_nothing home k s none in
+nothing_after : (home : Home) (before : ℕ) (s : Service) → s.seen.is_down ≡ true
+    → s.waiting ≡ [] → (start_if_grown home before (push_all s)).done ≡ s.done
+nothing_after home before s down none =
+    let quiet = pushes_nothing s none in
     ap (λ z. z.done)
-    (starts_not home before (settle_by home k s)
+    (starts_not home before (push_all s)
     (ap (λ z. grew before z) quiet.1 ∙ down_not_grown before s.seen down))
     ∙ quiet.0
 
@@ -261,4 +248,4 @@ all_learnt home run x fates h =
     begins_learnt home run.from run.to run.pos run.entries [] (begun x fates)
     (record { events_are = refl; each = refl }) (λ down. refl) in
     learnt_given home run last _ h g
-    (λ down. nothing_after home (length x.desk.log) 16 last down (g.none down))
+    (λ down. nothing_after home (length x.desk.log) last down (g.none down))

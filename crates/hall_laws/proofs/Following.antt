@@ -10,8 +10,7 @@ use Rattle.learner.specs.declared.event.DeskEvent.TheVariants.{Submit, Start, De
 use Rattle.replica.specs.declared.roles.fault.NodeFault.{NodeFault}
 use Rattle.replica.specs.declared.roles.fault.NodeFault.TheVariants as fault
 use Rattle.serving.specs.Serving.{Act, Called, Pushed, Answered, Service, first_fate, reply_to}
-use Rattle.serving.specs.Serving.{call, in_front, from_own, to_others, push_all, waits, deliver}
-use Rattle.serving.specs.Serving.{settle_by, settle, grew, start_if_grown, take as take_event}
+use Rattle.serving.specs.Serving.{call, push_all, grew, start_if_grown, take as take_event}
 use Rattle.serving.specs.Serving.{learn, learn_all, hand_out, answer_out, tell, entered_by, enter}
 use Rattle.serving.specs.Telling.{run_of}
 use Rattle.serving.specs.declared.request.DecidedRun.{DecidedRun}
@@ -54,45 +53,19 @@ follows_call home event s = record {
       (reply_fits home s.seen event (first_fate s.fates));
 }
 
-pub follows_settle : (home : Home) (k : ℕ) (s : Service) → Follows s (settle_by home k s)
-unfolding settle_by
-follows_settle home zero s = record {
-  more = map (λ m. Pushed m) (to_others home.desk s.waiting);
-  done = refl;
-  down = λ h. h;
-}
-follows_settle home (suc k) s =
-    go (from_own home.desk s.waiting) (λ t. follows_settle home k t)
-  where
-    front : (more : List Message) (left : ℕ)
-        → Follows s (waits more left (push_all (in_front home.desk s.waiting) [] s))
-    front more left = record {
-      more = map (λ m. Pushed m) (in_front home.desk s.waiting);
-      done = refl;
-      down = λ h. h;
-    }
-
-    go : (own : List Message) → ((t : Service) → Follows t (settle_by home k t))
-        → Follows s (deliver home (λ t. settle_by home k t) k own
-        (push_all (in_front home.desk s.waiting) [] s))
-    go [] ih = front [] s.left
-    go (m ∷ rest) ih =
-        let first : Service =
-        waits rest k (push_all (in_front home.desk s.waiting) [] s) in
-        let called : Service = call home (Deliver m) first in
-        follows_both s called (settle_by home k called)
-        (follows_both s first called (front rest k) (follows_call home (Deliver m) first))
-        (ih called)
+pub follows_push : (s : Service) → Follows s (push_all s)
+unfolding push_all
+follows_push s = record { more = map (λ m. Pushed m) s.waiting; done = refl; down = λ h. h }
 
 follows_start : (home : Home) (before : ℕ) (s : Service) → Follows s (start_if_grown home before s)
 unfolding start_if_grown
 follows_start home before s = go (grew before s.seen)
   where
-    go : (t : Bool) → Follows s (if t then settle home (call home Start s) else s)
+    go : (t : Bool) → Follows s (if t then push_all (call home Start s) else s)
     go true =
         let called : Service = call home Start s in
-        follows_both s called (settle home called) (follows_call home Start s)
-        (follows_settle home called.left called)
+        follows_both s called (push_all called) (follows_call home Start s)
+        (follows_push called)
     go false = follows_itself s
 
 pub follows_take : (home : Home) (event : DeskEvent) (s : Service)
@@ -100,9 +73,9 @@ pub follows_take : (home : Home) (event : DeskEvent) (s : Service)
 unfolding take_event
 follows_take home event s =
     let first : Service = call home event s in
-    let called : Service = settle home first in
+    let called : Service = push_all first in
     follows_both first called (start_if_grown home (length s.seen.desk.log) called)
-    (follows_settle home first.left first)
+    (follows_push first)
     (follows_start home (length s.seen.desk.log) called)
 
 pub follows_enter : (home : Home) (e : Entry) (s : Service)
@@ -115,16 +88,16 @@ follows_enter home e s = go (reply_to home (Submit e) s).result
     go (Ok ms) =
         let first : Service = call home (Submit e) s in
         let called : Service = call home Start first in
-        follows_both first called (settle home called) (follows_call home Start first)
-        (follows_settle home called.left called)
+        follows_both first called (push_all called) (follows_call home Start first)
+        (follows_push called)
     go (Err why) = follows_itself (call home (Submit e) s)
 
 follows_answer : (home : Home) (s : Service) → Follows s (answer_out home s)
 unfolding answer_out
 follows_answer home s = go (run_of home.desk s.waiting)
   where
-    go : (o : Option DecidedRun) → Follows s (hand_out home o s)
-    go None = follows_settle home s.left s
+    go : (o : Option DecidedRun) → Follows s (hand_out o s)
+    go None = follows_push s
     go (Some run) = record { more = Answered run ∷ []; done = refl; down = λ h. h }
 
 pub follows_tell : (home : Home) (m : Message) (s : Service)
@@ -142,7 +115,7 @@ pub follows_learn : (home : Home) (run : DecidedRun) (s : Service)
 unfolding learn_all
 follows_learn home run s =
     let first : Service = learn home run.from run.to run.pos run.entries s in
-    let called : Service = settle_by home s.left first in
+    let called : Service = push_all first in
     follows_both first called (start_if_grown home (length s.seen.desk.log) called)
-    (follows_settle home s.left first)
+    (follows_push first)
     (follows_start home (length s.seen.desk.log) called)

@@ -1,6 +1,6 @@
 -- Desks decide an entry, and one of them answers it.
-use Rattle.std.proofs.Common.{◌≡◌, ◌≢◌, refl, sym, ap, subst, ◌∙◌, ℕ, List, [], ◌∷◌, ◌++◌, length}
-use Rattle.std.proofs.Common.{None, Some, Option, slice_get, take, arith}
+use Rattle.std.proofs.Common.{◌≡◌, refl, sym, ap, subst, ◌∙◌, ℕ, List, [], ◌∷◌, ◌++◌, length}
+use Rattle.std.proofs.Common.{None, take, arith}
 use Rattle.std.proofs.lemmas.List.{append-nil}
 use Rattle.acceptor.specs.declared.message.Body.TheVariants.{Accept, Accepted}
 use Rattle.acceptor.specs.declared.message.Message.{Message}
@@ -8,12 +8,10 @@ use Rattle.answers.specs.Seen.{Seen}
 use Rattle.progress.specs.Tangle.{ballot, entry}
 use Rattle.serving.specs.Asking.{request}
 use Rattle.serving.specs.Connection.{answer_frame, close_of, serve_frame}
-use Rattle.serving.specs.Serving.{Act, answer_out, call, enter, framed, learn, learn_all}
-use Rattle.serving.specs.Serving.{settle_by, start_if_grown, take as take_event, tell}
+use Rattle.serving.specs.Serving.{Act, call, enter, framed}
+use Rattle.serving.specs.Serving.{push_all, start_if_grown, take as take_event}
 use Rattle.serving.specs.TurnLaw.{Began, Came}
 use Rattle.serving.specs.Turns.{Talk}
-use Rattle.serving.specs.declared.ends.ConnectionEnd.{ConnectionEnd}
-use Rattle.serving.specs.declared.ends.ConnectionEnd.TheVariants as end
 use Rattle.serving.specs.declared.request.Request.{Request}
 use Rattle.serving.specs.declared.request.Request.TheVariants.{Copied}
 use Rattle.connections.specs.Connections.{TurnOf}
@@ -38,10 +36,13 @@ use Rattle.hall_laws.proofs.HallMemory.{hands_none, led_message}
 use Rattle.hall_laws.proofs.HallMoves.{Moves, Play, Played, asked_so, by_frame}
 use Rattle.hall_laws.proofs.HallSound.{SoundAt}
 use Rattle.hall_laws.proofs.HallTangle.{cut_front, cut_here, entry_fits, made, moves_1, moves_2}
-use Rattle.hall_laws.proofs.HallTangle.{moves_3, ours_2, ours_3, play_3}
+use Rattle.hall_laws.proofs.HallTangle.{moves_3, moves_4, moves_5, moves_6, ours_2, ours_3, play_6}
 use Rattle.hall_laws.proofs.HallTurns.{station_here, with_station}
 
--- ---- desk 3 asks desk 2 for its vote, and has it
+-- ---- desk 3 hears its own vote, asks desk 2 for its, and has it
+
+abbrev own_vote : Message
+own_vote = record { from = 3; to = 3; body = Accepted (ballot 1 3) 0 }
 
 abbrev asks_vote : Message
 asks_vote = record { from = 3; to = 2; body = Accept (ballot 1 3) 0 (entry 7) }
@@ -49,17 +50,36 @@ asks_vote = record { from = 3; to = 2; body = Accept (ballot 1 3) 0 (entry 7) }
 abbrev votes : Message
 votes = record { from = 2; to = 3; body = Accepted (ballot 1 3) 0 }
 
-abbrev play_4 : Play
-play_4 = asked_so play_3 2 (request (third_home 2) (framed Two 7 asks_vote))
+abbrev play_7 : Play
+play_7 = asked_so play_6 3 (request (third_home 3) (framed Two 7 own_vote))
 
-abbrev play_5 : Play
-play_5 = asked_so play_4 3 (request (third_home 3) (framed Two 7 votes))
+abbrev play_8 : Play
+play_8 = asked_so play_7 2 (request (third_home 2) (framed Two 7 asks_vote))
 
-moves_4 : CallsAreHappenings memory → (steps : List (HallStep Memory)) → Played steps play_3
-    → Moves steps play_4
-unfolding close_of serve_frame call settle_by start_if_grown enter take_event
-moves_4 law steps was =
-    by_frame law steps play_3 was 2 ours_2 (framed Two 7 asks_vote)
+abbrev play_9 : Play
+play_9 = asked_so play_8 3 (request (third_home 3) (framed Two 7 votes))
+
+moves_7 : CallsAreHappenings memory → (steps : List (HallStep Memory)) → Played steps play_6
+    → Moves steps play_7
+unfolding close_of serve_frame call push_all start_if_grown enter take_event
+moves_7 law steps was =
+    by_frame law steps play_6 was 3 ours_3 (framed Two 7 own_vote)
+    (record {
+      hall = omega arith;
+      goes = ((omega arith, omega arith), (omega arith, omega arith));
+      body = ((omega arith, omega arith, (omega arith, omega arith)), omega arith);
+    })
+    ((9, refl, refl), tt) refl
+    (λ x sound.
+    led_message 7 3 3 ours_3 x Two own_vote (made 1 3 (omega arith) (omega arith) ours_3) sound
+    refl)
+    (λ e is. absurd cc)
+
+moves_8 : CallsAreHappenings memory → (steps : List (HallStep Memory)) → Played steps play_7
+    → Moves steps play_8
+unfolding close_of serve_frame call push_all start_if_grown enter take_event
+moves_8 law steps was =
+    by_frame law steps play_7 was 2 ours_2 (framed Two 7 asks_vote)
     (record {
       hall = omega arith;
       goes = ((omega arith, omega arith), (omega arith, omega arith));
@@ -76,11 +96,11 @@ moves_4 law steps was =
     refl)
     (λ e is. absurd cc)
 
-moves_5 : CallsAreHappenings memory → (steps : List (HallStep Memory)) → Played steps play_4
-    → Moves steps play_5
-unfolding close_of serve_frame call settle_by start_if_grown enter take_event
-moves_5 law steps was =
-    by_frame law steps play_4 was 3 ours_3 (framed Two 7 votes)
+moves_9 : CallsAreHappenings memory → (steps : List (HallStep Memory)) → Played steps play_8
+    → Moves steps play_9
+unfolding close_of serve_frame call push_all start_if_grown enter take_event
+moves_9 law steps was =
+    by_frame law steps play_8 was 3 ours_3 (framed Two 7 votes)
     (record {
       hall = omega arith;
       goes = ((omega arith, omega arith), (omega arith, omega arith));
@@ -99,12 +119,12 @@ Answers home seen =
     (serve_frame home seen (as_it_goes log_frame)).answers
     ≡ answer_frame Three home (what.Entries 0 1 (entry 7 ∷ [])) ∷ []
 
-answers_it : Answers (third_home 3) (play_5.seen 3)
-unfolding close_of serve_frame call settle_by start_if_grown enter take_event
+answers_it : Answers (third_home 3) (play_9.seen 3)
+unfolding close_of serve_frame call push_all start_if_grown enter take_event
 answers_it = refl
 
-stays_open : close_of (third_home 3) (play_5.seen 3) (as_it_goes log_frame) ≡ None
-unfolding close_of serve_frame call settle_by start_if_grown enter take_event
+stays_open : close_of (third_home 3) (play_9.seen 3) (as_it_goes log_frame) ≡ None
+unfolding close_of serve_frame call push_all start_if_grown enter take_event
 stays_open = refl
 
 log_is_frame : IsFrame log_frame
@@ -114,7 +134,7 @@ log_is_frame = record {
   body = (omega arith, omega arith);
 }
 
-copied : CallsAreHappenings memory → (steps : List (HallStep Memory)) → Played steps play_5
+copied : CallsAreHappenings memory → (steps : List (HallStep Memory)) → Played steps play_9
     → CopiesOneEntry
 copied law steps was =
     record {
@@ -280,9 +300,22 @@ copied law steps was =
 
 pub copies_one_entry : CallsAreHappenings memory → CopiesOneEntry
 copies_one_entry law =
-    let one = moves_1 law in
-    let two = moves_2 law one.more one.played in
-    let three = moves_3 law (one.more ++ two.more) two.played in
-    let four = moves_4 law ((one.more ++ two.more) ++ three.more) three.played in
-    let five = moves_5 law (((one.more ++ two.more) ++ three.more) ++ four.more) four.played in
-    copied law ((((one.more ++ two.more) ++ three.more) ++ four.more) ++ five.more) five.played
+    let m1 = moves_1 law in
+    let a1 = m1.more in
+    let m2 = moves_2 law a1 m1.played in
+    let a2 = a1 ++ m2.more in
+    let m3 = moves_3 law a2 m2.played in
+    let a3 = a2 ++ m3.more in
+    let m4 = moves_4 law a3 m3.played in
+    let a4 = a3 ++ m4.more in
+    let m5 = moves_5 law a4 m4.played in
+    let a5 = a4 ++ m5.more in
+    let m6 = moves_6 law a5 m5.played in
+    let a6 = a5 ++ m6.more in
+    let m7 = moves_7 law a6 m6.played in
+    let a7 = a6 ++ m7.more in
+    let m8 = moves_8 law a7 m7.played in
+    let a8 = a7 ++ m8.more in
+    let m9 = moves_9 law a8 m8.played in
+    let a9 = a8 ++ m9.more in
+    copied law a9 m9.played

@@ -10,7 +10,7 @@ use Rattle.learner.specs.Desks.{Desk}
 use Rattle.learner.specs.Steps.{IsDesk}
 use Rattle.learner.specs.Worlds.{World, after}
 use Rattle.learner.specs.declared.event.WorldEvent.{WorldEvent}
-use Rattle.progress.specs.Progress.{StandFrom, longest, lacking}
+use Rattle.progress.specs.Progress.{StandFrom, enough, lacking, longest}
 use Rattle.progress.specs.Turns.{take_turns, TurnsDecide}
 use Rattle.progress.specs.Turns.{HasTurnRoom, numbers_needed, NoServingDeskIsStuck}
 use Rattle.store.specs.declared.keeper.Keeper.{Ghosts}
@@ -37,32 +37,39 @@ lacking_same v w len (x ∷ ks) same =
     ∙ ap (λ l. (len - length (w.desks x).log) + l)
     (lacking_same v w len ks (λ j i. same j (inr i)))
 
-room_same : (v w : World) (ks : List ℕ) (count : ℕ)
+enough_same : (v w : World) (ks : List ℕ) (count : ℕ)
+    → ((j : ℕ) → Has ks j → v.desks j ≡ w.desks j) → enough v ks count ≡ enough w ks count
+enough_same v w ks count same =
+    ap (λ l. 2 * lacking v l ks + count * (19 * length ks + 10)) (longest_same v w ks same)
+    ∙ ap (λ l. 2 * l + count * (19 * length ks + 10)) (lacking_same v w (longest w ks) ks same)
+
+room_same : (v w : World) (d : ℕ) (ks : List ℕ) (count : ℕ) → Has ks d
     → ((j : ℕ) → Has ks j → v.desks j ≡ w.desks j)
-    → HasTurnRoom ks v count → HasTurnRoom ks w count
-room_same v w ks count same room =
+    → HasTurnRoom d ks v count → HasTurnRoom d ks w count
+room_same v w d ks count mine same room =
     record {
       logs = λ j i. subst (λ (y : Desk). length y.log + 2 * count ≤ 65536) (same j i)
           (room.logs j i);
-      promised = λ j i. subst (λ (y : Desk). y.stored.promised.number + numbers_needed w ks count
-          ≤ 4294967295) (same j i)
+      promised = λ j i. subst (λ (y : Desk). y.stored.promised.number
+          + numbers_needed d ks w count ≤ 4294967295) (same j i)
           (subst (λ z. (v.desks j).stored.promised.number + z ≤ 4294967295) needed
           (room.promised j i));
-      tried = λ j i. subst (λ (y : Desk). y.stored.tried + numbers_needed w ks count ≤ 4294967295)
-          (same j i)
-          (subst (λ z. (v.desks j).stored.tried + z ≤ 4294967295) needed (room.tried j i));
-      seen = λ j i. subst (λ (y : Desk). y.seen + numbers_needed w ks count ≤ 4294967295) (same j i)
-          (subst (λ z. (v.desks j).seen + z ≤ 4294967295) needed (room.seen j i));
+      tried = subst (λ (y : Desk). y.stored.tried + numbers_needed d ks w count ≤ 4294967295)
+          (same d mine)
+          (subst (λ z. (v.desks d).stored.tried + z ≤ 4294967295) needed room.tried);
+      seen = subst (λ (y : Desk). y.seen + numbers_needed d ks w count ≤ 4294967295) (same d mine)
+          (subst (λ z. (v.desks d).seen + z ≤ 4294967295) needed room.seen);
     }
   where
-    needed : numbers_needed v ks count ≡ numbers_needed w ks count
+    needed : numbers_needed d ks v count ≡ numbers_needed d ks w count
     needed =
-        ap (λ z. z + 8 * count) (lacking_same v w (longest v ks + 2 * count) ks same
-        ∙ ap (λ l. lacking w (l + 2 * count) ks) (longest_same v w ks same))
+        ap (λ (y : Desk). ((longest v ks + 2 * count) - length y.log) + 2 * count) (same d mine)
+        ∙ ap (λ l. ((l + 2 * count) - length (w.desks d).log) + 2 * count)
+        (longest_same v w ks same)
 
 pub serving_decides : {K : Type 0} (k : Ghosts K) → CallsAreHappenings k → StopsMakeARun
     → NoServingDeskIsStuck → ServingDecides k
-serving_decides {K} k law stops stuck n h ss d desks es rest is two major has queue room can =
+serving_decides {K} k law stops stuck n h ss d desks es rest is major has queue room can =
     go (came_to k law stops n h ss (length ss) is)
   where
     g : Hall K
@@ -70,9 +77,9 @@ serving_decides {K} k law stops stuck n h ss d desks es rest is two major has qu
 
     go : (past : List WorldEvent) × ComesTo n past (hall_after h (take (length ss) ss))
         → HallDecides k n d desks h ss es rest
-    go p = made (stuck n p.0 d desks es rest two major has
+    go p = made (stuck n p.0 d desks es rest major has
         (ap (λ (x : Desk). x.queue) (sym (known d (major.ours d has))) ∙ queue)
-        (room_same (world_of g) w desks (length es) (λ j i. known j (major.ours j i)) room))
+        (room_same (world_of g) w d desks (length es) has (λ j i. known j (major.ours j i)) room))
       where
         w : World
         w = after n p.0
@@ -102,11 +109,16 @@ serving_decides {K} k law stops stuck n h ss d desks es rest is two major has qu
         made : TurnsDecide n d desks w es rest → HallDecides k n d desks h ss es rest
         made t = ended (follows k law n d desks h ss w t.turns ss w major has can along t.help)
           where
-            ended : Follows k n d desks h ss ss (take_turns n w t.turns)
+            ended : Follows k n d desks h ss ss (length t.turns) (take_turns n w t.turns)
                 → HallDecides k n d desks h ss es rest
             ended f =
                 record {
                   turns = f.turns;
+                  few =
+                      subst (λ l. length f.turns ≤ l)
+                      (sym (enough_same (world_of g) w desks (length es)
+                      (λ j i. known j (major.ours j i))))
+                      (subst (λ l. l ≤ enough w desks (length es)) (sym f.many) t.few);
                   more = f.more;
                   run = f.run;
                   own = f.own;

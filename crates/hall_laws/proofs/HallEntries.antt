@@ -14,8 +14,8 @@ use Rattle.serving.specs.Connection.{asked, Begun, serve_frame}
 use Rattle.serving.specs.Permissions.{permitted}
 use Rattle.serving.specs.Making.{Call, calls_of}
 use Rattle.serving.specs.Nodes.{Fate}
-use Rattle.serving.specs.Serving.{Act, Called, Pushed, Answered, Service, reply_to, call, from_own}
-use Rattle.serving.specs.Serving.{in_front, to_others, push_all, waits, deliver, settle_by, settle}
+use Rattle.serving.specs.Serving.{Act, Called, Pushed, Answered, Service, reply_to, call, push_all}
+use Rattle.serving.specs.Serving.{waits}
 use Rattle.serving.specs.Serving.{start_if_grown, grew, take, decided, learn, learn_all, hand_out}
 use Rattle.serving.specs.Serving.{answer_out, tell, entered_by, enter, begun, served}
 use Rattle.serving.specs.Telling.{run_of}
@@ -80,27 +80,11 @@ not_tick asks e is = absurd (let two : Tick ≡ Submit e = is in cc)
 not_message : (asks : Entry → Type 0) (m : Message) (e : Entry) → Deliver m ≡ Submit e → asks e
 not_message asks m e is = absurd (let two : Deliver m ≡ Submit e = is in cc)
 
-only_deliver : (asks : Entry → Type 0) (home : Home) (next : Service → Service) (k : ℕ)
-    (ms : List Message) (s : Service)
-    → ((t : Service) → TakesOnly asks t.done → TakesOnly asks (next t).done)
-    → TakesOnly asks s.done → TakesOnly asks (deliver home next k ms s).done
-only_deliver asks home next k [] s go h = h
-only_deliver asks home next k (m ∷ ms) s go h =
-    go (call home (Deliver m) (waits ms k s))
-    (only_call asks home (Deliver m) (waits ms k s) h (not_message asks m))
-
-only_settle : (asks : Entry → Type 0) (home : Home) (k : ℕ) (s : Service)
-    → TakesOnly asks s.done → TakesOnly asks (settle_by home k s).done
-unfolding settle_by
-only_settle asks home zero s h =
-    let others = to_others home.desk s.waiting in
-    only_quiet asks s.done (map (λ m. Pushed m) others) (calls_of_pushes others) h
-only_settle asks home (suc k) s h =
-    let others = in_front home.desk s.waiting in
-    only_deliver asks home (λ t. settle_by home k t) k (from_own home.desk s.waiting)
-    (push_all others [] s)
-    (λ t. only_settle asks home k t)
-    (only_quiet asks s.done (map (λ m. Pushed m) others) (calls_of_pushes others) h)
+only_push : (asks : Entry → Type 0) (s : Service) → TakesOnly asks s.done
+    → TakesOnly asks (push_all s).done
+unfolding push_all
+only_push asks s h =
+    only_quiet asks s.done (map (λ m. Pushed m) s.waiting) (calls_of_pushes s.waiting) h
 
 only_start : (asks : Entry → Type 0) (home : Home) (before : ℕ) (s : Service)
     → TakesOnly asks s.done → TakesOnly asks (start_if_grown home before s).done
@@ -108,9 +92,9 @@ unfolding start_if_grown
 only_start asks home before s h = go (grew before s.seen)
   where
     go : (b : Bool)
-        → TakesOnly asks (if b then settle home (call home Start s) else s).done
+        → TakesOnly asks (if b then push_all (call home Start s) else s).done
     go true =
-        only_settle asks home (call home Start s).left (call home Start s)
+        only_push asks (call home Start s)
         (only_call asks home Start s h (not_start asks))
     go false = h
 
@@ -120,23 +104,23 @@ only_take : (asks : Entry → Type 0) (home : Home) (event : DeskEvent) (s : Ser
 unfolding take
 only_take asks home event s h is =
     let called = call home event s in
-    only_start asks home (length s.seen.desk.log) (settle home called)
-    (only_settle asks home called.left called (only_call asks home event s h is))
+    only_start asks home (length s.seen.desk.log) (push_all called)
+    (only_push asks called (only_call asks home event s h is))
 
 only_learn : (asks : Entry → Type 0) (home : Home) (from to pos : ℕ) (es : List Entry)
     (s : Service) → TakesOnly asks s.done → TakesOnly asks (learn home from to pos es s).done
 unfolding learn
 only_learn asks home from to pos [] s h = h
 only_learn asks home from to pos (e ∷ es) s h =
-    go (call home (decided from to pos e) (waits [] s.left s)).seen.is_down
+    go (call home (decided from to pos e) (waits [] s)).seen.is_down
     (λ t. only_learn asks home from to (pos + 1) es t)
   where
     called : Service
-    called = call home (decided from to pos e) (waits [] s.left s)
+    called = call home (decided from to pos e) (waits [] s)
 
     kept : TakesOnly asks called.done
     kept =
-        only_call asks home (decided from to pos e) (waits [] s.left s) h
+        only_call asks home (decided from to pos e) (waits [] s) h
         (λ f is. absurd (let two : decided from to pos e ≡ Submit f = is in cc))
 
     go : (b : Bool)
@@ -147,14 +131,14 @@ only_learn asks home from to pos (e ∷ es) s h =
     go false later = later called kept
 
 only_hand_out : (asks : Entry → Type 0) (home : Home) (o : Option DecidedRun) (s : Service)
-    → TakesOnly asks s.done → TakesOnly asks (hand_out home o s).done
-only_hand_out asks home None s h = only_settle asks home s.left s h
+    → TakesOnly asks s.done → TakesOnly asks (hand_out o s).done
+only_hand_out asks home None s h = only_push asks s h
 only_hand_out asks home (Some run) s h = only_quiet asks s.done (Answered run ∷ []) refl h
 
 only_entered : (asks : Entry → Type 0) (home : Home) (r : Result (List Message) NodeFault)
     (s : Service) → TakesOnly asks s.done → TakesOnly asks (entered_by home r s).done
 only_entered asks home (Ok ms) s h =
-    only_settle asks home (call home Start s).left (call home Start s)
+    only_push asks (call home Start s)
     (only_call asks home Start s h (not_start asks))
 only_entered asks home (Err why) s h = h
 
@@ -168,15 +152,15 @@ entered_only home x fates (Heard m) =
 entered_only home x fates (Lagging m) =
     let asks : Entry → Type 0 = λ e. Lagging m ≡ Entered e in
     let first = call home (Deliver m) (begun x fates) in
-    only_start asks home (length x.desk.log) (hand_out home (run_of home.desk first.waiting) first)
+    only_start asks home (length x.desk.log) (hand_out (run_of home.desk first.waiting) first)
     (only_hand_out asks home (run_of home.desk first.waiting) first
     (only_call asks home (Deliver m) (begun x fates) (λ e none. absurd none)
     (not_message asks m)))
 entered_only home x fates (Learned run) =
     let asks : Entry → Type 0 = λ e. Learned run ≡ Entered e in
     let learned = learn home run.from run.to run.pos run.entries (begun x fates) in
-    only_start asks home (length x.desk.log) (settle_by home 16 learned)
-    (only_settle asks home 16 learned
+    only_start asks home (length x.desk.log) (push_all learned)
+    (only_push asks learned
     (only_learn asks home run.from run.to run.pos run.entries (begun x fates)
     (λ e none. absurd none)))
 entered_only home x fates (Entered f) =

@@ -19,7 +19,7 @@ use Rattle.replica.specs.Stores.{HoldsDesk}
 use Rattle.serving.specs.declared.permission.Permission.TheVariants.{All}
 use Rattle.serving.specs.Connection.{serve_frame, close_of, answer_bytes, Begun}
 use Rattle.serving.specs.Making.{calls_of, outside_of, speaking}
-use Rattle.serving.specs.Serving.{Act, Called, call, settle_by, start_if_grown, take, tell}
+use Rattle.serving.specs.Serving.{Act, Called, call, push_all, start_if_grown, take, tell}
 use Rattle.serving.specs.Serving.{answer_out}
 use Rattle.serving.specs.Telling.{run_of, entries_told}
 use Rattle.serving.specs.Turns.{Talk, new_talk}
@@ -112,7 +112,7 @@ ticks : {K : Type 0} (k : Ghosts K) (keeper : K)
     → Turns (begun_as tick_frame)
     (place_in k keeper (talk_of (third_home 1) (tick_frame ∷ []) 0 []))
     (place_in k keeper (talk_of (third_home 1) [] 1 (answer_to (third_home 1) tick_frame)))
-unfolding serve_frame close_of call settle_by start_if_grown take
+unfolding serve_frame close_of call push_all start_if_grown take
 ticks k keeper handles = (
   record {
     free = record { unended = refl; taken = refl };
@@ -139,7 +139,7 @@ pub hears : {K : Type 0} (k : Ghosts K) (keeper : K)
     → Turns (begun_as said_frame)
     (place_in k keeper (talk_of (third_home 2) (said_frame ∷ []) 0 []))
     (place_in k keeper (talk_of (third_home 2) [] 1 (answer_to (third_home 2) said_frame)))
-unfolding serve_frame close_of call settle_by start_if_grown tell answer_out run_of entries_told
+unfolding serve_frame close_of call push_all start_if_grown tell answer_out run_of entries_told
 hears k keeper handles = (
   record {
     free = record { unended = refl; taken = refl };
@@ -168,12 +168,12 @@ hear_acts = Called (Deliver (says 2)) (Ok []) ∷ []
 
 pub ticks_so : tick_acts
     ≡ (serve_frame (third_home 1) first_seen (as_begun tick_frame)).acts
-unfolding serve_frame call settle_by start_if_grown take
+unfolding serve_frame call push_all start_if_grown take
 ticks_so = refl
 
 pub hears_so : hear_acts
     ≡ (serve_frame (third_home 2) first_seen (as_begun said_frame)).acts
-unfolding serve_frame call settle_by start_if_grown tell answer_out run_of entries_told
+unfolding serve_frame call push_all start_if_grown tell answer_out run_of entries_told
 hears_so = refl
 
 -- a desk of which connection 0 is so, and no other had a turn

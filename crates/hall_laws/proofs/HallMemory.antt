@@ -57,7 +57,6 @@ first_led home x s = record {
   at = s.at;
   holds = s.holds;
   range = s.range;
-  waiting = tt;
   fates = refl;
   quiet = tt;
 }

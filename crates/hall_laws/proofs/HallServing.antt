@@ -371,21 +371,24 @@ message_moves {K} k law n d desks h first old ss w i m major can a late is from 
 -- ---- turns, one after the other
 
 pub record Follows {K : Type 0} (k : Ghosts K) (n d : ℕ) (desks : List ℕ) (h : Hall K)
-    (first ss : List (HallStep K)) (v : World) : Type 0 where
+    (first ss : List (HallStep K)) (count : ℕ) (v : World) : Type 0 where
   pub turns : List OwnTurn
+  pub many : length turns ≡ count
   pub more : List (HallStep K)
   pub run : IsHallRun k n h (ss ++ more)
   pub own : AreOwnTurns k d desks (length (hall_after h first).sent) h ss turns more
   pub known : ((hall_after h (ss ++ more)).desks d).node.desk ≡ v.desks d
 
 then_follows : {K : Type 0} (k : Ghosts K) (n d : ℕ) (desks : List ℕ) (h : Hall K)
-    (first ss : List (HallStep K)) (old v z : World) (t : OwnTurn)
+    (first ss : List (HallStep K)) (old v z : World) (count : ℕ) (t : OwnTurn)
     → IsOwn desks (length (hall_after h first).sent) (hall_after h ss) t
     → (m : Moves k n d desks h first old ss v (events_of_turn k d (hall_after h ss) t))
-    → Follows k n d desks h first (ss ++ m.now) z → Follows k n d desks h first ss z
-then_follows {K} k n d desks h first ss old v z t own m f =
+    → Follows k n d desks h first (ss ++ m.now) count z
+    → Follows k n d desks h first ss (suc count) z
+then_follows {K} k n d desks h first ss old v z count t own m f =
     record {
       turns = t ∷ f.turns;
+      many = ap (λ c. suc c) f.many;
       more = m.now ++ f.more;
       run = subst (λ (zs : List (HallStep K)). IsHallRun k n h zs) same f.run;
       own = (m.now, f.more, refl, m.happened, own, f.own);
@@ -402,10 +405,11 @@ pub follows : {K : Type 0} (k : Ghosts K) → CallsAreHappenings k → (n d : �
     (ss : List (HallStep K)) (w : World)
     → IsMajority n desks → Has desks d → CanServe k n d desks h first
     → Along k n d desks h first old ss w → AreTurns n d desks (length old.sent) w es
-    → Follows k n d desks h first ss (take_turns n w es)
+    → Follows k n d desks h first ss (length es) (take_turns n w es)
 follows {K} k law n d desks h first old [] ss w major has can a are =
     record {
       turns = [];
+      many = refl;
       more = [];
       run = subst (λ (zs : List (HallStep K)). IsHallRun k n h zs) (sym (append-nil ss)) a.run;
       own = refl;
@@ -427,13 +431,13 @@ follows k law n d desks h first old (TickAt j ∷ es) ss w major has can a are =
         (events_of_turn k d (hall_after h ss) DeskTicks)
         → ((zs : List (HallStep _)) (v : World) → Along k n d desks h first old zs v
         → AreTurns n d desks (length old.sent) v es
-        → Follows k n d desks h first zs (take_turns n v es))
-        → Follows k n d desks h first ss (take_turns n w (TickAt j ∷ es))
+        → Follows k n d desks h first zs (length es) (take_turns n v es))
+        → Follows k n d desks h first ss (length (TickAt j ∷ es)) (take_turns n w (TickAt j ∷ es))
     go m again =
         then_follows k n d desks h first ss old (turn n w d Tick)
-        (take_turns n w (TickAt j ∷ es)) DeskTicks tt m
-        (subst (λ (v : World). Follows k n d desks h first (ss ++ m.now) (take_turns n v es))
-        (sym same)
+        (take_turns n w (TickAt j ∷ es)) (length es) DeskTicks tt m
+        (subst (λ (v : World). Follows k n d desks h first (ss ++ m.now) (length es)
+        (take_turns n v es)) (sym same)
         (again (ss ++ m.now) (turn n w d Tick) m.along
         (subst (λ (v : World). AreTurns n d desks (length old.sent) v es) same are.1)))
 follows k law n d desks h first old (DeliverNth i ∷ es) ss w major has can a are =
@@ -443,8 +447,9 @@ follows k law n d desks h first old (DeliverNth i ∷ es) ss w major has can a a
     go : (o : Option Message) → nth_sent w.sent i ≡ o → IsAmong desks (nth_sent w.sent i)
         → ((zs : List (HallStep _)) (v : World) → Along k n d desks h first old zs v
         → AreTurns n d desks (length old.sent) v es
-        → Follows k n d desks h first zs (take_turns n v es))
-        → Follows k n d desks h first ss (take_turns n w (DeliverNth i ∷ es))
+        → Follows k n d desks h first zs (length es) (take_turns n v es))
+        → Follows k n d desks h first ss (length (DeliverNth i ∷ es))
+        (take_turns n w (DeliverNth i ∷ es))
     go None is among again =
         absurd (let none : IsAmong desks None
         = subst (λ (z : Option Message). IsAmong desks z) is among in none)
@@ -456,8 +461,8 @@ follows k law n d desks h first old (DeliverNth i ∷ es) ss w major has can a a
         let same : takes_turn n w (DeliverNth i) ≡ turn n w m.to (Deliver m)
         = ap (λ z. turn_of n w z) is in
         then_follows k n d desks h first ss old (turn n w m.to (Deliver m))
-        (take_turns n w (DeliverNth i ∷ es)) (MessageComes c.number c.at) c.own c.moves
-        (subst (λ (v : World). Follows k n d desks h first (ss ++ c.moves.now) (take_turns n v es))
-        (sym same)
+        (take_turns n w (DeliverNth i ∷ es)) (length es) (MessageComes c.number c.at) c.own c.moves
+        (subst (λ (v : World). Follows k n d desks h first (ss ++ c.moves.now) (length es)
+        (take_turns n v es)) (sym same)
         (again (ss ++ c.moves.now) (turn n w m.to (Deliver m)) c.moves.along
         (subst (λ (v : World). AreTurns n d desks (length old.sent) v es) same are.1)))

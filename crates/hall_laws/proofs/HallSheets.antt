@@ -1,11 +1,8 @@
 -- What connections of a hall are answered, and its sheets.
-use Rattle.std.proofs.Common.{◌≡◌, ◌≢◌, ◌⊎◌, inl, inr, refl, sym, ap, subst, ◌∙◌, ℕ, zero, suc, ◌≤◌}
-use Rattle.std.proofs.Common.{List, [], ◌∷◌, ◌++◌, length, take, Option, None, Some, arith}
-use Rattle.acceptor.specs.declared.entry.Entry.{Entry}
-use Rattle.answers.specs.Answers.{sheet_at}
-use Rattle.formats.specs.declared.events.Event.{Event}
-use Rattle.learner.specs.Laws.{IsPrefix}
-use Rattle.serving.specs.Answering.{said_in, style_of}
+use Rattle.std.proofs.Common.{◌≡◌, ◌≢◌, refl, sym, ap, subst, ◌∙◌, ℕ}
+use Rattle.std.proofs.Common.{[], ◌∷◌, ◌++◌, take, Option, None, Some}
+use Rattle.answers.proofs.Fronts.{same_sheet}
+use Rattle.serving.specs.Answering.{said_in}
 use Rattle.serving.specs.Asking.{request}
 use Rattle.serving.specs.Permissions.{reads}
 use Rattle.std.specs.Io.KnownBytes.{Appends}
@@ -26,8 +23,6 @@ use Rattle.store.specs.declared.keeper.Keeper.{Ghosts}
 use Rattle.wire.specs.declared.frame.Frame.{Frame}
 use Rattle.wire.specs.declared.frame.FrameBody.{FrameBody}
 use Rattle.wire.specs.declared.frame.FrameBody.TheVariants as what
-use Rattle.wire.specs.declared.values.SheetStyle.{SheetStyle as Style}
-use Rattle.wire.specs.declared.values.SheetStyle.TheVariants as layout
 use Rattle.wire.specs.declared.values.Version.{Version}
 use Rattle.hall_laws.specs.HallRuns.{Station, hall_after, hall_log, home_at, seen_of}
 use Rattle.hall_laws.specs.HallRuns.{HallSheetsAreOfLogs}
@@ -116,22 +111,6 @@ hall_sheets {K} k law h ss at d sheet text is =
     home : Home
     home = home_at k x
 
-take_front : (xs rest : List Entry) (p : ℕ) → p ≤ length xs → take p (xs ++ rest) ≡ take p xs
-take_front xs rest zero h = refl
-take_front [] rest (suc p) h = absurd (omega arith)
-take_front (x ∷ xs) rest (suc p) h = ap (λ ys. x ∷ ys) (take_front xs rest p (omega arith))
-
-same_front : (xs ys : List Entry) (p : ℕ) → IsPrefix xs ys ⊎ IsPrefix ys xs → p ≤ length xs
-    → p ≤ length ys → take p xs ≡ take p ys
-same_front xs ys p (inl h) low high = sym (take_front xs h.0 p low) ∙ ap (take p) h.1
-same_front xs ys p (inr h) low high = sym (sym (take_front ys h.0 p high) ∙ ap (take p) h.1)
-
-same_sheet : (xs ys : List Entry) (p : ℕ) (style : Style) (event : Event) (round : ℕ)
-    → take p xs ≡ take p ys
-    → sheet_at (style_of style) xs p event round ≡ sheet_at (style_of style) ys p event round
-same_sheet xs ys p layout.Text event round h = rw h refl
-same_sheet xs ys p layout.Table event round h = rw h refl
-
 pub hall_sheets_agree : {K : Type 0} (k : Ghosts K) → HallSheetsAreOfLogs k → HallLogsAgree k
     → HallSheetsAgree k
 hall_sheets_agree k sheets agree n h ss i j d f sheet text other is ours others one two =
@@ -139,10 +118,8 @@ hall_sheets_agree k sheets agree n h ss i j d f sheet text other is ours others 
     let there = sheets h ss j f sheet other two in
     text_of
     (sym here.1
-    ∙ same_sheet (hall_log h ss i d) (hall_log h ss j f) sheet.position sheet.style
-    sheet.event sheet.round
-    (same_front (hall_log h ss i d) (hall_log h ss j f) sheet.position
-    (agree n h ss i j d f is ours others) here.0 there.0)
+    ∙ same_sheet sheet.style (hall_log h ss i d) (hall_log h ss j f) sheet.position sheet.event
+    sheet.round (agree n h ss i j d f is ours others) here.0 there.0
     ∙ there.1)
   where
     text_of : Some text ≡ Some other → text ≡ other

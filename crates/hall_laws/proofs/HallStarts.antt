@@ -15,8 +15,8 @@ use Rattle.replica.specs.declared.roles.fault.NodeFault.TheVariants.{Down}
 use Rattle.serving.specs.Making.{Call, calls_of}
 use Rattle.serving.specs.Nodes.{Fate, Goes, Starves, Breaks, by_fate, by_step, reply}
 use Rattle.serving.specs.Serving.{Act, Called, Service, answer_out, begun, call, enter, entered_by}
-use Rattle.serving.specs.Serving.{first_fate, grew, learn, learn_all, reply_to, served, settle}
-use Rattle.serving.specs.Serving.{settle_by, start_if_grown, take, tell}
+use Rattle.serving.specs.Serving.{first_fate, grew, learn, learn_all, reply_to, served, push_all}
+use Rattle.serving.specs.Serving.{start_if_grown, take, tell}
 use Rattle.serving.specs.declared.request.Request.{Request}
 use Rattle.serving.specs.declared.request.Request.TheVariants.{Heard, Lagging, Learned, Entered}
 use Rattle.serving.specs.declared.request.Request.TheVariants.{Asked, Printed, Ticked, Stopped}
@@ -25,7 +25,7 @@ use Rattle.serving.specs.declared.request.Request.TheVariants.{Denied, Withheld}
 use Rattle.store.specs.declared.home.Home.{Home}
 use Rattle.hall_laws.specs.HallGoing.{HasCall, StartsCome}
 use Rattle.hall_laws.specs.HallRuns.{IsTakenIn}
-use Rattle.hall_laws.proofs.Following.{follows_settle}
+use Rattle.hall_laws.proofs.Following.{follows_push}
 use Rattle.hall_laws.proofs.OwnMessages.{calls_both}
 
 has_front : (e : DeskEvent) (cs ds : List Call) → HasCall e cs → HasCall e (cs ++ ds)
@@ -39,12 +39,12 @@ has_later e (c ∷ cs) ds h = inr (has_later e cs ds h)
 
 -- a Start, and all that comes of it
 has_start : (home : Home) (s : Service)
-    → HasCall Start (calls_of (settle home (call home Start s)).done)
+    → HasCall Start (calls_of (push_all (call home Start s)).done)
 unfolding call
 has_start home s =
     let called : Service = call home Start s in
     let one : List Act = Called Start (reply_to home Start s).result ∷ [] in
-    let more = follows_settle home called.left called in
+    let more = follows_push called in
     subst (λ z. HasCall Start (calls_of z)) (sym more.done)
     (subst (λ z. HasCall Start z) (sym (calls_both called.done more.more))
     (has_front Start (calls_of called.done) (calls_of more.more)
@@ -58,7 +58,7 @@ unfolding start_if_grown
 after_growth home before s = go (grew before s.seen) refl
   where
     next : Bool → Service
-    next t = if t then settle home (call home Start s) else s
+    next t = if t then push_all (call home Start s) else s
 
     go : (t : Bool) → grew before s.seen ≡ t → grew before (next t).seen ≡ true
         → HasCall Start (calls_of (next t).done)
@@ -141,19 +141,19 @@ grown : (home : Home) (x : Seen) (fates : List Fate) (r : Request)
     → HasCall Start (calls_of (served home x fates r).done)
 unfolding take tell learn_all enter call
 grown home x fates (Heard m) is =
-    after_growth home (length x.desk.log) (settle home (call home (Deliver m) (begun x fates))) is
+    after_growth home (length x.desk.log) (push_all (call home (Deliver m) (begun x fates))) is
 grown home x fates (Lagging m) is =
     after_growth home (length x.desk.log) (answer_out home (call home (Deliver m) (begun x fates)))
     is
 grown home x fates (Learned run) is =
     after_growth home (length x.desk.log)
-    (settle_by home 16 (learn home run.from run.to run.pos run.entries (begun x fates))) is
+    (push_all (learn home run.from run.to run.pos run.entries (begun x fates))) is
 grown home x fates (Entered e) is =
     entry_grown home x e (call home (Submit e) (begun x fates))
     (reply_to home (Submit e) (begun x fates)).result
     (λ why refused. refused_same home x (Submit e) (first_fate fates) why refused) is
 grown home x fates Ticked is =
-    after_growth home (length x.desk.log) (settle home (call home Tick (begun x fates))) is
+    after_growth home (length x.desk.log) (push_all (call home Tick (begun x fates))) is
 grown home x fates (Asked id) is = absurd (not_grown x x refl is)
 grown home x fates (Printed event round position style) is = absurd (not_grown x x refl is)
 grown home x fates Stopped is = absurd (not_grown x x refl is)

@@ -3,7 +3,7 @@ use Rattle.std.proofs.Common.{◌≡◌, ◌≤◌, ◌+◌, ◌*◌, inl, inr, 
 use Rattle.std.proofs.Common.{if◌then◌else◌, List, [], ◌∷◌, ◌++◌, drop, length, None, Some, arith}
 use Rattle.std.proofs.Common.{false, slice_get, take, Ok}
 use Rattle.std.proofs.Math.Seq.{take-length}
-use Rattle.acceptor.specs.declared.message.Body.TheVariants.{Prepare, Promise}
+use Rattle.acceptor.specs.declared.message.Body.TheVariants.{Prepare, Promise, Accept}
 use Rattle.acceptor.specs.declared.message.Message.{Message}
 use Rattle.answers.specs.Seen.{Seen}
 use Rattle.learner.specs.Chosen.{Has, IsMajority}
@@ -24,7 +24,7 @@ use Rattle.serving.specs.Asking.{request}
 use Rattle.serving.specs.Connection.{Begun, close_of, serve_frame}
 use Rattle.serving.specs.Making.{calls_of}
 use Rattle.serving.specs.Serving.{Act, begun, call, enter, framed}
-use Rattle.serving.specs.Serving.{served, settle_by, start_if_grown, take as take_event}
+use Rattle.serving.specs.Serving.{served, push_all, start_if_grown, take as take_event}
 use Rattle.serving.specs.Turns.{new_talk}
 use Rattle.serving.specs.declared.request.Request.TheVariants.{Entered}
 use Rattle.store.specs.declared.home.Home.{Home}
@@ -73,12 +73,16 @@ submit_fits d id ours low high = record {
   body = entry_fits id low high;
 }
 
--- desk 3 asks desk 2 for a promise, and desk 2 gives it
-abbrev pub asks : Message
-asks = record { from = 3; to = 2; body = Prepare (ballot 1 3) 0 }
+-- desk 3 asks itself and desk 2 for a promise, and both give it
+abbrev pub asks : ℕ → Message
+asks d = record { from = 3; to = d; body = Prepare (ballot 1 3) 0 }
 
-abbrev pub gives : Message
-gives = record { from = 2; to = 3; body = Promise (ballot 1 3) 0 None }
+abbrev pub gives : ℕ → Message
+gives d = record { from = d; to = 3; body = Promise (ballot 1 3) 0 None }
+
+-- it asks itself for a vote
+abbrev pub proposes : Message
+proposes = record { from = 3; to = 3; body = Accept (ballot 1 3) 0 (entry 7) }
 
 -- desk 2 asks desk 3 for a promise of a higher ballot
 abbrev rivals : Message
@@ -99,25 +103,34 @@ abbrev pub play_1 : Play
 play_1 = asked_so first_play 3 (request (third_home 3) (submit 3 7))
 
 abbrev pub play_2 : Play
-play_2 = asked_so play_1 2 (request (third_home 2) (framed Two 7 asks))
+play_2 = asked_so play_1 3 (request (third_home 3) (framed Two 7 (asks 3)))
 
 abbrev pub play_3 : Play
-play_3 = asked_so play_2 3 (request (third_home 3) (framed Two 7 gives))
+play_3 = asked_so play_2 2 (request (third_home 2) (framed Two 7 (asks 2)))
 
-abbrev play_4 : Play
-play_4 = asked_so play_3 2 (request (third_home 2) (submit 2 8))
+abbrev pub play_4 : Play
+play_4 = asked_so play_3 3 (request (third_home 3) (framed Two 7 (gives 3)))
 
-abbrev play_5 : Play
-play_5 = asked_so play_4 3 (request (third_home 3) (framed Two 7 rivals))
+abbrev pub play_5 : Play
+play_5 = asked_so play_4 3 (request (third_home 3) (framed Two 7 (gives 2)))
 
-abbrev play_6 : Play
-play_6 = asked_so play_5 1 (request (third_home 1) (submit 1 9))
+abbrev pub play_6 : Play
+play_6 = asked_so play_5 3 (request (third_home 3) (framed Two 7 proposes))
+
+abbrev pub play_7 : Play
+play_7 = asked_so play_6 2 (request (third_home 2) (submit 2 8))
+
+abbrev pub play_8 : Play
+play_8 = asked_so play_7 3 (request (third_home 3) (framed Two 7 rivals))
+
+abbrev pub play_9 : Play
+play_9 = asked_so play_8 1 (request (third_home 1) (submit 1 9))
 
 -- what desk 1 is opened again over, and so
 abbrev kept : Memory
 kept = record {
   home = third_home 1;
-  stored = record { promised = ballot 1 1; vote = None; tried = 1 };
+  stored = record { promised = ballot 0 0; vote = None; tried = 1 };
   log = [];
 }
 
@@ -129,11 +142,11 @@ again = record {
   told = nothing_told;
 }
 
-abbrev play_7 : Play
-play_7 = stopped_so play_6 1 (seen_of again)
+abbrev play_10 : Play
+play_10 = stopped_so play_9 1 (seen_of again)
 
-abbrev play_8 : Play
-play_8 = asked_so play_7 1 (request (third_home 1) (submit 1 9))
+abbrev play_11 : Play
+play_11 = asked_so play_10 1 (request (third_home 1) (submit 1 9))
 
 -- ---- each is come to
 
@@ -161,15 +174,31 @@ enters law steps p was d id ours low high asked stays =
     subst (λ z. IsInFrame z) same (entry_fits id low high))
 
 pub moves_1 : CallsAreHappenings memory → Moves [] play_1
-unfolding close_of serve_frame call settle_by start_if_grown enter
+unfolding close_of serve_frame call push_all start_if_grown enter
 moves_1 law =
     enters law [] first_play first_played 3 7 ours_3 (omega arith) (omega arith) refl refl
 
 pub moves_2 : CallsAreHappenings memory → (steps : List (HallStep Memory)) → Played steps play_1
     → Moves steps play_2
-unfolding close_of serve_frame call settle_by start_if_grown enter take_event
+unfolding close_of serve_frame call push_all start_if_grown enter take_event
 moves_2 law steps was =
-    by_frame law steps play_1 was 2 ours_2 (framed Two 7 asks)
+    by_frame law steps play_1 was 3 ours_3 (framed Two 7 (asks 3))
+    (record {
+      hall = omega arith;
+      goes = ((omega arith, omega arith), (omega arith, omega arith));
+      body = ((omega arith, omega arith, (omega arith, omega arith)), omega arith);
+    })
+    ((3, refl, refl), tt) refl
+    (λ x sound.
+    led_message 7 3 3 ours_3 x Two (asks 3)
+    (made 1 3 (omega arith) (omega arith) ours_3) sound refl)
+    (λ e is. absurd cc)
+
+pub moves_3 : CallsAreHappenings memory → (steps : List (HallStep Memory)) → Played steps play_2
+    → Moves steps play_3
+unfolding close_of serve_frame call push_all start_if_grown enter take_event
+moves_3 law steps was =
+    by_frame law steps play_2 was 2 ours_2 (framed Two 7 (asks 2))
     (record {
       hall = omega arith;
       goes = ((omega arith, omega arith), (omega arith, omega arith));
@@ -177,14 +206,31 @@ moves_2 law steps was =
     })
     ((2, refl, refl), tt) refl
     (λ x sound.
-    led_message 7 3 2 ours_2 x Two asks (made 1 3 (omega arith) (omega arith) ours_3) sound refl)
+    led_message 7 3 2 ours_2 x Two (asks 2)
+    (made 1 3 (omega arith) (omega arith) ours_3) sound refl)
     (λ e is. absurd cc)
 
-pub moves_3 : CallsAreHappenings memory → (steps : List (HallStep Memory)) → Played steps play_2
-    → Moves steps play_3
-unfolding close_of serve_frame call settle_by start_if_grown enter take_event
-moves_3 law steps was =
-    by_frame law steps play_2 was 3 ours_3 (framed Two 7 gives)
+pub moves_4 : CallsAreHappenings memory → (steps : List (HallStep Memory)) → Played steps play_3
+    → Moves steps play_4
+unfolding close_of serve_frame call push_all start_if_grown enter take_event
+moves_4 law steps was =
+    by_frame law steps play_3 was 3 ours_3 (framed Two 7 (gives 3))
+    (record {
+      hall = omega arith;
+      goes = ((omega arith, omega arith), (omega arith, omega arith));
+      body = ((omega arith, omega arith, (omega arith, omega arith)), omega arith, tt);
+    })
+    ((4, refl, refl), tt) refl
+    (λ x sound.
+    led_message 7 3 3 ours_3 x Two (gives 3)
+    (made 1 3 (omega arith) (omega arith) ours_3, tt) sound refl)
+    (λ e is. absurd cc)
+
+pub moves_5 : CallsAreHappenings memory → (steps : List (HallStep Memory)) → Played steps play_4
+    → Moves steps play_5
+unfolding close_of serve_frame call push_all start_if_grown enter take_event
+moves_5 law steps was =
+    by_frame law steps play_4 was 3 ours_3 (framed Two 7 (gives 2))
     (record {
       hall = omega arith;
       goes = ((omega arith, omega arith), (omega arith, omega arith));
@@ -192,21 +238,42 @@ moves_3 law steps was =
     })
     ((5, refl, refl), tt) refl
     (λ x sound.
-    led_message 7 3 3 ours_3 x Two gives
+    led_message 7 3 3 ours_3 x Two (gives 2)
     (made 1 3 (omega arith) (omega arith) ours_3, tt) sound refl)
     (λ e is. absurd cc)
 
-moves_4 : CallsAreHappenings memory → (steps : List (HallStep Memory)) → Played steps play_3
-    → Moves steps play_4
-unfolding close_of serve_frame call settle_by start_if_grown enter take_event
-moves_4 law steps was =
-    enters law steps play_3 was 2 8 ours_2 (omega arith) (omega arith) refl refl
+pub moves_6 : CallsAreHappenings memory → (steps : List (HallStep Memory)) → Played steps play_5
+    → Moves steps play_6
+unfolding close_of serve_frame call push_all start_if_grown enter take_event
+moves_6 law steps was =
+    by_frame law steps play_5 was 3 ours_3 (framed Two 7 proposes)
+    (record {
+      hall = omega arith;
+      goes = ((omega arith, omega arith), (omega arith, omega arith));
+      body = (
+        (omega arith, omega arith, (omega arith, omega arith)),
+        omega arith,
+        entry_fits 7 (omega arith) (omega arith),
+      );
+    })
+    ((8, refl, refl), tt) refl
+    (λ x sound.
+    led_message 7 3 3 ours_3 x Two proposes
+    (made 1 3 (omega arith) (omega arith) ours_3, entry_fits 7 (omega arith) (omega arith)) sound
+    refl)
+    (λ e is. absurd cc)
 
-moves_5 : CallsAreHappenings memory → (steps : List (HallStep Memory)) → Played steps play_4
-    → Moves steps play_5
-unfolding close_of serve_frame call settle_by start_if_grown enter take_event
-moves_5 law steps was =
-    by_frame law steps play_4 was 3 ours_3 (framed Two 7 rivals)
+moves_7 : CallsAreHappenings memory → (steps : List (HallStep Memory)) → Played steps play_6
+    → Moves steps play_7
+unfolding close_of serve_frame call push_all start_if_grown enter take_event
+moves_7 law steps was =
+    enters law steps play_6 was 2 8 ours_2 (omega arith) (omega arith) refl refl
+
+moves_8 : CallsAreHappenings memory → (steps : List (HallStep Memory)) → Played steps play_7
+    → Moves steps play_8
+unfolding close_of serve_frame call push_all start_if_grown enter take_event
+moves_8 law steps was =
+    by_frame law steps play_7 was 3 ours_3 (framed Two 7 rivals)
     (record {
       hall = omega arith;
       goes = ((omega arith, omega arith), (omega arith, omega arith));
@@ -214,14 +281,15 @@ moves_5 law steps was =
     })
     ((12, refl, refl), tt) refl
     (λ x sound.
-    led_message 7 3 3 ours_3 x Two rivals (made 2 2 (omega arith) (omega arith) ours_2) sound refl)
+    led_message 7 3 3 ours_3 x Two rivals
+    (made 2 2 (omega arith) (omega arith) ours_2) sound refl)
     (λ e is. absurd cc)
 
-moves_6 : CallsAreHappenings memory → (steps : List (HallStep Memory)) → Played steps play_5
-    → Moves steps play_6
-unfolding close_of serve_frame call settle_by start_if_grown enter take_event
-moves_6 law steps was =
-    enters law steps play_5 was 1 9 ours_1 (omega arith) (omega arith) refl refl
+moves_9 : CallsAreHappenings memory → (steps : List (HallStep Memory)) → Played steps play_8
+    → Moves steps play_9
+unfolding close_of serve_frame call push_all start_if_grown enter take_event
+moves_9 law steps was =
+    enters law steps play_8 was 1 9 ours_1 (omega arith) (omega arith) refl refl
 
 -- ---- desk 1 stops while it saves in a Tick of its own
 
@@ -229,7 +297,7 @@ abbrev its_tick : Begun
 its_tick = as_it_goes (own_tick Two (third_home 1))
 
 abbrev left_undone : List Act
-left_undone = (serve_frame (third_home 1) (play_6.seen 1) its_tick).acts
+left_undone = (serve_frame (third_home 1) (play_9.seen 1) its_tick).acts
 
 -- what it would have asked
 abbrev its_asks : List Message
@@ -254,15 +322,15 @@ cut steps = record { event = CutAt 1 its_tick []; after = after_cut steps }
 
 calls_left : calls_of left_undone
     ≡ record { event = Tick; answer = Ok its_asks } ∷ drop 1 (calls_of left_undone)
-unfolding close_of serve_frame call settle_by start_if_grown enter take_event
+unfolding close_of serve_frame call push_all start_if_grown enter take_event
 calls_left = refl
 
-holds_either : HoldsStep memory kept (play_6.seen 1).desk
-    (step_at (third_home 1) (play_6.seen 1).desk Tick)
-unfolding serve_frame call settle_by start_if_grown enter take_event
+holds_either : HoldsStep memory kept (play_9.seen 1).desk
+    (step_at (third_home 1) (play_9.seen 1).desk Tick)
+unfolding serve_frame call push_all start_if_grown enter take_event
 holds_either = λ honest. record { only = λ u rest may. inl may; whole = λ never. never }
 
-saves : (steps : List (HallStep Memory)) → Played steps play_6
+saves : (steps : List (HallStep Memory)) → Played steps play_9
     → StopsInSave memory ((hall_after first_hall steps).desks 1).node kept left_undone
 saves steps was =
     let own = was.sound.desks 1 ours_1 in
@@ -307,7 +375,7 @@ sound_again = record {
       record {
         contents =
             record {
-              promised = inr (made 1 1 (omega arith) (omega arith) ours_1);
+              promised = inl refl;
               vote = tt;
               log = tt;
               role = tt;
@@ -322,7 +390,7 @@ sound_again = record {
         vote = tt;
         ballots =
             record {
-              promised = inr (omega arith, ours_1);
+              promised = inl refl;
               vote = tt;
               log = tt;
               role = tt;
@@ -331,7 +399,7 @@ sound_again = record {
       };
 }
 
-cuts : (steps : List (HallStep Memory)) → Played steps play_6
+cuts : (steps : List (HallStep Memory)) → Played steps play_9
     → HallGoes memory 3 (cut steps).event (hall_after first_hall steps) (after_cut steps)
 cuts steps was =
     let own = was.sound.desks 1 ours_1 in
@@ -353,28 +421,28 @@ cuts steps was =
       only = only_here (hall_after first_hall steps) 1 opened_again [];
     }
 
-moves_7 : (steps : List (HallStep Memory)) → Played steps play_6
-    → Played (steps ++ cut steps ∷ []) play_7
-moves_7 steps was =
-    by_step steps play_6 was 1 ours_1 (cut steps) opened_again refl (cuts steps was) sound_again
+moves_10 : (steps : List (HallStep Memory)) → Played steps play_9
+    → Played (steps ++ cut steps ∷ []) play_10
+moves_10 steps was =
+    by_step steps play_9 was 1 ours_1 (cut steps) opened_again refl (cuts steps was) sound_again
 
-moves_8 : CallsAreHappenings memory → (steps : List (HallStep Memory)) → Played steps play_7
-    → Moves steps play_8
-unfolding close_of serve_frame call settle_by start_if_grown enter take_event
-moves_8 law steps was =
-    enters law steps play_7 was 1 9 ours_1 (omega arith) (omega arith) refl refl
+moves_11 : CallsAreHappenings memory → (steps : List (HallStep Memory)) → Played steps play_10
+    → Moves steps play_11
+unfolding close_of serve_frame call push_all start_if_grown enter take_event
+moves_11 law steps was =
+    enters law steps play_10 was 1 9 ours_1 (omega arith) (omega arith) refl refl
 
 -- what the desks know then
-knows_1 : (play_8.seen 1).desk ≡ restarted_desk
-unfolding close_of serve_frame call settle_by start_if_grown enter take_event
+knows_1 : (play_11.seen 1).desk ≡ restarted_desk
+unfolding close_of serve_frame call push_all start_if_grown enter take_event
 knows_1 = refl
 
-knows_2 : (play_8.seen 2).desk ≡ rival_desk
-unfolding close_of serve_frame call settle_by start_if_grown enter take_event
+knows_2 : (play_11.seen 2).desk ≡ rival_desk
+unfolding close_of serve_frame call push_all start_if_grown enter take_event
 knows_2 = refl
 
-knows_3 : (play_8.seen 3).desk ≡ outbid_desk
-unfolding close_of serve_frame call settle_by start_if_grown enter take_event
+knows_3 : (play_11.seen 3).desk ≡ outbid_desk
+unfolding close_of serve_frame call push_all start_if_grown enter take_event
 knows_3 = refl
 
 -- ---- a majority with room
@@ -418,34 +486,36 @@ room_in w one three = record {
 -- the numbers that are needed, by what the two desks know
 abbrev needs : Desk → Desk → ℕ
 needs x y =
-    numbers_needed (record { desks = λ j. if eqb j 1 then x else y; sent = [] }) these 1
+    numbers_needed 1 these (record { desks = λ j. if eqb j 1 then x else y; sent = [] }) 1
 
 turn_room_in : (w : World) → w.desks 1 ≡ restarted_desk → w.desks 3 ≡ outbid_desk
-    → HasTurnRoom these w 1
+    → HasTurnRoom 1 these w 1
 turn_room_in w one three =
     record {
       logs =
           of_these (λ j. length (w.desks j).log + 2 * 1 ≤ 65536)
           (subst (λ (x : Desk). length x.log + 2 * 1 ≤ 65536) (sym one) (omega arith))
           (subst (λ (x : Desk). length x.log + 2 * 1 ≤ 65536) (sym three) (omega arith));
-      promised = both (λ x. x.stored.promised.number) (omega arith) (omega arith);
-      tried = both (λ x. x.stored.tried) (omega arith) (omega arith);
-      seen = both (λ x. x.seen) (omega arith) (omega arith);
+      promised =
+          subst
+          (λ (c : ℕ). (j : ℕ) → Has these j → (w.desks j).stored.promised.number + c
+          ≤ 4294967295) (sym needed)
+          (of_these (λ j. (w.desks j).stored.promised.number + 4 ≤ 4294967295)
+          (subst (λ (x : Desk). x.stored.promised.number + 4 ≤ 4294967295) (sym one) (omega arith))
+          (subst (λ (x : Desk). x.stored.promised.number + 4 ≤ 4294967295) (sym three)
+          (omega arith)));
+      tried =
+          subst (λ (c : ℕ). (w.desks 1).stored.tried + c ≤ 4294967295) (sym needed)
+          (subst (λ (x : Desk). x.stored.tried + 4 ≤ 4294967295) (sym one) (omega arith));
+      seen =
+          subst (λ (c : ℕ). (w.desks 1).seen + c ≤ 4294967295) (sym needed)
+          (subst (λ (x : Desk). x.seen + 4 ≤ 4294967295) (sym one) (omega arith));
     }
   where
-    needed : numbers_needed w these 1 ≡ 12
+    needed : numbers_needed 1 these w 1 ≡ 4
     needed =
-        let same : numbers_needed w these 1 ≡ needs (w.desks 1) (w.desks 3) = refl in
+        let same : numbers_needed 1 these w 1 ≡ needs (w.desks 1) (w.desks 3) = refl in
         same ∙ (λ i. needs (one i) (three i))
-
-    both : (f : Desk → ℕ) → f restarted_desk + 12 ≤ 4294967295 → f outbid_desk + 12 ≤ 4294967295
-        → (j : ℕ) → Has these j → f (w.desks j) + numbers_needed w these 1 ≤ 4294967295
-    both f first second =
-        subst
-        (λ (c : ℕ). (j : ℕ) → Has these j → f (w.desks j) + c ≤ 4294967295) (sym needed)
-        (of_these (λ j. f (w.desks j) + 12 ≤ 4294967295)
-        (subst (λ (x : Desk). f x + 12 ≤ 4294967295) (sym one) first)
-        (subst (λ (x : Desk). f x + 12 ≤ 4294967295) (sym three) second))
 
 -- ---- all of it
 
@@ -459,7 +529,7 @@ pub cut_front : (a b : List (HallStep Memory)) (c : HallStep Memory)
 cut_front [] b c = refl
 cut_front (x ∷ a) b c = ap (λ (s : List (HallStep Memory)). x ∷ s) (cut_front a b c)
 
-stops_once : (a b : List (HallStep Memory)) → Played a play_6
+stops_once : (a b : List (HallStep Memory)) → Played a play_9
     → StopsOnce ((a ++ cut a ∷ []) ++ b)
 stops_once a b was = record {
   at = length a;
@@ -495,25 +565,35 @@ can_serve law stops steps sound = record {
 pub tangle_is_decided : CallsAreHappenings memory → StopsMakeARun → NoQueueIsStuck
     → NoServingDeskIsStuck → TangleIsDecided
 tangle_is_decided law stops queue serving =
-    let one = moves_1 law in
-    let two = moves_2 law one.more one.played in
-    let three = moves_3 law (one.more ++ two.more) two.played in
-    let four = moves_4 law ((one.more ++ two.more) ++ three.more) three.played in
-    let five = moves_5 law (((one.more ++ two.more) ++ three.more) ++ four.more) four.played in
-    let six = moves_6 law ((((one.more ++ two.more) ++ three.more) ++ four.more) ++ five.more)
-    five.played in
-    ends law stops queue serving
-    (((((one.more ++ two.more) ++ three.more) ++ four.more) ++ five.more) ++ six.more) six.played
+    let m1 = moves_1 law in
+    let a1 = m1.more in
+    let m2 = moves_2 law a1 m1.played in
+    let a2 = a1 ++ m2.more in
+    let m3 = moves_3 law a2 m2.played in
+    let a3 = a2 ++ m3.more in
+    let m4 = moves_4 law a3 m3.played in
+    let a4 = a3 ++ m4.more in
+    let m5 = moves_5 law a4 m4.played in
+    let a5 = a4 ++ m5.more in
+    let m6 = moves_6 law a5 m5.played in
+    let a6 = a5 ++ m6.more in
+    let m7 = moves_7 law a6 m6.played in
+    let a7 = a6 ++ m7.more in
+    let m8 = moves_8 law a7 m7.played in
+    let a8 = a7 ++ m8.more in
+    let m9 = moves_9 law a8 m8.played in
+    let a9 = a8 ++ m9.more in
+    ends law stops queue serving a9 m9.played
   where
     ends : CallsAreHappenings memory → StopsMakeARun → NoQueueIsStuck → NoServingDeskIsStuck
-        → (a : List (HallStep Memory)) → Played a play_6 → TangleIsDecided
+        → (a : List (HallStep Memory)) → Played a play_9 → TangleIsDecided
     ends law stops queue serving a was =
-        let last = moves_8 law (a ++ cut a ∷ []) (moves_7 a was) in
+        let last = moves_11 law (a ++ cut a ∷ []) (moves_10 a was) in
         whole law stops queue serving ((a ++ cut a ∷ []) ++ last.more)
         (stops_once a last.more was) last.played
       where
         whole : CallsAreHappenings memory → StopsMakeARun → NoQueueIsStuck → NoServingDeskIsStuck
-            → (steps : List (HallStep Memory)) → StopsOnce steps → Played steps play_8
+            → (steps : List (HallStep Memory)) → StopsOnce steps → Played steps play_11
             → TangleIsDecided
         whole law stops queue serving steps once is =
             let g = hall_after first_hall steps in
@@ -554,5 +634,5 @@ tangle_is_decided law stops queue serving =
               serves = serves;
               decides =
                   serving_decides memory law stops serving 3 first_hall steps 1 these
-                  (entry 9 ∷ []) [] is.run (omega arith) majority has waits turn_room serves;
+                  (entry 9 ∷ []) [] is.run majority has waits turn_room serves;
             }

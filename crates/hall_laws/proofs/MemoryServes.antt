@@ -1,5 +1,5 @@
 -- A desk over a keeper that never fails serves what it is asked.
-use Rattle.std.proofs.Common.{◌≡◌, refl, sym, ap, subst, ◌∙◌, ℕ, zero, suc, ◌==◌, Bool, true}
+use Rattle.std.proofs.Common.{◌≡◌, refl, sym, ap, subst, ◌∙◌, ℕ, Bool, true}
 use Rattle.std.proofs.Common.{false, if◌then◌else◌, List, [], ◌∷◌, ◌++◌, length, map, Option, None}
 use Rattle.std.proofs.Common.{Some, Result, Ok, Err}
 use Rattle.acceptor.specs.declared.entry.Entry.{Entry}
@@ -10,10 +10,8 @@ use Rattle.learner.specs.Ranges.{DeskIsInRange, DoneIsInRange}
 use Rattle.learner.specs.Steps.{Done, IsDesk, step}
 use Rattle.learner.specs.declared.event.DeskEvent.{DeskEvent}
 use Rattle.learner.specs.declared.event.DeskEvent.TheVariants.{Submit, Start, Deliver}
-use Rattle.learner.proofs.Contents.{messages_append}
 use Rattle.learner.proofs.InRange.{step_in_range}
 use Rattle.proposer.specs.declared.fault.Refusal.{Refusal}
-use Rattle.proposer.specs.declared.fault.Refusal.TheVariants as refusal
 use Rattle.replica.specs.Handles.{Handles, IsInFrame}
 use Rattle.replica.specs.Lengths.{told_by}
 use Rattle.replica.specs.Nodes.{NodeValue}
@@ -23,8 +21,7 @@ use Rattle.replica.specs.roles.Faults.{refused_as}
 use Rattle.serving.specs.Making.{Call, Lead, calls_of}
 use Rattle.serving.specs.Nodes.{Reply, by_step, reply}
 use Rattle.serving.specs.Serving.{Act, Called, Pushed, Answered, Service, first_fate, answered}
-use Rattle.serving.specs.Serving.{later_fates, waiting_after, reply_to, call, in_front, from_own}
-use Rattle.serving.specs.Serving.{to_others, push_all, waits, deliver, settle_by, settle, grew}
+use Rattle.serving.specs.Serving.{later_fates, reply_to, call, push_all, waits, grew}
 use Rattle.serving.specs.Serving.{start_if_grown, take as take_event, decided, learn, learn_all}
 use Rattle.serving.specs.Serving.{hand_out, answer_out, tell, entered_by, enter}
 use Rattle.serving.specs.Telling.{run_of}
@@ -46,8 +43,8 @@ quiet_more : (calls : List Call) (c : Call) → NoDown calls → ¬ (c.answer �
 quiet_more [] c h never = (never, tt)
 quiet_more (k ∷ calls) c h never = (h.0, quiet_more calls c h.1 never)
 
--- The calls so far lead to a node that works, and that is what is seen. Each entry in it and in
--- what waits fits in a frame.
+-- The calls so far lead to a node that works, and that is what is seen. Each entry in it fits in a
+-- frame.
 pub record Led (home : Home) (a : NodeValue Memory) (s : Service) : Type 0 where
   pub node : NodeValue Memory
   pub lead : Lead (Handles memory) a (calls_of s.done) node
@@ -56,7 +53,6 @@ pub record Led (home : Home) (a : NodeValue Memory) (s : Service) : Type 0 where
   pub at : node.keeper.home ≡ home
   pub holds : DeskFits IsInFrame home.desks node.desk
   pub range : DeskIsInRange home.desks node.desk
-  pub waiting : MessagesHold IsInFrame (IsMade home.desks) s.waiting
   pub fates : s.fates ≡ []
   pub quiet : NoDown (calls_of s.done)
 
@@ -68,12 +64,6 @@ lead_more [] a x y c lead one =
     (y, subst (λ (z : NodeValue Memory). Handles memory z c.event c.answer y) (sym lead) one, refl)
 lead_more (k ∷ calls) a x y c lead one =
     (lead.0, lead.1, lead_more calls lead.0 x y c lead.2 one)
-
-refused_waits : (n : ℕ) (ms : List Message) (why : Refusal) → MessagesHold IsInFrame (IsMade n) ms
-    → MessagesHold IsInFrame (IsMade n) (waiting_after ms (Err (refused_as why)))
-refused_waits n ms refusal.Busy h = h
-refused_waits n ms refusal.LogFull h = h
-refused_waits n ms refusal.BallotsSpent h = h
 
 led_call : (home : Home) → IsDesk home.desks home.desk → (a : NodeValue Memory) (s : Service)
     (event : DeskEvent) → EventHolds IsInFrame home.desks event → Led home a s
@@ -127,8 +117,6 @@ led_call home ours a s event fine l =
           at = l.at;
           holds = holds.0;
           range = range.0;
-          waiting = messages_append IsInFrame (IsMade home.desks) s.waiting r.messages l.waiting
-              holds.1;
           fates = ap (λ z. later_fates z) l.fates;
           quiet =
               subst (λ z. NoDown z) (sym (calls_both s.done (Called event (Ok r.messages) ∷ [])))
@@ -151,7 +139,6 @@ led_call home ours a s event fine l =
           at = l.at;
           holds = l.holds;
           range = l.range;
-          waiting = refused_waits home.desks s.waiting why l.waiting;
           fates = ap (λ z. later_fates z) l.fates;
           quiet =
               subst (λ z. NoDown z)
@@ -162,16 +149,14 @@ led_call home ours a s event fine l =
         }
 
 -- what is pushed, or answered, is no call
-led_quiet : (home : Home) (a : NodeValue Memory) (s : Service) (ms : List Message) (left : ℕ)
-    (acts : List Act) → calls_of acts ≡ [] → MessagesHold IsInFrame (IsMade home.desks) ms
-    → Led home a s → Led home a (record {
+led_quiet : (home : Home) (a : NodeValue Memory) (s : Service) (acts : List Act)
+    → calls_of acts ≡ [] → Led home a s → Led home a (record {
       seen = s.seen;
-      waiting = ms;
-      left = left;
+      waiting = [];
       done = s.done ++ acts;
       fates = s.fates;
     })
-led_quiet home a s ms left acts none holds l = record {
+led_quiet home a s acts none l = record {
   node = l.node;
   lead =
       subst (λ z. Lead (Handles memory) a z l.node) (sym (no_calls s.done acts none)) l.lead;
@@ -180,55 +165,24 @@ led_quiet home a s ms left acts none holds l = record {
   at = l.at;
   holds = l.holds;
   range = l.range;
-  waiting = holds;
   fates = l.fates;
   quiet = subst (λ z. NoDown z) (sym (no_calls s.done acts none)) l.quiet;
 }
 
-own_hold : (n d : ℕ) (ms : List Message) → MessagesHold IsInFrame (IsMade n) ms
-    → MessagesHold IsInFrame (IsMade n) (from_own d ms)
-own_hold n d [] h = tt
-own_hold n d (m ∷ ms) h = go (m.to == d) (own_hold n d ms h.1)
-  where
-    go : (t : Bool) → MessagesHold IsInFrame (IsMade n) (from_own d ms)
-        → MessagesHold IsInFrame (IsMade n) (if t then m ∷ ms else from_own d ms)
-    go true ih = h
-    go false ih = ih
-
-led_settle : (home : Home) → IsDesk home.desks home.desk → (a : NodeValue Memory) (k : ℕ)
-    (s : Service) → Led home a s → Led home a (settle_by home k s)
-unfolding settle_by
-led_settle home ours a zero s l =
-    led_quiet home a s [] s.left (map (λ m. Pushed m) (to_others home.desk s.waiting))
-    (calls_of_pushes (to_others home.desk s.waiting)) tt l
-led_settle home ours a (suc k) s l =
-    go (from_own home.desk s.waiting) (own_hold home.desks home.desk s.waiting l.waiting)
-    (λ t q. led_settle home ours a k t q)
-  where
-    acts : List Act
-    acts = map (λ m. Pushed m) (in_front home.desk s.waiting)
-
-    none : calls_of acts ≡ []
-    none = calls_of_pushes (in_front home.desk s.waiting)
-
-    go : (own : List Message) → MessagesHold IsInFrame (IsMade home.desks) own
-        → ((t : Service) → Led home a t → Led home a (settle_by home k t))
-        → Led home a (deliver home (λ t. settle_by home k t) k own
-        (push_all (in_front home.desk s.waiting) [] s))
-    go [] h ih = led_quiet home a s [] s.left acts none tt l
-    go (m ∷ rest) h ih =
-        let first : Service = waits rest k (push_all (in_front home.desk s.waiting) [] s) in
-        ih (call home (Deliver m) first)
-        (led_call home ours a first (Deliver m) h.0 (led_quiet home a s rest k acts none h.1 l))
+led_push : (home : Home) (a : NodeValue Memory) (s : Service) → Led home a s
+    → Led home a (push_all s)
+unfolding push_all
+led_push home a s l =
+    led_quiet home a s (map (λ m. Pushed m) s.waiting) (calls_of_pushes s.waiting) l
 
 led_start : (home : Home) → IsDesk home.desks home.desk → (a : NodeValue Memory) (before : ℕ)
     (s : Service) → Led home a s → Led home a (start_if_grown home before s)
 unfolding start_if_grown
 led_start home ours a before s l = go (grew before s.seen)
   where
-    go : (t : Bool) → Led home a (if t then settle home (call home Start s) else s)
+    go : (t : Bool) → Led home a (if t then push_all (call home Start s) else s)
     go true =
-        led_settle home ours a (call home Start s).left (call home Start s)
+        led_push home a (call home Start s)
         (led_call home ours a s Start tt l)
     go false = l
 
@@ -238,8 +192,8 @@ pub led_take : (home : Home) → IsDesk home.desks home.desk → (a : NodeValue 
 unfolding take_event
 led_take home ours a event s fine l =
     let first : Service = call home event s in
-    led_start home ours a (length s.seen.desk.log) (settle home first)
-    (led_settle home ours a first.left first (led_call home ours a s event fine l))
+    led_start home ours a (length s.seen.desk.log) (push_all first)
+    (led_push home a first (led_call home ours a s event fine l))
 
 pub led_enter : (home : Home) → IsDesk home.desks home.desk → (a : NodeValue Memory) (e : Entry)
     (s : Service) → IsInFrame e → Led home a s → Led home a (enter home e s)
@@ -252,7 +206,7 @@ led_enter home ours a e s fine l =
     go (Ok ms) q =
         let first : Service = call home (Submit e) s in
         let called : Service = call home Start first in
-        led_settle home ours a called.left called (led_call home ours a first Start tt q)
+        led_push home a called (led_call home ours a first Start tt q)
     go (Err why) q = q
 
 pub led_tell : (home : Home) → IsDesk home.desks home.desk → (a : NodeValue Memory) (m : Message)
@@ -269,9 +223,9 @@ led_tell home ours a m s fine l =
     was : Led home a first
     was = led_call home ours a s (Deliver m) fine l
 
-    go : (o : Option DecidedRun) → Led home a (hand_out home o first)
-    go None = led_settle home ours a first.left first was
-    go (Some run) = led_quiet home a first [] first.left (Answered run ∷ []) refl tt was
+    go : (o : Option DecidedRun) → Led home a (hand_out o first)
+    go None = led_push home a first was
+    go (Some run) = led_quiet home a first (Answered run ∷ []) refl was
 
 pub led_learn : (home : Home) → IsDesk home.desks home.desk → (a : NodeValue Memory)
     (from to pos : ℕ) (e : Entry) (s : Service) → IsInFrame e → Led home a s
@@ -280,16 +234,16 @@ pub led_learn : (home : Home) → IsDesk home.desks home.desk → (a : NodeValue
 unfolding learn_all learn
 led_learn home ours a from to pos e s fine l =
     led_start home ours a (length s.seen.desk.log)
-    (settle_by home s.left (learn home from to pos (e ∷ []) s))
-    (led_settle home ours a s.left (learn home from to pos (e ∷ []) s)
+    (push_all (learn home from to pos (e ∷ []) s))
+    (led_push home a (learn home from to pos (e ∷ []) s)
     (go called.seen.is_down))
   where
     called : Service
-    called = call home (decided from to pos e) (waits [] s.left s)
+    called = call home (decided from to pos e) (waits [] s)
 
     one : Led home a called
     one =
-        led_call home ours a (waits [] s.left s) (decided from to pos e) fine
+        led_call home ours a (waits [] s) (decided from to pos e) fine
         (record {
           node = l.node;
           lead = l.lead;
@@ -298,7 +252,6 @@ led_learn home ours a from to pos e s fine l =
           at = l.at;
           holds = l.holds;
           range = l.range;
-          waiting = tt;
           fates = l.fates;
           quiet = l.quiet;
         })

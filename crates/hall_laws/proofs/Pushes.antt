@@ -10,7 +10,7 @@ use Rattle.learner.specs.declared.event.DeskEvent.TheVariants.{Submit, Tick, Del
 use Rattle.replica.specs.declared.roles.fault.NodeFault.{NodeFault}
 use Rattle.replica.specs.declared.roles.fault.NodeFault.TheVariants as fault
 use Rattle.serving.specs.Nodes.{Fate}
-use Rattle.serving.specs.Serving.{Act, Service, to_others, waiting_after, reply_to, call, begun}
+use Rattle.serving.specs.Serving.{Act, Service, waiting_after, reply_to, call, begun}
 use Rattle.serving.specs.Serving.{tell}
 use Rattle.serving.specs.Telling.{run_of}
 use Rattle.serving.specs.declared.request.DecidedRun.{DecidedRun}
@@ -30,63 +30,63 @@ use Rattle.hall_laws.proofs.Following.{follows_take, follows_enter, follows_tell
 use Rattle.hall_laws.proofs.Events.{given, one_given, all_learnt, learns_nothing}
 
 -- what was pushed, and then what was lost, is what was due
-settled_whole : (home : Home) (r : Request) (s : Service) (runs : List DecidedRun)
-    → (h : Settled home.desk (left_out r) runs s)
-    → pushed_messages s.done ++ h.keeps.lost ≡ due home r s.done
-settled_whole home r s runs h =
+settled_whole : (r : Request) (s : Service) (runs : List DecidedRun)
+    → (h : Settled (left_out r) runs s)
+    → pushed_messages s.done ++ h.keeps.lost ≡ due r s.done
+settled_whole r s runs h =
     ap (λ z. z ++ h.keeps.lost) (sym (append-nil (pushed_messages s.done)))
-    ∙ ap (λ z. (pushed_messages s.done ++ to_others home.desk z) ++ h.keeps.lost) (sym h.none)
+    ∙ ap (λ z. (pushed_messages s.done ++ z) ++ h.keeps.lost) (sym h.none)
     ∙ h.keeps.whole
 
-are_pushed : (home : Home) (r : Request) (s : Service) (runs : List DecidedRun)
-    → Settled home.desk (left_out r) runs s → ArePushed home r s
-are_pushed home r s runs h = record {
+are_pushed : (r : Request) (s : Service) (runs : List DecidedRun)
+    → Settled (left_out r) runs s → ArePushed r s
+are_pushed r s runs h = record {
   while_up =
       λ up.
       sym (append-nil (pushed_messages s.done))
       ∙ ap (λ z. pushed_messages s.done ++ z) (sym (h.keeps.while_up up))
-      ∙ settled_whole home r s runs h;
+      ∙ settled_whole r s runs h;
   so_far = h.keeps.in_time;
   none_after = h.keeps.quiet.after;
 }
 
-begun_settled : (home : Home) (x : Seen) (fates : List Fate)
-    → Settled home.desk 0 [] (begun x fates)
-begun_settled home x fates = record { keeps = keeps_begun home.desk x fates; none = refl }
+begun_settled : (x : Seen) (fates : List Fate)
+    → Settled 0 [] (begun x fates)
+begun_settled x fates = record { keeps = keeps_begun x fates; none = refl }
 
 pub messages_pushed : MessagesArePushed
 messages_pushed home x fates (Heard m) =
-    are_pushed home (Heard m) _ []
-    (takes home (Deliver m) (begun x fates) (keeps_begun home.desk x fates))
+    are_pushed (Heard m) _ []
+    (takes home (Deliver m) (begun x fates) (keeps_begun x fates))
 messages_pushed home x fates (Lagging m) =
-    are_pushed home (Lagging m) _
+    are_pushed (Lagging m) _
     (as_list (run_of home.desk (call home (Deliver m) (begun x fates)).waiting))
     (tells home m x fates)
 messages_pushed home x fates (Learned run) =
-    are_pushed home (Learned run) _ [] (learns home run x fates)
+    are_pushed (Learned run) _ [] (learns home run x fates)
 messages_pushed home x fates (Entered e) =
-    are_pushed home (Entered e) _ []
-    (enters home e (begun x fates) refl (keeps_begun home.desk x fates))
+    are_pushed (Entered e) _ []
+    (enters home e (begun x fates) refl (keeps_begun x fates))
 messages_pushed home x fates Ticked =
-    are_pushed home Ticked _ [] (takes home Tick (begun x fates) (keeps_begun home.desk x fates))
+    are_pushed Ticked _ [] (takes home Tick (begun x fates) (keeps_begun x fates))
 messages_pushed home x fates (Asked id) =
-    are_pushed home (Asked id) _ [] (begun_settled home x fates)
+    are_pushed (Asked id) _ [] (begun_settled x fates)
 messages_pushed home x fates (Printed event round position style) =
-    are_pushed home (Printed event round position style) _ [] (begun_settled home x fates)
+    are_pushed (Printed event round position style) _ [] (begun_settled x fates)
 messages_pushed home x fates Stopped =
-    are_pushed home Stopped _ [] (begun_settled home x fates)
+    are_pushed Stopped _ [] (begun_settled x fates)
 messages_pushed home x fates (Inspected differs) =
-    are_pushed home (Inspected differs) _ [] (begun_settled home x fates)
+    are_pushed (Inspected differs) _ [] (begun_settled x fates)
 messages_pushed home x fates (Copied position) =
-    are_pushed home (Copied position) _ [] (begun_settled home x fates)
+    are_pushed (Copied position) _ [] (begun_settled x fates)
 messages_pushed home x fates Strange =
-    are_pushed home Strange _ [] (begun_settled home x fates)
+    are_pushed Strange _ [] (begun_settled x fates)
 messages_pushed home x fates Ignored =
-    are_pushed home Ignored _ [] (begun_settled home x fates)
+    are_pushed Ignored _ [] (begun_settled x fates)
 messages_pushed home x fates Denied =
-    are_pushed home Denied _ [] (begun_settled home x fates)
+    are_pushed Denied _ [] (begun_settled x fates)
 messages_pushed home x fates Withheld =
-    are_pushed home Withheld _ [] (begun_settled home x fates)
+    are_pushed Withheld _ [] (begun_settled x fates)
 
 -- ---- runs
 
@@ -112,7 +112,7 @@ first_stays home event x fates s more is = ap (λ z. take 1 z) is
 
 pub runs_are_due : RunsAreDue
 runs_are_due home x fates (Heard m) =
-    (takes home (Deliver m) (begun x fates) (keeps_begun home.desk x fates)).keeps.runs_are
+    (takes home (Deliver m) (begun x fates) (keeps_begun x fates)).keeps.runs_are
 runs_are_due home x fates (Lagging m) =
     let f = follows_tell home m (begun x fates) in
     (tells home m x fates).keeps.runs_are
@@ -122,9 +122,9 @@ runs_are_due home x fates (Lagging m) =
     (sym (first_stays home (Deliver m) x fates (tell home m (begun x fates)) f.more f.done)))
 runs_are_due home x fates (Learned run) = (learns home run x fates).keeps.runs_are
 runs_are_due home x fates (Entered e) =
-    (enters home e (begun x fates) refl (keeps_begun home.desk x fates)).keeps.runs_are
+    (enters home e (begun x fates) refl (keeps_begun x fates)).keeps.runs_are
 runs_are_due home x fates Ticked =
-    (takes home Tick (begun x fates) (keeps_begun home.desk x fates)).keeps.runs_are
+    (takes home Tick (begun x fates) (keeps_begun x fates)).keeps.runs_are
 runs_are_due home x fates (Asked id) = refl
 runs_are_due home x fates (Printed event round position style) = refl
 runs_are_due home x fates Stopped = refl

@@ -13,7 +13,7 @@ use Rattle.replica.specs.declared.roles.fault.NodeFault.{NodeFault}
 use Rattle.replica.specs.declared.roles.fault.NodeFault.TheVariants as fault
 use Rattle.serving.specs.Nodes.{Fate, Goes, Starves, Breaks, by_step, by_fate, reply}
 use Rattle.serving.specs.Serving.{Act, Called, Answered, Service, waiting_after, first_fate}
-use Rattle.serving.specs.Serving.{reply_to, call, to_others, waits, settle_by, settle, take}
+use Rattle.serving.specs.Serving.{reply_to, call, push_all, waits, take}
 use Rattle.serving.specs.Serving.{decided, learn, learn_all, hand_out, answer_out, tell, entered_by}
 use Rattle.serving.specs.Serving.{enter, begun}
 use Rattle.serving.specs.Telling.{run_of}
@@ -26,23 +26,23 @@ use Rattle.hall_laws.proofs.Acts.{pushed_both, runs_both, one_hands_nothing, han
 use Rattle.hall_laws.proofs.Acts.{reply_fits, Quiet, quiet_both, quiet_call, quiet_dropped}
 use Rattle.hall_laws.proofs.Settling.{Keeps, Settled, longer, keeps_call, settles, starts}
 
-pub keeps_begun : (d : ℕ) (x : Seen) (fates : List Fate) → Keeps d 0 [] (begun x fates)
-keeps_begun d x fates = record {
+pub keeps_begun : (x : Seen) (fates : List Fate) → Keeps 0 [] (begun x fates)
+keeps_begun x fates = record {
   lost = [];
   whole = refl;
   while_up = λ u. refl;
   enough = inl (omega arith);
   runs_are = refl;
   quiet = record { after = refl; stays = λ is. absurd cc };
-  in_time = in_time_none d 0 [] refl;
+  in_time = in_time_none 0 [] refl;
 }
 
-pub takes : (home : Home) (event : DeskEvent) (s : Service) → Keeps home.desk 0 [] s
-    → Settled home.desk 0 [] (take home event s)
+pub takes : (home : Home) (event : DeskEvent) (s : Service) → Keeps 0 [] s
+    → Settled 0 [] (take home event s)
 unfolding take
 takes home event s h =
-    starts home 0 [] (length s.seen.desk.log) (settle home (call home event s))
-    (settles home 0 [] (call home event s).left (call home event s)
+    starts home 0 [] (length s.seen.desk.log) (push_all (call home event s))
+    (settles 0 [] (call home event s)
     (keeps_call home 0 [] event s h))
 
 none_after : (why : NodeFault) → waiting_after [] (Err why) ≡ []
@@ -52,16 +52,15 @@ none_after fault.LogFull = refl
 none_after fault.BallotsSpent = refl
 none_after fault.NoMemory = refl
 
-pub enters : (home : Home) (e : Entry) (s : Service) → s.waiting ≡ [] → Keeps home.desk 0 [] s
-    → Settled home.desk 0 [] (enter home e s)
+pub enters : (home : Home) (e : Entry) (s : Service) → s.waiting ≡ [] → Keeps 0 [] s
+    → Settled 0 [] (enter home e s)
 unfolding enter call
 enters home e s none h = go (reply_to home (Submit e) s).result refl
   where
     go : (r : Result (List Message) NodeFault) → (reply_to home (Submit e) s).result ≡ r
-        → Settled home.desk 0 [] (entered_by home r (call home (Submit e) s))
+        → Settled 0 [] (entered_by home r (call home (Submit e) s))
     go (Ok ms) is =
-        settles home 0 [] (call home Start (call home (Submit e) s)).left
-        (call home Start (call home (Submit e) s))
+        settles 0 [] (call home Start (call home (Submit e) s))
         (keeps_call home 0 [] Start (call home (Submit e) s) (keeps_call home 0 [] (Submit e) s h))
     go (Err why) is = record {
       keeps = keeps_call home 0 [] (Submit e) s h;
@@ -100,24 +99,22 @@ no_run_of_none d ms run empty is =
 -- a run takes the place of what waits
 answers : (d : ℕ) (s : Service) (run : DecidedRun) → AllFrom d s.waiting
     → run_of d s.waiting ≡ Some run
-    → Keeps d 0 [] s
-    → Settled d 0 (run ∷ []) (record {
+    → Keeps 0 [] s
+    → Settled 0 (run ∷ []) (record {
       seen = s.seen;
       waiting = [];
-      left = s.left;
       done = s.done ++ Answered run ∷ [];
       fates = s.fates;
     })
 answers d s run ours is k =
     let act : List Act = Answered run ∷ [] in
     let p : List Message = pushed_messages s.done in
-    let pushes : pushed_messages (s.done ++ act) ≡ p ++ to_others d s.waiting =
+    let pushes : pushed_messages (s.done ++ act) ≡ p ++ s.waiting =
     pushed_both s.done act ∙ ap (λ z. p ++ z) (append-nil (said_by run))
     ∙ ap (λ z. p ++ z) (sym (run_says d s.waiting run ours is)) in
-    let all : pushed_messages (s.done ++ act) ++ k.lost ≡ to_others d (handed (s.done ++ act)) =
+    let all : pushed_messages (s.done ++ act) ++ k.lost ≡ (handed (s.done ++ act)) =
     ap (λ z. z ++ k.lost) pushes ∙ k.whole
-    ∙ ap (λ z. to_others d z)
-    (sym (handed_same 0 s.done act (one_hands_nothing (Answered run) refl))) in
+    ∙ (sym (handed_same 0 s.done act (one_hands_nothing (Answered run) refl))) in
     record {
       keeps =
           record {
@@ -131,24 +128,24 @@ answers d s run ours is k =
                 quiet_both s.done act s.seen.is_down s.seen.is_down s.waiting [] k.quiet refl
                 (λ down empty. absurd (no_run_of_none d s.waiting run empty is))
                 (λ down. absurd cc);
-            in_time = in_time_one d 0 s.done (Answered run) k.lost k.in_time all;
+            in_time = in_time_one 0 s.done (Answered run) k.lost k.in_time all;
           };
       none = refl;
     }
 
 -- the runs that are made of what waits
-answers_out : (home : Home) (s : Service) → AllFrom home.desk s.waiting → Keeps home.desk 0 [] s
-    → Settled home.desk 0 (as_list (run_of home.desk s.waiting)) (answer_out home s)
+answers_out : (home : Home) (s : Service) → AllFrom home.desk s.waiting → Keeps 0 [] s
+    → Settled 0 (as_list (run_of home.desk s.waiting)) (answer_out home s)
 unfolding answer_out
 answers_out home s ours k = go (run_of home.desk s.waiting) refl
   where
     go : (o : Option DecidedRun) → run_of home.desk s.waiting ≡ o
-        → Settled home.desk 0 (as_list o) (hand_out home o s)
-    go None is = settles home 0 [] s.left s k
+        → Settled 0 (as_list o) (hand_out o s)
+    go None is = settles 0 [] s k
     go (Some run) is = answers home.desk s run ours is k
 
 pub tells : (home : Home) (m : Message) (x : Seen) (fates : List Fate)
-    → Settled home.desk 0
+    → Settled 0
     (as_list (run_of home.desk (call home (Deliver m) (begun x fates)).waiting))
     (tell home m (begun x fates))
 unfolding tell call
@@ -158,7 +155,7 @@ tells home m x fates =
     starts home 0 (as_list (run_of home.desk first.waiting)) (length x.desk.log)
     (answer_out home first)
     (answers_out home first (delivered_from home x m (first_fate fates))
-    (keeps_call home 0 [] (Deliver m) s (keeps_begun home.desk x fates)))
+    (keeps_call home 0 [] (Deliver m) s (keeps_begun x fates)))
 
 -- ---- a frame of several entries
 
@@ -182,7 +179,7 @@ only_calls_more home event s h =
           (reply_fits home s.seen event (first_fate s.fates)) h.quiet;
     }
 
-only_calls_dropped : (s : Service) → OnlyCalls s → OnlyCalls (waits [] s.left s)
+only_calls_dropped : (s : Service) → OnlyCalls s → OnlyCalls (waits [] s)
 only_calls_dropped s only = record {
   pushes = only.pushes;
   runs = only.runs;
@@ -210,74 +207,73 @@ call_none_at_down home event s none is =
     (reply_fits home s.seen event (first_fate s.fates)) is
 
 -- nothing was pushed, nothing waits, and nothing was handed out after the first n acts
-keeps_nothing : (d n : ℕ) (s : Service) → OnlyCalls s → to_others d s.waiting ≡ []
-    → length s.done ≤ n → ((n ≤ length s.done) ⊎ (s.seen.is_down ≡ true)) → Keeps d n [] s
-keeps_nothing d n s only none short enough =
+keeps_nothing : (n : ℕ) (s : Service) → OnlyCalls s → s.waiting ≡ []
+    → length s.done ≤ n → ((n ≤ length s.done) ⊎ (s.seen.is_down ≡ true)) → Keeps n [] s
+keeps_nothing n s only none short enough =
     let out : handed (drop n s.done) ≡ [] = ap (λ z. handed z) (drop_all n s.done short) in
     record {
       lost = [];
       whole =
-          append-nil (pushed_messages s.done ++ to_others d s.waiting)
-          ∙ ap (λ z. z ++ to_others d s.waiting) only.pushes
+          append-nil (pushed_messages s.done ++ s.waiting)
+          ∙ ap (λ z. z ++ s.waiting) only.pushes
           ∙ none
-          ∙ ap (λ z. to_others d z) (sym out);
+          ∙ (sym out);
       while_up = λ u. refl;
       enough = enough;
       runs_are = only.runs;
       quiet = only.quiet;
-      in_time = in_time_none d n s.done only.pushes;
+      in_time = in_time_none n s.done only.pushes;
     }
 
 learns_on : (home : Home) (n from to pos : ℕ) (e : Entry) (es : List Entry) (s : Service)
     → OnlyCalls s → length s.done + length es ≡ n
-    → Keeps home.desk n [] (learn home from to pos (e ∷ es) s)
+    → Keeps n [] (learn home from to pos (e ∷ es) s)
 unfolding learn
 learns_on home n from to pos e [] s only len =
-    go (call home (decided from to pos e) (waits [] s.left s)).seen.is_down
+    go (call home (decided from to pos e) (waits [] s)).seen.is_down
   where
-    last : Keeps home.desk n [] (call home (decided from to pos e) (waits [] s.left s))
+    last : Keeps n [] (call home (decided from to pos e) (waits [] s))
     last =
-        keeps_call home n [] (decided from to pos e) (waits [] s.left s)
-        (keeps_nothing home.desk n (waits [] s.left s)
+        keeps_call home n [] (decided from to pos e) (waits [] s)
+        (keeps_nothing n (waits [] s)
         (only_calls_dropped s only) refl (omega arith) (inl (omega arith)))
 
     go : (t : Bool)
-        → Keeps home.desk n [] (if t then call home (decided from to pos e) (waits [] s.left s)
+        → Keeps n [] (if t then call home (decided from to pos e) (waits [] s)
         else learn home from to (pos + 1) []
-        (call home (decided from to pos e) (waits [] s.left s)))
+        (call home (decided from to pos e) (waits [] s)))
     go true = last
     go false = last
 learns_on home n from to pos e (f ∷ es) s only len =
-    go (call home (decided from to pos e) (waits [] s.left s)).seen.is_down refl
+    go (call home (decided from to pos e) (waits [] s)).seen.is_down refl
     (λ t. learns_on home n from to (pos + 1) f es t)
   where
-    more : OnlyCalls (call home (decided from to pos e) (waits [] s.left s))
+    more : OnlyCalls (call home (decided from to pos e) (waits [] s))
     more =
-        only_calls_more home (decided from to pos e) (waits [] s.left s)
+        only_calls_more home (decided from to pos e) (waits [] s)
         (only_calls_dropped s only)
 
     go : (t : Bool)
-        → (call home (decided from to pos e) (waits [] s.left s)).seen.is_down ≡ t
+        → (call home (decided from to pos e) (waits [] s)).seen.is_down ≡ t
         → ((t : Service) → OnlyCalls t → length t.done + length es ≡ n
-        → Keeps home.desk n [] (learn home from to (pos + 1) (f ∷ es) t))
-        → Keeps home.desk n [] (if t then call home (decided from to pos e) (waits [] s.left s)
+        → Keeps n [] (learn home from to (pos + 1) (f ∷ es) t))
+        → Keeps n [] (if t then call home (decided from to pos e) (waits [] s)
         else learn home from to (pos + 1) (f ∷ es)
-        (call home (decided from to pos e) (waits [] s.left s)))
+        (call home (decided from to pos e) (waits [] s)))
     go true is ih =
-        let one = call_length home (decided from to pos e) (waits [] s.left s) in
-        keeps_nothing home.desk n (call home (decided from to pos e) (waits [] s.left s)) more
-        (ap (λ z. to_others home.desk z)
-        (call_none_at_down home (decided from to pos e) (waits [] s.left s) refl is))
+        let one = call_length home (decided from to pos e) (waits [] s) in
+        keeps_nothing n (call home (decided from to pos e) (waits [] s)) more
+        ((call_none_at_down home (decided from to pos e) (waits [] s) refl is))
         (omega arith) (inr is)
     go false is ih =
-        let one = call_length home (decided from to pos e) (waits [] s.left s) in
-        ih (call home (decided from to pos e) (waits [] s.left s)) more (omega arith)
+        let one = call_length home (decided from to pos e) (waits [] s) in
+        ih (call home (decided from to pos e) (waits [] s)) more (omega arith)
 
 learns_first : (home : Home) (n from to pos : ℕ) (es : List Entry) (x : Seen) (fates : List Fate)
-    → n ≡ length es - 1 → Keeps home.desk n [] (learn home from to pos es (begun x fates))
+    → n ≡ length es - 1 → Keeps n [] (learn home from to pos es (begun x fates))
 unfolding learn
 learns_first home n from to pos [] x fates is =
-    subst (λ z. Keeps home.desk z [] (begun x fates)) (sym is) (keeps_begun home.desk x fates)
+    subst (λ z. Keeps z [] (begun x fates)) (sym is) (keeps_begun x fates)
 learns_first home n from to pos (e ∷ es) x fates is =
     learns_on home n from to pos e es (begun x fates) (record {
       pushes = refl;
@@ -287,11 +283,11 @@ learns_first home n from to pos (e ∷ es) x fates is =
     (omega arith)
 
 pub learns : (home : Home) (run : DecidedRun) (x : Seen) (fates : List Fate)
-    → Settled home.desk (length run.entries - 1) [] (learn_all home run (begun x fates))
+    → Settled (length run.entries - 1) [] (learn_all home run (begun x fates))
 unfolding learn_all
 learns home run x fates =
     let n : ℕ = length run.entries - 1 in
     let last : Service = learn home run.from run.to run.pos run.entries (begun x fates) in
-    starts home n [] (length x.desk.log) (settle_by home 16 last)
-    (settles home n [] 16 last
+    starts home n [] (length x.desk.log) (push_all last)
+    (settles n [] last
     (learns_first home n run.from run.to run.pos run.entries x fates refl))

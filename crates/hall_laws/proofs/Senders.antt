@@ -24,7 +24,6 @@ use Rattle.proposer.specs.Proposing.{is_ballot_of, on_nack}
 use Rattle.learner.specs.Desks.{Desk, passing}
 use Rattle.learner.specs.Learning.{on_decided, on_behind, told}
 use Rattle.learner.specs.Steps.{on_body}
-use Rattle.serving.specs.Serving.{to_others as for_others}
 use Rattle.serving.specs.Telling.{position_told, decided_at, entry_told, with_entry, entries_told}
 use Rattle.serving.specs.Telling.{run_by, run_from, run_of}
 use Rattle.serving.specs.declared.request.DecidedRun.{DecidedRun}
@@ -169,41 +168,27 @@ all_told d to pos (m ∷ ms) es ours h =
         ih rest q ∙ ap (λ k. told d to k rest) (add-one pos) in
         (λ i. first i ∷ others i) ∙ ap (λ z. told d to pos z) same
 
-told_for_others : (d from to pos : ℕ) (es : List Entry) → (to == d) ≡ false
-    → for_others d (told from to pos es) ≡ told from to pos es
-told_for_others d from to pos [] other = refl
-told_for_others d from to pos (e ∷ es) other =
-    rw other (ap (λ z. message from to (Decided pos e) ∷ z)
-    (told_for_others d from to (suc pos) es other))
-
--- a run of what the desk handed out stands for all of it, and all of it is for another desk
+-- a run of what the desk handed out stands for all of it
 pub run_says : (d : ℕ) (ms : List Message) (run : DecidedRun) → AllFrom d ms
     → run_of d ms ≡ Some run
-    → for_others d ms ≡ said_by run
+    → ms ≡ said_by run
 unfolding run_of
 run_says d [] run ours h = absurd cc
-run_says d (m ∷ ms) run ours h = go (m.to == d) (nat_lt 16 (length (m ∷ ms))) refl h
+run_says d (m ∷ ms) run ours h = go ((m.to == d) || nat_lt 16 (length (m ∷ ms))) h
   where
-    by : (pos : ℕ) (o : Option (List Entry)) → (m.to == d) ≡ false
-        → entries_told m.to pos (m ∷ ms) ≡ o → run_by m pos o ≡ Some run
-        → for_others d (m ∷ ms) ≡ said_by run
-    by pos None other is k = absurd cc
-    by pos (Some es) other is k =
+    by : (pos : ℕ) (o : Option (List Entry)) → entries_told m.to pos (m ∷ ms) ≡ o
+        → run_by m pos o ≡ Some run → m ∷ ms ≡ said_by run
+    by pos None is k = absurd cc
+    by pos (Some es) is k =
         let made : record { from = m.from; to = m.to; pos = pos; entries = es } ≡ run = cc in
         let all : m ∷ ms ≡ told d m.to pos es = all_told d m.to pos (m ∷ ms) es ours is in
-        let sender : told d m.to pos es ≡ told m.from m.to pos es =
-        ap (λ z. told z m.to pos es) (sym ours.0) in
-        ap (λ z. for_others d z) (all ∙ sender) ∙ told_for_others d m.from m.to pos es other
-        ∙ ap (λ z. said_by z) made
+        all ∙ ap (λ z. told z m.to pos es) (sym ours.0) ∙ ap (λ z. said_by z) made
 
-    from : (o : Option ℕ) → (m.to == d) ≡ false → run_from m ms o ≡ Some run
-        → for_others d (m ∷ ms) ≡ said_by run
-    from None other k = absurd cc
-    from (Some pos) other k = by pos (entries_told m.to pos (m ∷ ms)) other refl k
+    from : (o : Option ℕ) → run_from m ms o ≡ Some run → m ∷ ms ≡ said_by run
+    from None k = absurd cc
+    from (Some pos) k = by pos (entries_told m.to pos (m ∷ ms)) refl k
 
-    go : (s t : Bool) → (m.to == d) ≡ s
-        → (if s || t then None else run_from m ms (position_told m.body)) ≡ Some run
-        → for_others d (m ∷ ms) ≡ said_by run
-    go true t is k = absurd cc
-    go false true is k = absurd cc
-    go false false is k = from (position_told m.body) is k
+    go : (s : Bool) → (if s then None else run_from m ms (position_told m.body)) ≡ Some run
+        → m ∷ ms ≡ said_by run
+    go true k = absurd cc
+    go false k = from (position_told m.body) k

@@ -19,7 +19,6 @@ use Rattle.replica.specs.Nodes.{NodeValue}
 use Rattle.replica.specs.Opens.{Opens}
 use Rattle.replica.specs.Stores.{HoldsDesk, HoldsStep}
 use Rattle.serving.specs.Adding.{Push}
-use Rattle.serving.specs.Answering.{style_of}
 use Rattle.serving.specs.Asking.{request}
 use Rattle.serving.specs.Connection.{asked, Begun, Sides, DoesFront, answer_bytes, answer_frame}
 use Rattle.serving.specs.Connection.{serve_frame}
@@ -35,7 +34,7 @@ use Rattle.store.specs.declared.home.Home.{Home}
 use Rattle.store.specs.declared.keeper.Keeper.{Ghosts}
 use Rattle.wire.specs.declared.frame.Frame.{Frame}
 use Rattle.wire.specs.declared.frame.FrameBody.TheVariants as what
-use Rattle.wire.specs.declared.values.SheetStyle.{SheetStyle as Style}
+use Rattle.formats.specs.declared.styles.SheetStyle.{SheetStyle as Style}
 use Rattle.wire.specs.declared.values.Version.{Version}
 use Rattle.hall_laws.specs.Arriving.{delivers}
 use Rattle.hall_laws.specs.OwnMessages.{WereSentTo, sent_after}
@@ -415,7 +414,7 @@ pub record AnswersSheet {K : Type 0} (k : Ghosts K) (h : Hall K) (steps : List (
 abbrev pub IsSheetOf : List Entry → SheetAsked → List ℕ → Type 0
 IsSheetOf log sheet text =
     (sheet.position ≤ length log)
-    × (sheet_at (style_of sheet.style) log sheet.position sheet.event sheet.round ≡ Some text)
+    × (sheet_at sheet.style log sheet.position sheet.event sheet.round ≡ Some text)
 
 -- a sheet that any desk answers on any connection is the Regulations' sheet of its log then
 abbrev pub HallSheetsAreOfLogs : {K : Type 0} → Ghosts K → Type 0

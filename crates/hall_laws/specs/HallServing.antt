@@ -6,7 +6,7 @@ use Rattle.acceptor.specs.declared.entry.Entry.{Entry}
 use Rattle.acceptor.specs.declared.message.Message.{Message}
 use Rattle.learner.specs.Chosen.{Has, IsMajority}
 use Rattle.learner.specs.Worlds.{nth_sent}
-use Rattle.progress.specs.Progress.{IsAmong, StandFrom}
+use Rattle.progress.specs.Progress.{IsAmong, StandFrom, enough}
 use Rattle.progress.specs.Turns.{HasTurnRoom}
 use Rattle.serving.specs.Asking.{request}
 use Rattle.serving.specs.Serving.{framed}
@@ -44,14 +44,14 @@ events_of_message k h number (Some m) =
     comes_over m.to number (frame_of k h m) (acts_for k x (asked_of k x (frame_of k h m)))
 
 -- The events that make up the turn: with a Tick or a message comes all that the desk does for it,
--- including what it delivers to itself and a Start.
+-- including a Start. A message of a desk to itself comes in a turn too, over a connection.
 abbrev pub events_of_turn : {K : Type 0} → Ghosts K → ℕ → Hall K → OwnTurn → List HallEvent
 events_of_turn k d h DeskTicks = ticked k d (h.desks d) ∷ []
 events_of_turn k d h (MessageComes number at) =
     events_of_message k h number (nth_sent h.sent at)
 
--- a message is from one of these desks to another of them, and was handed out after the first
--- `start` messages
+-- a message is from one of these desks to one of them, and was handed out after the first `start`
+-- messages
 abbrev pub IsOwn : {K : Type 0} → List ℕ → ℕ → Hall K → OwnTurn → Type 0
 IsOwn desks start h DeskTicks = Unit {0}
 IsOwn desks start h (MessageComes number at) =
@@ -105,11 +105,12 @@ pub record CanServe {K : Type 0} (k : Ghosts K) (n d : ℕ) (desks : List ℕ) (
 
 -- ---- the law
 
--- the run continues with such turns alone, until these entries are in desk d's log, past what is
--- there now and in their order, and these are left in its queue
+-- the run continues with such turns alone, and no more of them than that, until these entries are in
+-- desk d's log, past what is there now and in their order, and these are left in its queue
 pub record HallDecides {K : Type 0} (k : Ghosts K) (n d : ℕ) (desks : List ℕ) (h : Hall K)
     (steps : List (HallStep K)) (es rest : List Entry) : Type 0 where
   pub turns : List OwnTurn
+  pub few : length turns ≤ enough (world_of (hall_after h steps)) desks (length es)
   pub more : List (HallStep K)
   pub run : IsHallRun k n h (steps ++ more)
   pub own : AreOwnTurns k d desks (length (hall_after h steps).sent) h steps turns more
@@ -117,14 +118,14 @@ pub record HallDecides {K : Type 0} (k : Ghosts K) (n d : ℕ) (desks : List ℕ
       ((hall_after h (steps ++ more)).desks d).node.desk.log
   pub queue : ((hall_after h (steps ++ more)).desks d).node.desk.queue ≡ rest
 
--- After every run of a hall of two desks or more, a majority of its desks decides by itself the
--- first entries that a desk of it has queued, as many as there is room for.
+-- After every run of a hall, a majority of its desks decides by itself the first entries that a desk
+-- of it has queued, as many as there is room for.
 abbrev pub ServingDecides : {K : Type 0} → Ghosts K → Type 0
 ServingDecides {K} k =
     (n : ℕ) (h : Hall K) (steps : List (HallStep K)) (d : ℕ) (desks : List ℕ)
     (es rest : List Entry)
-    → IsHallRun k n h steps → 2 ≤ n → IsMajority n desks → Has desks d
+    → IsHallRun k n h steps → IsMajority n desks → Has desks d
     → ((hall_after h steps).desks d).node.desk.queue ≡ es ++ rest
-    → HasTurnRoom desks (world_of (hall_after h steps)) (length es)
+    → HasTurnRoom d desks (world_of (hall_after h steps)) (length es)
     → CanServe k n d desks h steps
     → HallDecides k n d desks h steps es rest

@@ -1,6 +1,6 @@
--- What a desk is given while it serves was sent. The premise is of the network alone: of what the
--- frames bring. That a desk delivers to itself nothing but what its own calls handed out to it is
--- no premise: it is proved.
+-- What a desk is given while it serves was sent. The premise is of what the frames bring: those of
+-- other desks over the network, and those that a desk has pushed to itself, over a connection of its
+-- own.
 use Rattle.std.specs.Prelude.{◌≡◌, ℕ, List, [], ◌∷◌, ◌++◌}
 use Rattle.acceptor.specs.declared.message.Message.{Message}
 use Rattle.learner.specs.declared.event.DeskEvent.{DeskEvent}
@@ -24,9 +24,9 @@ abbrev pub WereSentTo : ℕ → List Message → List DeskEvent → Type 0
 WereSentTo d sent [] = Unit {0}
 WereSentTo d sent (e ∷ es) = IsSentTo d sent e × WereSentTo d sent es
 
--- If the messages that one request brings from the network were sent to this desk, then so was each
--- message that is delivered in the calls of serving it: before these calls, or by an earlier one of
--- them. This holds whatever is seen of the desk, and whatever its calls come to.
+-- If the messages that one request brings were sent to this desk, then so was each message that is
+-- delivered in the calls of serving it: no other message is. This holds whatever is seen of the
+-- desk, and whatever its calls come to.
 abbrev pub OwnMessagesWereSent : Type 0
 OwnMessagesWereSent =
     (home : Home) (x : Seen) (fates : List Fate) (r : Request) (sent : List Message)

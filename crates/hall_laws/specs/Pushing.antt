@@ -1,5 +1,5 @@
--- What is pushed to other desks while a request is served, said of what the calls hand out and not
--- of the order in which serving does things (the project's own).
+-- What is pushed while a request is served, said of what the calls hand out and not of the order in
+-- which serving does things (the project's own).
 use Rattle.std.specs.Prelude.{◌≡◌, ℕ, ◌-◌, Bool, true, false, if◌then◌else◌, List, [], ◌∷◌, ◌++◌}
 use Rattle.std.specs.Prelude.{length, map, take, drop, Option, None, Some, Result, Ok, Err}
 use Rattle.acceptor.specs.declared.message.Message.{Message}
@@ -13,7 +13,7 @@ use Rattle.replica.specs.declared.roles.fault.NodeFault.{NodeFault}
 use Rattle.replica.specs.declared.roles.fault.NodeFault.TheVariants as fault
 use Rattle.serving.specs.Making.{calls_of}
 use Rattle.serving.specs.Nodes.{Fate}
-use Rattle.serving.specs.Serving.{Act, Called, Pushed, Answered, Service, served, to_others}
+use Rattle.serving.specs.Serving.{Act, Called, Pushed, Answered, Service, served}
 use Rattle.serving.specs.Telling.{run_of}
 use Rattle.serving.specs.declared.request.Request.{Request}
 use Rattle.serving.specs.declared.request.Request.TheVariants.{Heard, Lagging, Learned, Entered}
@@ -84,26 +84,26 @@ left_out Ignored = 0
 left_out Denied = 0
 left_out Withheld = 0
 
--- what is to be pushed: all that the calls hand out for other desks, in order, but for what is left
--- out
-abbrev pub due : Home → Request → List Act → List Message
-due home r acts = to_others home.desk (handed (drop (left_out r) acts))
+-- what is to be pushed: all that the calls hand out, to other desks and to the desk itself, in order,
+-- but for what is left out
+abbrev pub due : Request → List Act → List Message
+due r acts = handed (drop (left_out r) acts)
 
 -- While the desk is up, exactly what is due is pushed: each message once, in the order in which it
 -- was handed out, and nothing else. At any moment, whether or not the desk goes down, what was
 -- pushed is a front part of what was due by then: no message is pushed before the call that hands
 -- it out. Where the desk has gone down, what still waited is dropped: nothing is pushed after the
 -- call that said so.
-pub record ArePushed (home : Home) (r : Request) (s : Service) : Type 0 where
-  pub while_up : s.seen.is_down ≡ false → pushed_messages s.done ≡ due home r s.done
+pub record ArePushed (r : Request) (s : Service) : Type 0 where
+  pub while_up : s.seen.is_down ≡ false → pushed_messages s.done ≡ due r s.done
   pub so_far : (k : ℕ) → (rest : List Message)
-      × (pushed_messages (take k s.done) ++ rest ≡ due home r (take k s.done))
+      × (pushed_messages (take k s.done) ++ rest ≡ due r (take k s.done))
   pub none_after : pushed_messages (after_down s.done) ≡ []
 
 abbrev pub MessagesArePushed : Type 0
 MessagesArePushed =
     (home : Home) (x : Seen) (fates : List Fate) (r : Request)
-    → ArePushed home r (served home x fates r)
+    → ArePushed r (served home x fates r)
 
 -- ---- which of it as a run
 

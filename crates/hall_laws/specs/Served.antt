@@ -11,7 +11,6 @@ use Rattle.learner.specs.Worlds.{World, nth_sent}
 use Rattle.replica.specs.Handles.{Handles}
 use Rattle.replica.specs.Nodes.{NodeValue}
 use Rattle.hall_laws.specs.Stops.{Happening, real_run, with_desk}
-use Rattle.serving.specs.Answering.{style_of}
 use Rattle.serving.specs.Making.{Call, Lead}
 use Rattle.answers.specs.Seen.{Seen}
 use Rattle.serving.specs.Nodes.{Fate}
@@ -20,7 +19,7 @@ use Rattle.serving.specs.declared.request.Request.TheVariants.{Printed}
 use Rattle.store.specs.declared.home.Home.{Home}
 use Rattle.store.specs.declared.keeper.Keeper.{Ghosts}
 use Rattle.wire.specs.declared.frame.FrameBody.TheVariants as what
-use Rattle.wire.specs.declared.values.SheetStyle.{SheetStyle as Style}
+use Rattle.formats.specs.declared.styles.SheetStyle.{SheetStyle as Style}
 use Rattle.answers.specs.Answers.{sheet_at}
 use Rattle.replica.specs.declared.roles.fault.NodeFault.{NodeFault}
 
@@ -72,4 +71,4 @@ SheetsAreOfTheLog =
     (style : Style) (text : List ℕ)
     → answer home x fates (Printed event round position style) ≡ Some (what.SheetText text)
     → (position ≤ length x.desk.log)
-    × (sheet_at (style_of style) x.desk.log position event round ≡ Some text)
+    × (sheet_at style x.desk.log position event round ≡ Some text)

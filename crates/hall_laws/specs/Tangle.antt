@@ -34,26 +34,26 @@ submit d id =
 
 -- ---- what the desks know at last
 
--- It gathers promises for a ballot that is lower than the rival's, and has its own.
+-- It gathers promises for a ballot that is lower than the rival's, and has none.
 abbrev pub restarted_desk : Desk
 restarted_desk = record {
-  stored = record { promised = ballot 2 1; vote = None; tried = 2 };
+  stored = record { promised = ballot 0 0; vote = None; tried = 2 };
   log = [];
-  role = Gathering (ballot 2 1) 0 (record { desk = 1; vote = None } ∷ []);
+  role = Gathering (ballot 2 1) 0 [];
   queue = entry 9 ∷ [];
   seen = 0;
 }
 
 abbrev pub rival_desk : Desk
 rival_desk = record {
-  stored = record { promised = ballot 2 2; vote = None; tried = 2 };
+  stored = record { promised = ballot 1 3; vote = None; tried = 2 };
   log = [];
-  role = Gathering (ballot 2 2) 0 (record { desk = 2; vote = None } ∷ []);
+  role = Gathering (ballot 2 2) 0 [];
   queue = entry 8 ∷ [];
   seen = 0;
 }
 
--- It asks for votes for its ballot still, and has promised the rival's.
+-- It asks for votes for its ballot still, has promised the rival's, and has an old vote.
 abbrev pub outbid_desk : Desk
 outbid_desk = record {
   stored = record {
@@ -62,7 +62,7 @@ outbid_desk = record {
     tried = 1;
   };
   log = [];
-  role = Proposing (ballot 1 3) 0 (entry 7) (3 ∷ []);
+  role = Proposing (ballot 1 3) 0 (entry 7) [];
   queue = entry 7 ∷ [];
   seen = 0;
 }
@@ -96,6 +96,6 @@ pub record TangleIsDecided : Type 0 where
   pub past : List WorldEvent
   pub comes : ComesTo 3 past (hall_after first_hall steps)
   pub can : CanDecide 3 1 these (after 3 past) (entry 9 ∷ []) []
-  pub turn_room : HasTurnRoom these (world_of (hall_after first_hall steps)) 1
+  pub turn_room : HasTurnRoom 1 these (world_of (hall_after first_hall steps)) 1
   pub serves : CanServe memory 3 1 these first_hall steps
   pub decides : HallDecides memory 3 1 these first_hall steps (entry 9 ∷ []) []

@@ -31,8 +31,8 @@ use store::keeper::Keeper;
 ///
 /// `IsHallRun` of `specs/HallRuns` says what such a run is. Two premises are in it, each at its
 /// event: a message that a frame brings was handed out before, by a call of a desk of the hall; and
-/// a store that is opened again gives back what was written to it. That a desk delivers to itself
-/// only what was sent is proved.
+/// a store that is opened again gives back what was written to it. What a desk says to itself comes
+/// to it so too: in a frame, over a connection of its own.
 pub fn halls_are_runs<K: Keeper>()
     ensures run { HallsAreRuns K.Keeper }
     ensures logs_agree { HallLogsAgree K.Keeper }
@@ -66,8 +66,8 @@ pub fn halls_are_runs<K: Keeper>()
 /// that majority, where logs and ballot numbers have room.
 ///
 /// The law is about steps of the protocol, each one event at a desk, and not about turns: while a
-/// desk serves, it delivers what it says to itself at once, and gives itself a Start.
-/// `majorities_decide` is the law about turns.
+/// desk serves, it gives itself a Start where its log has grown. `majorities_decide` is the law
+/// about turns.
 pub fn halls_are_not_stuck<K: Keeper>()
     ensures { HallsAreNotStuck K.Keeper }
 {

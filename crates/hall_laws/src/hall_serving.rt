@@ -7,12 +7,12 @@ use crate::stops::{calls_are_happenings, stops_make_a_run};
 use progress::laws::{no_desk_is_stuck, no_serving_desk_is_stuck};
 use store::keeper::Keeper;
 
-/// No desk that serves is stuck. After every run of a hall of two desks or more, whatever was lost
-/// in it, a majority of the desks decides by itself what a desk of it has queued, in the queue's
-/// order: the run continues with Ticks of that desk, and with messages that desks of the majority
-/// hand out to each other from then on, each of which comes in a frame over a connection of its
-/// own. With each Tick and each message comes all that serving does for it: what the desk delivers
-/// to itself, 16 messages at most, and a Start where its log has grown.
+/// No desk that serves is stuck. After every run of a hall, whatever was lost in it, a majority of
+/// the desks decides by itself what a desk of it has queued, in the queue's order: the run continues
+/// with Ticks of that desk, and with messages that desks of the majority hand out to each other and
+/// to themselves from then on, each of which comes in a frame over a connection of its own. With
+/// each Tick and each message comes all that serving does for it: a Start where its log has grown.
+/// There are no more of these turns than `progress::laws::no_desk_is_stuck` allows events.
 ///
 /// The desks of the majority are up, their memory and their stores do what they are asked, and what
 /// they hand out to each other is in the ranges of its frame. Their logs have room for two entries
@@ -32,7 +32,7 @@ pub fn majorities_decide<K: Keeper>()
 /// three desks over keepers that never fail. Desk 1 stopped inside a save while it gathered
 /// promises, was opened again, which lost its queue, and was given its entry again. Desk 2 has a
 /// higher ballot. Desk 3 has promised that one, asks for votes for its own, and has an old vote for
-/// an entry that is not decided. Of what they said three messages came, and all others are lost. So
+/// an entry that is not decided. Of what they said six messages came, and all others are lost. So
 /// desks 1 and 3 decide desk 1's entry.
 pub fn a_tangle_is_decided()
     ensures { TangleIsDecided }

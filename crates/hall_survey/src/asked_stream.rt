@@ -9,10 +9,10 @@ use std::random::RandomSource;
 
 /// A connection to a desk that is asked how it is.
 #[derive(Drop)]
-pub struct AskedStream<'a, R> {
+pub struct AskedStream<'a, R: Net + RandomSource> {
     /// The number of the desk, 1 to 5.
     pub desk: u8,
-    pub stream: DeskStream<'a, R>,
+    pub stream: &'a mut DeskStream<'a, R>,
     /// What was wrong with the desk's key when something was said of it last.
     pub told: Option<CallTrouble>,
 }
@@ -34,7 +34,7 @@ fn say<F: Write>(faults: &mut F, program: &str, desk: u8, trouble: CallTrouble) 
 
 impl<'a, R: Net + RandomSource> AskedStream<'a, R> {
     /// A connection to the desk with this number, of which nothing was said.
-    pub fn new(desk: u8, stream: DeskStream<'a, R>) -> AskedStream<'a, R>
+    pub fn new(desk: u8, stream: &'a mut DeskStream<'a, R>) -> AskedStream<'a, R>
         ensures desk { result.desk ≡ desk }
         ensures stream { result.stream ≡ stream.entry }
         ensures told { result.told ≡ None }
@@ -52,7 +52,7 @@ impl<'a, R: Net + RandomSource> AskedStream<'a, R> {
     pub fn tell<F: Write>(&mut self, faults: &mut F, program: &str)
         ensures desk { self.new.desk ≡ self.old.desk }
         ensures stream { self.new.stream ≡ self.old.stream }
-        ensures told { self.new.told ≡ self.old.stream.trouble }
+        ensures told { self.new.told ≡ self.old.stream.now.trouble }
     {
         let trouble = self.stream.trouble();
         if trouble == self.told {

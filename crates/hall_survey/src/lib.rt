@@ -10,5 +10,5 @@ mod telling;
 
 pub use asked_stream::AskedStream;
 pub use hall_desks::HallDesks;
-pub use streams::{AskedDesks, Hall, count_desks, lent_stream};
+pub use streams::{AskedDesks, Hall, asked_desks, count_desks, lent_stream};
 pub use telling::tell_difference;

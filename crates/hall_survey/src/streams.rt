@@ -7,10 +7,10 @@ ghost use Rattle.wire.specs.Ranges.{IsDesk};
 
 use crate::asked_stream::AskedStream;
 use crate::hall_desks::HallDesks;
-use desk_sockets::DeskStream;
+use desk_sockets::{DeskStream, DialogueStream};
 use mio::Registry;
-use page_sockets::{BrowserSockets, own_token, registry_of};
-use pages::Browsers;
+use pages::TcpBrowsers;
+use polled::sockets::TcpConnector;
 use std::alloc::{AllocError, Global};
 use std::io;
 use std::net::{Net, SocketAddr};
@@ -33,10 +33,10 @@ pub struct Hall<'a> {
 
 /// The desks of a hall that are asked how they are, and a connection to each of them.
 #[derive(Drop)]
-pub struct AskedDesks<'a, R> {
+pub struct AskedDesks<'a, R: Net + RandomSource> {
     pub desks: HallDesks,
     /// In the order of the desks.
-    pub streams: &'a mut Vec<AskedStream<'a, R>>,
+    pub streams: Vec<AskedStream<'a, R>>,
 }
 
 /// An address as it is printed.
@@ -64,22 +64,22 @@ pub fn count_desks(addresses: &[Option<SocketAddr>]) -> u8
     }
 }
 
-/// A connection to one of the desks at these addresses, under the hall's key, if it has one.
-/// Nothing is connected yet.
-fn stream_to<'a, R: Net + RandomSource>(
+/// A connection to one desk of this hall after the other, under the hall's key, if it has one. Its
+/// socket has this number. Nothing is connected yet.
+fn lent<'a, R: Net + RandomSource + Clock + Drop>(
     rt: &'a R,
     alloc: Global,
     registry: &Registry,
     number: u8,
-    addresses: &[Option<SocketAddr>],
-    key: Option<[u8; 32]>,
-) -> io::Result<DeskStream<'a, R>>
-    ensures { IfOk result (λ s. s ≡ fresh_stream key) }
+    hall: Hall<'_>,
+) -> io::Result<&'a mut DeskStream<'a, R>>
+    ensures { IfOk result (λ s. s.now ≡ fresh_stream hall.entry.key) }
 {
-    let copy = Vec::from_slice(alloc, addresses)?;
-    let registry = registry.try_clone()?;
-    let token = own_token(number);
-    Ok(DeskStream::new(rt, alloc, registry, token, copy, key))
+    let copy = Vec::from_slice(alloc, hall.addresses)?;
+    let connector = TcpConnector::new(rt, registry.try_clone()?);
+    let stream = DialogueStream::new(connector, alloc, number, copy, hall.key);
+    let kept = Box::new(alloc, stream)?;
+    Ok(Box::leak(kept))
 }
 
 impl<'a, R: Net + RandomSource + Clock + Drop> AskedDesks<'a, R> {
@@ -98,32 +98,31 @@ impl<'a, R: Net + RandomSource + Clock + Drop> AskedDesks<'a, R> {
             return Ok(());
         };
         let number = FIRST_SOCKET.saturating_add(desk);
-        let stream = stream_to(rt, alloc, registry, number, hall.addresses, hall.key)?;
+        let stream = lent(rt, alloc, registry, number, hall)?;
         self.desks.add(desk, printed(alloc, address)?)?;
         self.streams.push(AskedStream::new(desk, stream))?;
         Ok(())
     }
+}
 
-    /// The desks of a hall whose addresses are known, at most five, over the poll of these
-    /// browsers. Nothing is connected yet. The socket of desk 1 is the program's own with the
-    /// number 11, and so on.
-    pub fn new(
-        rt: &'a R,
-        alloc: Global,
-        browsers: &Browsers<BrowserSockets<'a, R>>,
-        hall: Hall<'_>,
-    ) -> io::Result<AskedDesks<'a, R>> {
-        let registry = registry_of(browsers)?;
-        let streams = Box::new(alloc, Vec::new(alloc))?;
-        let mut asked = AskedDesks {
-            desks: HallDesks::new(alloc, hall.number),
-            streams: Box::leak(streams),
-        };
-        for desk in 1..=5_u8 {
-            asked.add(rt, alloc, &registry, desk, hall)?;
-        }
-        Ok(asked)
+/// The desks of a hall whose addresses are known, at most five, over the poll of these browsers.
+/// Nothing is connected yet. The socket of desk 1 is the program's own with the number 11, and so
+/// on.
+pub fn asked_desks<'a, R: Net + RandomSource + Clock + Drop>(
+    rt: &'a R,
+    alloc: Global,
+    browsers: &TcpBrowsers<'a, R>,
+    hall: Hall<'_>,
+) -> io::Result<AskedDesks<'a, R>> {
+    let registry = browsers.sockets().registry()?;
+    let mut asked = AskedDesks {
+        desks: HallDesks::new(alloc, hall.number),
+        streams: Vec::new(alloc),
+    };
+    for desk in 1..=5_u8 {
+        asked.add(rt, alloc, &registry, desk, hall)?;
     }
+    Ok(asked)
 }
 
 /// A connection to one desk of a hall after the other, over the poll of these browsers: the socket
@@ -131,14 +130,12 @@ impl<'a, R: Net + RandomSource + Clock + Drop> AskedDesks<'a, R> {
 pub fn lent_stream<'a, R: Net + RandomSource + Clock + Drop>(
     rt: &'a R,
     alloc: Global,
-    browsers: &Browsers<BrowserSockets<'a, R>>,
+    browsers: &TcpBrowsers<'a, R>,
     number: u8,
     hall: Hall<'_>,
 ) -> io::Result<&'a mut DeskStream<'a, R>>
     ensures { IfOk result (λ s. s.now ≡ fresh_stream hall.entry.key) }
 {
-    let registry = registry_of(browsers)?;
-    let stream = stream_to(rt, alloc, &registry, number, hall.addresses, hall.key)?;
-    let kept = Box::new(alloc, stream)?;
-    Ok(Box::leak(kept))
+    let registry = browsers.sockets().registry()?;
+    lent(rt, alloc, &registry, number, hall)
 }

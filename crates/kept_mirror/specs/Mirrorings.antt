@@ -14,7 +14,7 @@ use Rattle.log_follower.specs.declared.stages.FollowStage.TheVariants as stage
 use Rattle.log_follower.specs.declared.stages.FollowAction.TheVariants as action
 use Rattle.mirror.specs.Fronts.{TakesAs}
 use Rattle.mirror.specs.declared.mirror.MirrorGrowth.{MirrorGrowth}
-use Rattle.mirror.specs.declared.mirror.MirrorGrowth.TheVariants.{Grew, Known, Gap, Differs}
+use Rattle.mirror.specs.declared.mirror.MirrorGrowth.TheVariants.{Grew}
 use Rattle.wire.specs.Ranges.{IsId}
 use Rattle.wire.specs.Stream.{holding}
 use Rattle.wire.specs.declared.frame.Frame.{Frame}
@@ -79,9 +79,7 @@ abbrev pub Asks : DialogueAction → MirroringOf → MirroringOf → Type 0
 Asks wish.Write old new =
     (t : ExchangeOf) × (old.talking ≡ Some t) × (new ≡ asked old t)
 Asks wish.Close old new = new ≡ lost old
-Asks wish.Rest old new = ⊥
-Asks (wish.Open desk) old new = ⊥
-Asks wish.Stop old new = ⊥
+Asks _ old new = ⊥
 
 -- what comes of what the follower says, once it counts as begun
 abbrev pub ActsBy : FollowAction → DialogueAction → MirroringOf → MirroringOf → Type 0
@@ -127,9 +125,7 @@ sent_by m count = with_talk m (option_map (λ t. sending t count) m.talking)
 abbrev pub is_growth : Option MirrorGrowth → Bool
 is_growth None = true
 is_growth (Some Grew) = true
-is_growth (Some Known) = false
-is_growth (Some Gap) = false
-is_growth (Some (Differs position)) = false
+is_growth _ = false
 
 -- entries from a position on end where a log may end
 abbrev pub is_within : ℕ → List Entry → Bool

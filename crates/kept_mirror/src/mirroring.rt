@@ -2,10 +2,10 @@
 
 ghost use Rattle.std.specs.Prelude.{◌≡◌, ◌≤◌, ◌+◌, false, IfOk, List, length};
 ghost use Rattle.log_follower.specs.Following.{IsPlace, wait_of};
-ghost use Rattle.kept_mirror.specs.Mirrorings.{Acts, Asks, Fails, Follows, FollowsAnswer, Grows};
-ghost use Rattle.kept_mirror.specs.Mirrorings.{HearsDesk, Opens, after_told, awaiting};
+ghost use Rattle.kept_mirror.specs.Mirrorings.{Asks, Fails, Follows, FollowsAnswer, Grows};
+ghost use Rattle.kept_mirror.specs.Mirrorings.{after_told, awaiting};
 ghost use Rattle.kept_mirror.specs.Mirrorings.{hurried, is_growth, is_within, lost};
-ghost use Rattle.kept_mirror.specs.Mirrorings.{new_mirroring, question_by, sent_by, unsent_by};
+ghost use Rattle.kept_mirror.specs.Mirrorings.{new_mirroring, question_by, unsent_by};
 ghost use Rattle.desk_talks.specs.declared.dialogue.ReceiveOutcome.TheVariants as came;
 ghost use Rattle.wire.specs.Ranges.{IsFrame, IsId};
 
@@ -106,26 +106,6 @@ impl Mirroring {
         self.follower.wait(now)
     }
 
-    /// What is to be done now, at this many milliseconds of a clock that doesn't go back. It counts
-    /// as begun.
-    pub fn act(&mut self, now: u64) -> DialogueAction
-        ensures { Acts result now self.old self.new }
-    {
-        match self.follower.act(now) {
-            FollowAction::Rest => DialogueAction::Rest,
-            FollowAction::Open { desk } => DialogueAction::Open { desk },
-            FollowAction::Ask { .. } => self.ask(),
-            FollowAction::Close { .. } => {
-                self.talk = None;
-                DialogueAction::Close
-            }
-            FollowAction::Stop => {
-                self.talk = None;
-                DialogueAction::Stop
-            }
-        }
-    }
-
     /// What the desk that is followed is asked: for a command, or for its log from the mirror's
     /// last entry on: if the desk has another one there, that is noticed.
     fn question(&self) -> Frame
@@ -154,63 +134,6 @@ impl Mirroring {
         }
         self.lost();
         DialogueAction::Close
-    }
-
-    /// Says that the connection that was being opened is open. Where memory is refused, it counts
-    /// as lost, and the answer is false: it is to be closed.
-    pub fn opened(&mut self) -> bool
-        ensures { Opens result self.old self.new }
-    {
-        match Exchange::new(self.alloc) {
-            Ok(talk) => {
-                self.talk = Some(talk);
-                self.follower.opened();
-                true
-            }
-            Err(_) => {
-                self.lost();
-                false
-            }
-        }
-    }
-
-    /// Says that the connection is lost: it couldn't be opened, it failed, or the desk ended it.
-    pub fn lost(&mut self)
-        ensures { self.new ≡ lost self.old }
-    {
-        self.talk = None;
-        self.awaits = None;
-        self.follower.lost();
-    }
-
-    /// What is to be written now.
-    pub fn output(&self) -> &[u8]
-        ensures { result.now ≡ unsent_by self.now.talking }
-    {
-        match &self.talk {
-            Some(talk) => talk.output(),
-            None => &[],
-        }
-    }
-
-    /// Says that this many bytes of the output were written.
-    pub fn sent(&mut self, count: usize)
-        ensures { self.new ≡ sent_by self.old count }
-    {
-        if let Some(talk) = &mut self.talk {
-            talk.sent(count);
-        }
-    }
-
-    /// Takes bytes that came from the desk over the connection.
-    pub fn hear(&mut self, now: u64, piece: &[u8]) -> ReceiveOutcome
-        ensures { HearsDesk result now piece.now self.old self.new }
-    {
-        let Some(talk) = &mut self.talk else {
-            return ReceiveOutcome::Nothing;
-        };
-        let heard = talk.hear(piece);
-        self.follow(now, heard)
     }
 
     /// Counts the connection as lost, since what came over it is no answer.
@@ -314,7 +237,19 @@ impl Dialogue for Mirroring {
     ghost leads = { DialogueLeads };
 
     fn act(&mut self, now: u64) -> DialogueAction {
-        self.act(now)
+        match self.follower.act(now) {
+            FollowAction::Rest => DialogueAction::Rest,
+            FollowAction::Open { desk } => DialogueAction::Open { desk },
+            FollowAction::Ask { .. } => self.ask(),
+            FollowAction::Close { .. } => {
+                self.talk = None;
+                DialogueAction::Close
+            }
+            FollowAction::Stop => {
+                self.talk = None;
+                DialogueAction::Stop
+            }
+        }
     }
 
     fn is_opening(&self) -> bool
@@ -324,24 +259,47 @@ impl Dialogue for Mirroring {
     }
 
     fn opened(&mut self) -> bool {
-        self.opened()
+        match Exchange::new(self.alloc) {
+            Ok(talk) => {
+                self.talk = Some(talk);
+                self.follower.opened();
+                true
+            }
+            Err(_) => {
+                self.lost();
+                false
+            }
+        }
     }
 
-    fn lost(&mut self) {
-        self.lost();
+    fn lost(&mut self)
+        ensures { self.new ≡ lost self.old }
+    {
+        self.talk = None;
+        self.awaits = None;
+        self.follower.lost();
     }
 
     fn output(&self) -> &[u8]
         ensures { result.now ≡ unsent_by self.now.talking }
     {
-        self.output()
+        match &self.talk {
+            Some(talk) => talk.output(),
+            None => &[],
+        }
     }
 
     fn sent(&mut self, count: usize) {
-        self.sent(count);
+        if let Some(talk) = &mut self.talk {
+            talk.sent(count);
+        }
     }
 
     fn hear(&mut self, now: u64, piece: &[u8]) -> ReceiveOutcome {
-        self.hear(now, piece)
+        let Some(talk) = &mut self.talk else {
+            return ReceiveOutcome::Nothing;
+        };
+        let heard = talk.hear(piece);
+        self.follow(now, heard)
     }
 }

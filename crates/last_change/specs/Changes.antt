@@ -5,7 +5,7 @@ use Rattle.std.specs.Prelude.{Option, None, Some, Result, Ok, Err}
 use Rattle.std.specs.Option.{option_map_or}
 use Rattle.acceptor.specs.declared.entry.Entry.{Entry}
 use Rattle.commands.specs.Accepted.{is_of}
-use Rattle.mirror.specs.Answered.{answer_at}
+use Rattle.answers.specs.Transcripts.{answer_at}
 use Rattle.texts.specs.declared.answer.Answer.{Answer}
 use Rattle.texts.specs.declared.answer.Answer.TheVariants.{Done, Refused}
 use Rattle.texts.specs.declared.command.Command.{Command}

@@ -47,35 +47,20 @@ Leads (Then h t) s = (m : LinkState) × Leads h m × Steps t m s
 abbrev pub pushed : History → List (List ℕ)
 pushed Start = []
 pushed (Then h (Push frame answer)) = pushed h ++ frame ∷ []
-pushed (Then h (Began now)) = pushed h
-pushed (Then h (Opened now)) = pushed h
-pushed (Then h (Sent now bytes)) = pushed h
-pushed (Then h (Failed now)) = pushed h
-pushed (Then h (Ended now)) = pushed h
-pushed (Then h Closed) = pushed h
+pushed (Then h _) = pushed h
 
 -- how many connections were begun: they are numbered from 1
 abbrev pub connections : History → ℕ
 connections Start = 0
-connections (Then h (Push frame answer)) = connections h
 connections (Then h (Began now)) = connections h + 1
-connections (Then h (Opened now)) = connections h
-connections (Then h (Sent now bytes)) = connections h
-connections (Then h (Failed now)) = connections h
-connections (Then h (Ended now)) = connections h
-connections (Then h Closed) = connections h
+connections (Then h _) = connections h
 
 -- the bytes that were written on the connection with this number
 abbrev pub written : ℕ → History → List ℕ
 written n Start = []
-written n (Then h (Push frame answer)) = written n h
-written n (Then h (Began now)) = written n h
-written n (Then h (Opened now)) = written n h
 written n (Then h (Sent now bytes)) =
     written n h ++ (if n == connections h then bytes else [])
-written n (Then h (Failed now)) = written n h
-written n (Then h (Ended now)) = written n h
-written n (Then h Closed) = written n h
+written n (Then h _) = written n h
 
 -- ---- the fates of frames
 
@@ -144,11 +129,8 @@ IsFrontOf part frame = (rest : List ℕ) × (0 < length rest) × (frame ≡ part
 
 -- these bytes are the front part of a frame that was dropped because the connection failed
 abbrev pub IsCutAt : List ℕ → Fate → List ℕ → Type 0
-IsCutAt part (SentOn n) frame = ⊥
-IsCutAt part (Dropped Full) frame = ⊥
 IsCutAt part (Dropped Unreachable) frame = IsFrontOf part frame
-IsCutAt part (Dropped NoMemory) frame = ⊥
-IsCutAt part Waits frame = ⊥
+IsCutAt part _ frame = ⊥
 
 -- there is such a frame, and none that was pushed after it was sent on this connection
 abbrev pub IsCut : ℕ → List ℕ → List Told → Type 0
@@ -208,23 +190,14 @@ says NoMemory push.DroppedOldest = 0
 abbrev pub said : Cause → History → ℕ
 said cause Start = 0
 said cause (Then h (Push frame answer)) = said cause h + says cause answer
-said cause (Then h (Began now)) = said cause h
-said cause (Then h (Opened now)) = said cause h
-said cause (Then h (Sent now bytes)) = said cause h
-said cause (Then h (Failed now)) = said cause h
-said cause (Then h (Ended now)) = said cause h
-said cause (Then h Closed) = said cause h
+said cause (Then h _) = said cause h
 
 -- how often it was said that the connection failed, or that the other side ended it
 abbrev pub failures : History → ℕ
 failures Start = 0
-failures (Then h (Push frame answer)) = failures h
-failures (Then h (Began now)) = failures h
-failures (Then h (Opened now)) = failures h
-failures (Then h (Sent now bytes)) = failures h
 failures (Then h (Failed now)) = failures h + 1
 failures (Then h (Ended now)) = failures h + 1
-failures (Then h Closed) = failures h
+failures (Then h _) = failures h
 
 -- a frame is dropped for a full queue, or for want of memory, only where a push says so, one each
 -- time; and because the connection failed only where that was said

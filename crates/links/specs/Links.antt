@@ -50,24 +50,18 @@ IsUnconnected (Open frames quiet) = ⊥
 
 -- whether another frame may be sent on the connection: it is open, and carried less than 63
 abbrev pub has_room : LinkStage → Bool
-has_room Closed = false
-has_room (Paused since millis) = false
-has_room (Opening since) = false
 has_room (Open frames quiet) = nat_lt frames 63
+has_room _ = false
 
 -- how many frames were sent whole on the connection
 abbrev pub frames_on : LinkStage → ℕ
-frames_on Closed = 0
-frames_on (Paused since millis) = 0
-frames_on (Opening since) = 0
 frames_on (Open frames quiet) = frames
+frames_on _ = 0
 
 -- how long the pause is that holds
 abbrev pub pause_in : LinkStage → ℕ
-pause_in Closed = 0
 pause_in (Paused since millis) = millis
-pause_in (Opening since) = 0
-pause_in (Open frames quiet) = 0
+pause_in _ = 0
 
 -- the first frame that waits, or no bytes where none does
 abbrev pub first_of : List (List ℕ) → List ℕ
@@ -177,10 +171,8 @@ reached s now = record {
 }
 
 abbrev pub opened_at : LinkStage → LinkState → ℕ → LinkState
-opened_at Closed s now = s
-opened_at (Paused since millis) s now = s
 opened_at (Opening since) s now = reached s now
-opened_at (Open frames quiet) s now = s
+opened_at _ s now = s
 
 abbrev pub after_opened : LinkState → ℕ → LinkState
 after_opened s now = opened_at s.stage s now
@@ -249,10 +241,8 @@ after_failed s now = failed_at s.stage s now
 
 -- whether nothing more is to be sent on an open connection: it carried 63 frames, or none waits
 abbrev pub spent_at : LinkStage → Bool → Bool
-spent_at Closed waits = false
-spent_at (Paused since millis) waits = false
-spent_at (Opening since) waits = false
 spent_at (Open frames quiet) waits = nat_le 63 frames || not waits
+spent_at _ waits = false
 
 -- the other side ends it: no failure, where nothing more was to be sent on it
 abbrev pub after_ended : LinkState → ℕ → LinkState

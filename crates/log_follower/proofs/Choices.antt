@@ -167,79 +167,29 @@ pub record IsEnded (old new : FollowStage) : Type 0 where
   pub apart : is_connected new ≡ false
   pub fresh : fresh_in new ≡ None
 
+ended : {old new : FollowStage} → is_stopped new ≡ false → asked_in new ≡ None
+    → answered_in new ≡ answered_in old → opening_in new ≡ None → last_of new ≡ last_of old
+    → is_connected new ≡ false → fresh_in new ≡ None → IsEnded old new
+ended stopped asked rests opening last apart fresh =
+    record {
+      stopped = stopped;
+      asked = asked;
+      rests = rests;
+      opening = opening;
+      last = last;
+      apart = apart;
+      fresh = fresh;
+    }
+
 pub left_in : (st : FollowStage) → IsEnded st (left_stage st)
-left_in (stage.Closed last) = record {
-  stopped = refl;
-  asked = refl;
-  rests = refl;
-  opening = refl;
-  last = refl;
-  apart = refl;
-  fresh = refl;
-}
-left_in (stage.Ended last) = record {
-  stopped = refl;
-  asked = refl;
-  rests = refl;
-  opening = refl;
-  last = refl;
-  apart = refl;
-  fresh = refl;
-}
-left_in (stage.Opening since) = record {
-  stopped = refl;
-  asked = refl;
-  rests = refl;
-  opening = refl;
-  last = refl;
-  apart = refl;
-  fresh = refl;
-}
-left_in (stage.Opened since) = record {
-  stopped = refl;
-  asked = refl;
-  rests = refl;
-  opening = refl;
-  last = refl;
-  apart = refl;
-  fresh = refl;
-}
-left_in (stage.Asked since) = record {
-  stopped = refl;
-  asked = refl;
-  rests = refl;
-  opening = refl;
-  last = refl;
-  apart = refl;
-  fresh = refl;
-}
-left_in (stage.Answered last) = record {
-  stopped = refl;
-  asked = refl;
-  rests = refl;
-  opening = refl;
-  last = refl;
-  apart = refl;
-  fresh = refl;
-}
-left_in (stage.Useless last) = record {
-  stopped = refl;
-  asked = refl;
-  rests = refl;
-  opening = refl;
-  last = refl;
-  apart = refl;
-  fresh = refl;
-}
-left_in stage.Stopped = record {
-  stopped = refl;
-  asked = refl;
-  rests = refl;
-  opening = refl;
-  last = refl;
-  apart = refl;
-  fresh = refl;
-}
+left_in (stage.Closed last) = ended refl refl refl refl refl refl refl
+left_in (stage.Ended last) = ended refl refl refl refl refl refl refl
+left_in (stage.Opening since) = ended refl refl refl refl refl refl refl
+left_in (stage.Opened since) = ended refl refl refl refl refl refl refl
+left_in (stage.Asked since) = ended refl refl refl refl refl refl refl
+left_in (stage.Answered last) = ended refl refl refl refl refl refl refl
+left_in (stage.Useless last) = ended refl refl refl refl refl refl refl
+left_in stage.Stopped = ended refl refl refl refl refl refl refl
 
 -- once a connection is said to be open
 pub record IsOpened (old new : FollowStage) : Type 0 where
@@ -251,79 +201,29 @@ pub record IsOpened (old new : FollowStage) : Type 0 where
   pub connected : is_connected new ≡ is_connected old
   pub fresh : fresh_in new ≡ fresh_in old
 
+opened : {old new : FollowStage} → is_stopped new ≡ is_stopped old → asked_in new ≡ asked_in old
+    → answered_in new ≡ answered_in old → opening_in new ≡ None → last_of new ≡ last_of old
+    → is_connected new ≡ is_connected old → fresh_in new ≡ fresh_in old → IsOpened old new
+opened stopped asked rests unopened last connected fresh =
+    record {
+      stopped = stopped;
+      asked = asked;
+      rests = rests;
+      unopened = unopened;
+      last = last;
+      connected = connected;
+      fresh = fresh;
+    }
+
 pub opened_in : (st : FollowStage) → IsOpened st (opened_stage st)
-opened_in (stage.Closed last) = record {
-  stopped = refl;
-  asked = refl;
-  rests = refl;
-  unopened = refl;
-  last = refl;
-  connected = refl;
-  fresh = refl;
-}
-opened_in (stage.Ended last) = record {
-  stopped = refl;
-  asked = refl;
-  rests = refl;
-  unopened = refl;
-  last = refl;
-  connected = refl;
-  fresh = refl;
-}
-opened_in (stage.Opening since) = record {
-  stopped = refl;
-  asked = refl;
-  rests = refl;
-  unopened = refl;
-  last = refl;
-  connected = refl;
-  fresh = refl;
-}
-opened_in (stage.Opened since) = record {
-  stopped = refl;
-  asked = refl;
-  rests = refl;
-  unopened = refl;
-  last = refl;
-  connected = refl;
-  fresh = refl;
-}
-opened_in (stage.Asked since) = record {
-  stopped = refl;
-  asked = refl;
-  rests = refl;
-  unopened = refl;
-  last = refl;
-  connected = refl;
-  fresh = refl;
-}
-opened_in (stage.Answered last) = record {
-  stopped = refl;
-  asked = refl;
-  rests = refl;
-  unopened = refl;
-  last = refl;
-  connected = refl;
-  fresh = refl;
-}
-opened_in (stage.Useless last) = record {
-  stopped = refl;
-  asked = refl;
-  rests = refl;
-  unopened = refl;
-  last = refl;
-  connected = refl;
-  fresh = refl;
-}
-opened_in stage.Stopped = record {
-  stopped = refl;
-  asked = refl;
-  rests = refl;
-  unopened = refl;
-  last = refl;
-  connected = refl;
-  fresh = refl;
-}
+opened_in (stage.Closed last) = opened refl refl refl refl refl refl refl
+opened_in (stage.Ended last) = opened refl refl refl refl refl refl refl
+opened_in (stage.Opening since) = opened refl refl refl refl refl refl refl
+opened_in (stage.Opened since) = opened refl refl refl refl refl refl refl
+opened_in (stage.Asked since) = opened refl refl refl refl refl refl refl
+opened_in (stage.Answered last) = opened refl refl refl refl refl refl refl
+opened_in (stage.Useless last) = opened refl refl refl refl refl refl refl
+opened_in stage.Stopped = opened refl refl refl refl refl refl refl
 
 -- once the next question may come at once
 pub record IsHurried (old new : FollowStage) : Type 0 where
@@ -335,76 +235,27 @@ pub record IsHurried (old new : FollowStage) : Type 0 where
   pub connected : is_connected new ≡ is_connected old
   pub fresh : fresh_in new ≡ fresh_in old
 
+hurried : {old new : FollowStage} → is_stopped new ≡ is_stopped old → asked_in new ≡ asked_in old
+    → answered_in new ≡ answered_in old → opening_in new ≡ opening_in old
+    → last_of new ≡ (if answered_in old then None else last_of old)
+    → is_connected new ≡ is_connected old → fresh_in new ≡ fresh_in old → IsHurried old new
+hurried stopped asked rests opening last connected fresh =
+    record {
+      stopped = stopped;
+      asked = asked;
+      rests = rests;
+      opening = opening;
+      last = last;
+      connected = connected;
+      fresh = fresh;
+    }
+
 pub hurried_in : (st : FollowStage) → IsHurried st (hurried_stage st)
-hurried_in (stage.Closed last) = record {
-  stopped = refl;
-  asked = refl;
-  rests = refl;
-  opening = refl;
-  last = refl;
-  connected = refl;
-  fresh = refl;
-}
-hurried_in (stage.Ended last) = record {
-  stopped = refl;
-  asked = refl;
-  rests = refl;
-  opening = refl;
-  last = refl;
-  connected = refl;
-  fresh = refl;
-}
-hurried_in (stage.Opening since) = record {
-  stopped = refl;
-  asked = refl;
-  rests = refl;
-  opening = refl;
-  last = refl;
-  connected = refl;
-  fresh = refl;
-}
-hurried_in (stage.Opened since) = record {
-  stopped = refl;
-  asked = refl;
-  rests = refl;
-  opening = refl;
-  last = refl;
-  connected = refl;
-  fresh = refl;
-}
-hurried_in (stage.Asked since) = record {
-  stopped = refl;
-  asked = refl;
-  rests = refl;
-  opening = refl;
-  last = refl;
-  connected = refl;
-  fresh = refl;
-}
-hurried_in (stage.Answered last) = record {
-  stopped = refl;
-  asked = refl;
-  rests = refl;
-  opening = refl;
-  last = refl;
-  connected = refl;
-  fresh = refl;
-}
-hurried_in (stage.Useless last) = record {
-  stopped = refl;
-  asked = refl;
-  rests = refl;
-  opening = refl;
-  last = refl;
-  connected = refl;
-  fresh = refl;
-}
-hurried_in stage.Stopped = record {
-  stopped = refl;
-  asked = refl;
-  rests = refl;
-  opening = refl;
-  last = refl;
-  connected = refl;
-  fresh = refl;
-}
+hurried_in (stage.Closed last) = hurried refl refl refl refl refl refl refl
+hurried_in (stage.Ended last) = hurried refl refl refl refl refl refl refl
+hurried_in (stage.Opening since) = hurried refl refl refl refl refl refl refl
+hurried_in (stage.Opened since) = hurried refl refl refl refl refl refl refl
+hurried_in (stage.Asked since) = hurried refl refl refl refl refl refl refl
+hurried_in (stage.Answered last) = hurried refl refl refl refl refl refl refl
+hurried_in (stage.Useless last) = hurried refl refl refl refl refl refl refl
+hurried_in stage.Stopped = hurried refl refl refl refl refl refl refl

@@ -74,47 +74,26 @@ pace_left (Some last) now = left_of now last 250
 -- ---- when a desk is left
 
 abbrev pub is_stopped : FollowStage → Bool
-is_stopped (Closed last) = false
-is_stopped (Ended last) = false
-is_stopped (Opening since) = false
-is_stopped (Opened since) = false
-is_stopped (Asked since) = false
-is_stopped (Answered last) = false
-is_stopped (Useless last) = false
 is_stopped Stopped = true
+is_stopped _ = false
 
 -- there is a connection, or one is being opened
 abbrev pub is_connected : FollowStage → Bool
 is_connected (Closed last) = false
 is_connected (Ended last) = false
-is_connected (Opening since) = true
-is_connected (Opened since) = true
-is_connected (Asked since) = true
-is_connected (Answered last) = true
-is_connected (Useless last) = true
 is_connected Stopped = false
+is_connected _ = true
 
 -- for two seconds no connection could be opened, or no answer came
 abbrev pub is_silent : FollowStage → ℕ → Bool
-is_silent (Closed last) now = false
-is_silent (Ended last) now = false
 is_silent (Opening since) now = is_over now since 2000
-is_silent (Opened since) now = false
 is_silent (Asked since) now = is_over now since 2000
-is_silent (Answered last) now = false
-is_silent (Useless last) now = false
-is_silent Stopped now = false
+is_silent _ now = false
 
 -- what came brings nothing
 abbrev pub is_useless : FollowStage → Bool
-is_useless (Closed last) = false
-is_useless (Ended last) = false
-is_useless (Opening since) = false
-is_useless (Opened since) = false
-is_useless (Asked since) = false
-is_useless (Answered last) = false
 is_useless (Useless last) = true
-is_useless Stopped = false
+is_useless _ = false
 
 -- the desk has been behind for five seconds
 abbrev pub is_behind_for : Option ℕ → ℕ → Bool
@@ -172,23 +151,13 @@ next_desk s = record {
 abbrev pub may_open : FollowStage → ℕ → Bool
 may_open (Closed last) now = is_free last now
 may_open (Ended last) now = is_free last now
-may_open (Opening since) now = false
-may_open (Opened since) now = false
-may_open (Asked since) now = false
-may_open (Answered last) now = false
-may_open (Useless last) now = false
-may_open Stopped now = false
+may_open _ now = false
 
 -- a desk is asked at once over a new connection, and a quarter of a second after the last question
 abbrev pub may_ask : FollowStage → ℕ → Bool
-may_ask (Closed last) now = false
-may_ask (Ended last) now = false
-may_ask (Opening since) now = false
 may_ask (Opened since) now = true
-may_ask (Asked since) now = false
 may_ask (Answered last) now = is_free last now
-may_ask (Useless last) now = false
-may_ask Stopped now = false
+may_ask _ now = false
 
 abbrev pub action_of : Following → ℕ → FollowAction
 action_of s now =
@@ -216,11 +185,9 @@ abbrev pub stage_wait : FollowStage → ℕ → ℕ
 stage_wait (Closed last) now = pace_left last now
 stage_wait (Ended last) now = pace_left last now
 stage_wait (Opening since) now = left_of now since 2000
-stage_wait (Opened since) now = 0
 stage_wait (Asked since) now = left_of now since 2000
 stage_wait (Answered last) now = pace_left last now
-stage_wait (Useless last) now = 0
-stage_wait Stopped now = 0
+stage_wait _ now = 0
 
 abbrev pub behind_wait : Option ℕ → ℕ → ℕ
 behind_wait None now = 5000
@@ -288,14 +255,8 @@ told s since now taken held length = record {
 
 -- where no question was asked, nothing was reported
 abbrev pub told_at : FollowStage → Following → ℕ → Option MirrorGrowth → ℕ → ℕ → Following
-told_at (Closed last) s now taken held length = s
-told_at (Ended last) s now taken held length = s
-told_at (Opening since) s now taken held length = s
-told_at (Opened since) s now taken held length = s
 told_at (Asked since) s now taken held length = told s since now taken held length
-told_at (Answered last) s now taken held length = s
-told_at (Useless last) s now taken held length = s
-told_at Stopped s now taken held length = s
+told_at _ s now taken held length = s
 
 -- entries that differ stop everything, whenever they come
 abbrev pub after_answer : Following → ℕ → Option MirrorGrowth → ℕ → ℕ → Following

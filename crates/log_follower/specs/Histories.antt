@@ -5,7 +5,7 @@ use Rattle.std.specs.Prelude.{nat_lt, not, ◌||◌, if◌then◌else◌}
 use Rattle.mirror.specs.declared.mirror.MirrorGrowth.{MirrorGrowth}
 use Rattle.mirror.specs.declared.mirror.MirrorGrowth.TheVariants.{Grew, Known, Gap, Differs}
 use Rattle.log_follower.specs.declared.stages.FollowAction.{FollowAction}
-use Rattle.log_follower.specs.declared.stages.FollowAction.TheVariants.{Rest, Open, Ask, Close, Stop}
+use Rattle.log_follower.specs.declared.stages.FollowAction.TheVariants.{Open, Ask, Close}
 use Rattle.log_follower.specs.Following.{Following, new_following, action_of, after_action}
 use Rattle.log_follower.specs.Following.{after_opened, after_answer, after_lost, after_hurry}
 use Rattle.log_follower.specs.Following.{is_behind, behind_after}
@@ -44,86 +44,60 @@ Leads desks first (Then h c) s = (m : Following) × Leads desks first h m × Cal
 abbrev pub latest : History → ℕ
 latest Start = 0
 latest (Then h (Acted now done)) = now
-latest (Then h Opened) = latest h
 latest (Then h (Answered now taken held length)) = now
-latest (Then h Lost) = latest h
-latest (Then h Hurried) = latest h
+latest (Then h _) = latest h
 
 -- the time doesn't go back
 abbrev pub IsTimed : History → Type 0
 IsTimed Start = Unit {0}
 IsTimed (Then h (Acted now done)) = IsTimed h × (latest h ≤ now)
-IsTimed (Then h Opened) = IsTimed h
 IsTimed (Then h (Answered now taken held length)) = IsTimed h × (latest h ≤ now)
-IsTimed (Then h Lost) = IsTimed h
-IsTimed (Then h Hurried) = IsTimed h
+IsTimed (Then h _) = IsTimed h
 
 -- ---- what was begun and what came
 
 -- entries came that differ from those that were held
 abbrev pub is_other : Option MirrorGrowth → Bool
-is_other None = false
-is_other (Some Grew) = false
-is_other (Some Known) = false
-is_other (Some Gap) = false
 is_other (Some (Differs position)) = true
+is_other _ = false
 
 abbrev pub differed : History → Bool
 differed Start = false
-differed (Then h (Acted now done)) = differed h
-differed (Then h Opened) = differed h
 differed (Then h (Answered now taken held length)) = is_other taken || differed h
-differed (Then h Lost) = differed h
-differed (Then h Hurried) = differed h
+differed (Then h _) = differed h
 
 -- the time of the question that waits for its answer
 abbrev pub unanswered : History → Option ℕ
 unanswered Start = None
-unanswered (Then h (Acted now Rest)) = unanswered h
 unanswered (Then h (Acted now (Open desk))) = None
 unanswered (Then h (Acted now (Ask desk position))) = Some now
 unanswered (Then h (Acted now (Close desk))) = None
-unanswered (Then h (Acted now Stop)) = unanswered h
-unanswered (Then h Opened) = unanswered h
 unanswered (Then h (Answered now taken held length)) = None
 unanswered (Then h Lost) = None
-unanswered (Then h Hurried) = unanswered h
+unanswered (Then h _) = unanswered h
 
 -- the time since which a connection is being opened
 abbrev pub opening : History → Option ℕ
 opening Start = None
-opening (Then h (Acted now Rest)) = opening h
 opening (Then h (Acted now (Open desk))) = Some now
 opening (Then h (Acted now (Ask desk position))) = None
 opening (Then h (Acted now (Close desk))) = None
-opening (Then h (Acted now Stop)) = opening h
 opening (Then h Opened) = None
-opening (Then h (Answered now taken held length)) = opening h
 opening (Then h Lost) = None
-opening (Then h Hurried) = opening h
+opening (Then h _) = opening h
 
 -- the desks to which connections were opened, the last one first
 abbrev pub openings : History → List ℕ
 openings Start = []
-openings (Then h (Acted now Rest)) = openings h
 openings (Then h (Acted now (Open desk))) = desk ∷ openings h
-openings (Then h (Acted now (Ask desk position))) = openings h
-openings (Then h (Acted now (Close desk))) = openings h
-openings (Then h (Acted now Stop)) = openings h
-openings (Then h Opened) = openings h
-openings (Then h (Answered now taken held length)) = openings h
-openings (Then h Lost) = openings h
-openings (Then h Hurried) = openings h
+openings (Then h _) = openings h
 
 -- ---- answers: what comes where no question waits is no answer
 
 -- the answer brought new entries, and left some of the log
 abbrev pub is_full : Option MirrorGrowth → ℕ → ℕ → Bool
-is_full None held length = false
 is_full (Some Grew) held length = nat_lt held length
-is_full (Some Known) held length = false
-is_full (Some Gap) held length = false
-is_full (Some (Differs position)) held length = false
+is_full _ held length = false
 
 -- the answer is of use: no gap, and not merely what is held of a log that is longer
 abbrev pub is_useful : Option MirrorGrowth → ℕ → ℕ → Bool
@@ -141,16 +115,11 @@ rests_after (Some since) useful rests = useful
 -- over which it was answered is open still, or was closed or lost after it
 abbrev pub rests : History → Bool
 rests Start = false
-rests (Then h (Acted now Rest)) = rests h
 rests (Then h (Acted now (Open desk))) = false
 rests (Then h (Acted now (Ask desk position))) = false
-rests (Then h (Acted now (Close desk))) = rests h
-rests (Then h (Acted now Stop)) = rests h
-rests (Then h Opened) = rests h
 rests (Then h (Answered now taken held length)) =
     rests_after (unanswered h) (is_useful taken held length) (rests h)
-rests (Then h Lost) = rests h
-rests (Then h Hurried) = rests h
+rests (Then h _) = rests h
 
 abbrev pub time_after : Option ℕ → Bool → Option ℕ → Option ℕ
 time_after None full last = last
@@ -160,30 +129,21 @@ time_after (Some since) full last = if full then None else last
 -- next may come at once
 abbrev pub last_question : History → Option ℕ
 last_question Start = None
-last_question (Then h (Acted now Rest)) = last_question h
-last_question (Then h (Acted now (Open desk))) = last_question h
 last_question (Then h (Acted now (Ask desk position))) = Some now
-last_question (Then h (Acted now (Close desk))) = last_question h
-last_question (Then h (Acted now Stop)) = last_question h
-last_question (Then h Opened) = last_question h
 last_question (Then h (Answered now taken held length)) =
     time_after (unanswered h) (is_full taken held length) (last_question h)
-last_question (Then h Lost) = last_question h
 last_question (Then h Hurried) = if rests h then None else last_question h
+last_question (Then h _) = last_question h
 
 -- the time of the last question or opening, in the same way
 abbrev pub last_try : History → Option ℕ
 last_try Start = None
-last_try (Then h (Acted now Rest)) = last_try h
 last_try (Then h (Acted now (Open desk))) = Some now
 last_try (Then h (Acted now (Ask desk position))) = Some now
-last_try (Then h (Acted now (Close desk))) = last_try h
-last_try (Then h (Acted now Stop)) = last_try h
-last_try (Then h Opened) = last_try h
 last_try (Then h (Answered now taken held length)) =
     time_after (unanswered h) (is_full taken held length) (last_try h)
-last_try (Then h Lost) = last_try h
 last_try (Then h Hurried) = if rests h then None else last_try h
+last_try (Then h _) = last_try h
 
 abbrev pub tried_after : Option ℕ → Bool → Option ℕ → Option ℕ
 tried_after None useful tried = tried
@@ -193,16 +153,11 @@ tried_after (Some since) useful tried = if useful then None else tried
 -- the caller was in a hurry
 abbrev pub tried_in_vain : History → Option ℕ
 tried_in_vain Start = None
-tried_in_vain (Then h (Acted now Rest)) = tried_in_vain h
 tried_in_vain (Then h (Acted now (Open desk))) = Some now
 tried_in_vain (Then h (Acted now (Ask desk position))) = Some now
-tried_in_vain (Then h (Acted now (Close desk))) = tried_in_vain h
-tried_in_vain (Then h (Acted now Stop)) = tried_in_vain h
-tried_in_vain (Then h Opened) = tried_in_vain h
 tried_in_vain (Then h (Answered now taken held length)) =
     tried_after (unanswered h) (is_useful taken held length) (tried_in_vain h)
-tried_in_vain (Then h Lost) = tried_in_vain h
-tried_in_vain (Then h Hurried) = tried_in_vain h
+tried_in_vain (Then h _) = tried_in_vain h
 
 abbrev pub count_after : Option ℕ → ℕ → ℕ → ℕ
 count_after None new old = old
@@ -211,22 +166,16 @@ count_after (Some since) new old = new
 -- how many entries are held: this many at first, and then as many as the last answer says
 abbrev pub held_after : ℕ → History → ℕ
 held_after first Start = first
-held_after first (Then h (Acted now done)) = held_after first h
-held_after first (Then h Opened) = held_after first h
 held_after first (Then h (Answered now taken held length)) =
     count_after (unanswered h) held (held_after first h)
-held_after first (Then h Lost) = held_after first h
-held_after first (Then h Hurried) = held_after first h
+held_after first (Then h _) = held_after first h
 
 -- how long the longest log is that an answer reported
 abbrev pub longest : History → ℕ
 longest Start = 0
-longest (Then h (Acted now done)) = longest h
-longest (Then h Opened) = longest h
 longest (Then h (Answered now taken held length)) =
     count_after (unanswered h) (max (longest h) length) (longest h)
-longest (Then h Lost) = longest h
-longest (Then h Hurried) = longest h
+longest (Then h _) = longest h
 
 abbrev pub behind_with : Option ℕ → Bool → Option ℕ → ℕ → Option ℕ
 behind_with None behind since now = since
@@ -236,13 +185,8 @@ behind_with (Some asked) behind since now = behind_after behind since now
 -- was reported before, or than what is held
 abbrev pub behind_since : History → Option ℕ
 behind_since Start = None
-behind_since (Then h (Acted now Rest)) = behind_since h
-behind_since (Then h (Acted now (Open desk))) = behind_since h
-behind_since (Then h (Acted now (Ask desk position))) = behind_since h
 behind_since (Then h (Acted now (Close desk))) = None
-behind_since (Then h (Acted now Stop)) = behind_since h
-behind_since (Then h Opened) = behind_since h
 behind_since (Then h (Answered now taken held length)) =
     behind_with (unanswered h) (is_behind (longest h) held length) (behind_since h) now
 behind_since (Then h Lost) = None
-behind_since (Then h Hurried) = behind_since h
+behind_since (Then h _) = behind_since h

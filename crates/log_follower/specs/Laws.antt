@@ -24,11 +24,9 @@ IsAfter None now = Unit {0}
 IsAfter (Some last) now = last + 250 ≤ now
 
 abbrev pub IsPaced : FollowAction → History → ℕ → Type 0
-IsPaced Rest h now = Unit {0}
 IsPaced (Open desk) h now = IsAfter (last_try h) now
 IsPaced (Ask desk position) h now = IsAfter (last_question h) now
-IsPaced (Close desk) h now = Unit {0}
-IsPaced Stop h now = Unit {0}
+IsPaced _ h now = Unit {0}
 
 -- A question is asked a quarter of a second after the one before, whichever desks they go to,
 -- unless a full answer came since, or it was answered with something of use and then somebody said

@@ -1,15 +1,13 @@
 -- The log of a hall as people read it, a format of this project's own: a row for each entry, in
 -- columns.
 use Rattle.std.specs.Prelude.{◌≡◌, ℕ, ◌+◌, ◌-◌, ◌&&◌, Bool, true, false, not, nat_le, nat_lt}
-use Rattle.std.specs.Prelude.{if◌then◌else◌, List, [], ◌∷◌, ◌++◌, length, take, map, flat_map}
+use Rattle.std.specs.Prelude.{if◌then◌else◌, List, [], ◌++◌, length, take, map, flat_map}
 use Rattle.std.specs.Prelude.{replicate, count_by, codes, decimal, slice_get, unwrap_or}
-use Rattle.std.specs.Prelude.{Option, None, Some, Result, Ok, Err}
+use Rattle.std.specs.Prelude.{Some, Result, Ok, Err}
 use Rattle.std.specs.List.{range_with_len}
 use Rattle.std.specs.Option.{option_map_or}
 use Rattle.acceptor.specs.declared.entry.Entry.{Entry}
-use Rattle.answers.specs.Answers.{texts}
-use Rattle.commands.specs.History.{History, StandsFor}
-use Rattle.mirror.specs.Answered.{answer_after}
+use Rattle.answers.specs.Transcripts.{answer_after}
 use Rattle.last_change.specs.Changes.{is_change, reads_change}
 use Rattle.sheets.specs.Sheet.{right}
 use Rattle.texts.specs.Codes.{code_name}
@@ -108,10 +106,6 @@ AddsRow from shown position entry answer old new =
     (log : List Entry) → slice_get log position ≡ Some entry
     → answer ≡ answer_after (take position log) entry
     → new ≡ old ++ row_from from shown log position
-
--- the meet is what the first entries of the log make
-abbrev pub StandsAt : History → List Entry → ℕ → Type 0
-StandsAt meet log position = StandsFor meet (texts (take position log))
 
 -- the heading and the rows, by position
 abbrev pub rows : ℕ → ShownEntries → List Entry → List ℕ

@@ -1,19 +1,20 @@
 //! The rows of a log, written.
 
 ghost use Rattle.std.specs.Prelude.{◌≡◌, ◌⊎◌, ◌+◌, ◌++◌, ◌<◌, Some, IfOk, IfErr, OnOk, OnErr};
-ghost use Rattle.std.specs.Prelude.{if◌then◌else◌, []};
+ghost use Rattle.std.specs.Prelude.{if◌then◌else◌, [], length, take};
 ghost use Rattle.std.specs.Io.KnownBytes.{Appends};
 ghost use Rattle.lines.specs.Bytes.{AppendsPart};
 ghost use Rattle.lines.specs.declared.fault.RunFault.TheVariants as run_fault;
 ghost use Rattle.last_change.specs.Changes.{reads_change};
 ghost use Rattle.texts.specs.Fields.{round_id};
 ghost use Rattle.texts.specs.Reading.{command_of};
-ghost use Rattle.log_rows.specs.Rows.{AddsRow, StandsAt, is_shown_so, row, row_from, rows};
+ghost use Rattle.answers.specs.Transcripts.{IsTranscript};
+ghost use Rattle.log_rows.specs.Rows.{AddsRow, is_shown_so, row, row_from, rows};
 
 use crate::rows::push_row;
 use acceptor::NoMemory;
 use acceptor::entry::Entry;
-use commands::Meet;
+use answers::Transcript;
 use formats::Event;
 use last_change::reads_change;
 use learner::log::Log;
@@ -112,25 +113,26 @@ fn push_shown(
     Ok(())
 }
 
-/// Takes the entry at a position into the meet of those in front of it, and adds its row, where it
-/// is shown.
+/// Takes the entry at a position into the transcript of those in front of it, and adds its row,
+/// where it is shown.
 fn take_row(
     out: &mut Vec<u8>,
-    meet: &mut Meet,
+    transcript: &mut Transcript,
     log: &Log,
     from: u32,
     shown: ShownEntries,
     position: u32,
 ) -> Result<(), NoMemory>
-    requires { position < 65536 }
-    ensures { OnOk result (StandsAt meet.old log.now.entries position
-        → StandsAt meet.new log.now.entries (position + 1)
+    requires few { position < 65536 }
+    requires there { position < length log.now.entries }
+    ensures { OnOk result (IsTranscript transcript.old (take position log.now.entries)
+        → IsTranscript transcript.new (take (position + 1) log.now.entries)
         × (out.new.items ≡ out.old.items ++ row_from from shown log.now.entries position)) }
 {
     let Some(entry) = log.entry(position) else {
-        return Ok(());
+        unreachable!();
     };
-    let answer = meet.apply(entry.id(), entry.text())?;
+    let answer = transcript.take(entry)?;
     push_shown(out, from, shown, position, entry, answer)?;
     Ok(())
 }
@@ -140,9 +142,9 @@ fn rows(alloc: Global, log: &Log, from: u32, shown: ShownEntries) -> Result<Vec<
     ensures { IfOk result (λ text. text.items ≡ rows from shown log.now.entries) }
 {
     let mut out = Vec::from_slice(alloc, HEADING)?;
-    let mut meet = Meet::new(alloc)?;
+    let mut transcript = Transcript::new(alloc)?;
     for position in 0..log.len() {
-        take_row(&mut out, &mut meet, log, from, shown, position)?;
+        take_row(&mut out, &mut transcript, log, from, shown, position)?;
     }
     Ok(out)
 }

@@ -1,5 +1,5 @@
--- Pages of HTML from pieces.
-use Rattle.std.specs.Prelude.{ℕ, List, [], ◌∷◌, ◌++◌, decimal, flat_map}
+-- Pages of HTML from fixed texts and what fills their holes.
+use Rattle.std.specs.Prelude.{ℕ, ◌==◌, if◌then◌else◌, List, [], ◌∷◌, ◌++◌, decimal, filter, length}
 use Rattle.markup.specs.board_page.Escaped.{escaped}
 use Rattle.markup.specs.declared.pieces.Piece.{Piece}
 use Rattle.markup.specs.declared.pieces.Piece.TheVariants.{Html, Text, Number}
@@ -10,10 +10,13 @@ piece_text (Html html) = html.now
 piece_text (Text text) = escaped text.now
 piece_text (Number number) = decimal number
 
-abbrev pub text_of : List Piece → List ℕ
-text_of pieces = flat_map piece_text pieces
+-- how many holes, each a `$`, there are in HTML
+abbrev pub holes : List ℕ → ℕ
+holes html = length (filter (λ byte. byte == 36) html)
 
--- texts, one after the other
-abbrev pub joined : List (List ℕ) → List ℕ
-joined [] = []
-joined (text ∷ texts) = text ++ joined texts
+-- HTML whose holes, each a `$`, are filled by these texts in their order
+unfoldable pub fill : List ℕ → List (List ℕ) → List ℕ
+fill html [] = html
+fill [] (text ∷ texts) = []
+fill (byte ∷ html) (text ∷ texts) =
+    if byte == 36 then text ++ fill html texts else byte ∷ fill html (text ∷ texts)

@@ -1,8 +1,9 @@
-//! Pages of HTML from pieces: fixed text, texts of people, which are escaped, and numbers.
+//! Pages of HTML: fixed text with holes, and what fills them: HTML, texts of people, which are
+//! escaped, and numbers.
 #![tactic(auto)]
 
 pub mod board_page;
 mod pieces;
 pub mod replies;
 
-pub use pieces::{Piece, push_pieces};
+pub use pieces::{Piece, fill};

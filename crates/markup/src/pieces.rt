@@ -1,7 +1,7 @@
 //! The pieces of a page.
 
-ghost use Rattle.std.specs.Prelude.{◌≡◌, ◌++◌, OnOk, decimal};
-ghost use Rattle.markup.specs.Pieces.{piece_text, text_of};
+ghost use Rattle.std.specs.Prelude.{◌≡◌, ◌++◌, OnOk, decimal, length, map};
+ghost use Rattle.markup.specs.Pieces.{fill, holes, piece_text};
 
 use crate::board_page::push_escaped;
 use itoa::Buffer;
@@ -35,16 +35,25 @@ fn push_piece(out: &mut Vec<u8>, piece: Piece<'_>) -> Result<(), AllocError>
     }
 }
 
-/// Adds pieces, in their order.
+/// Adds HTML with holes, each a `$`, that these pieces fill in their order. There are as many holes
+/// as pieces, so that no piece is left out and no hole stays.
 ///
 /// # Errors
 ///
 /// Where memory runs out. A front part may have been added then.
-pub fn push_pieces(out: &mut Vec<u8>, pieces: &[Piece<'_>]) -> Result<(), AllocError>
-    ensures { OnOk result (out.new.items ≡ out.old.items ++ text_of pieces.now) }
+pub fn fill(out: &mut Vec<u8>, html: &[u8], pieces: &[Piece<'_>]) -> Result<(), AllocError>
+    requires { holes html.now ≡ length pieces.now }
+    ensures { OnOk result (out.new.items
+        ≡ out.old.items ++ fill html.now (map piece_text pieces.now)) }
 {
-    for piece in pieces {
-        push_piece(out, *piece)?;
+    let mut next = 0;
+    for byte in html {
+        if *byte == b'$' && next < pieces.len() {
+            push_piece(out, pieces[next])?;
+            next += 1;
+        } else {
+            out.push(*byte)?;
+        }
     }
     Ok(())
 }

@@ -4,4 +4,3 @@ pub mod Each
 pub mod Pushing
 pub mod Soonest
 pub mod Looking
-pub mod Sums

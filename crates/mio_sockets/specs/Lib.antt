@@ -1,5 +1,3 @@
-pub mod Coming
-pub mod Mixing
 pub mod Wiring
 pub mod Waiting
 pub mod Keeping

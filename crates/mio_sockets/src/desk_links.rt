@@ -1,4 +1,4 @@
-//! The links to the other desks of a hall.
+//! The links to the desks of a hall.
 
 ghost use Rattle.std.specs.Prelude.{◌≡◌, [], ◌∷◌, IfOk, position, take};
 ghost use Rattle.std.specs.List.{list_any};
@@ -22,10 +22,10 @@ use std::marker::Model;
 use std::net::SocketAddr;
 use wire::Difference;
 
-/// The most other desks, desk 1 to desk 5.
+/// The most desks, desk 1 to desk 5.
 const MOST_DESKS: usize = 5;
 
-/// The links to the other desks of a hall over TCP.
+/// The links to the desks of a hall over TCP.
 pub type SocketLinks<'a, R, W> = DeskLinks<SocketConnections<'a, R>, W>;
 
 /// Where the lines about other desks go, and whether it is left out which desk can't be reached.
@@ -35,9 +35,9 @@ struct NoticeLines<W> {
     quiet: bool,
 }
 
-/// The links to the other desks of a hall, over connections of some kind, and where the lines go
-/// that say which desk can't be reached, and which differs. A contract sees the connections, and
-/// each desk that has an address.
+/// The links to the desks of a hall, over connections of some kind, and where the lines go that say
+/// which desk can't be reached, and which differs. A contract sees the connections, and each desk
+/// that has an address.
 #[derive(Drop)]
 pub struct DeskLinks<C, W> {
     alloc: Global,

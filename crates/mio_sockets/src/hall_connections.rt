@@ -9,7 +9,7 @@ use crate::endings::Endings;
 use crate::keyed_stream::KeyedStream;
 use crate::peer_connection::PeerConnection;
 use crate::peer_connections::{ConnectionOutcome, ConnectionTrouble, Opening};
-use multiplex::WriteOutcome;
+use polled::WriteOutcome;
 use std::alloc::Global;
 use std::io;
 use std::io::ErrorKind;

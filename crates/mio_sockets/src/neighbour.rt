@@ -13,7 +13,7 @@ ghost use Rattle.mio_sockets.specs.Wiring.{new_line};
 
 use crate::peer_connections::{ConnectionOutcome, Opening, PeerConnections};
 use links::{Link, LinkAction, LinkStage, Notice, Notices, PushOutcome};
-use multiplex::WriteOutcome;
+use polled::WriteOutcome;
 use std::alloc::Global;
 use std::marker::Model;
 use std::net::SocketAddr;

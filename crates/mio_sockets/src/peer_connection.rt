@@ -17,7 +17,7 @@ ghost use Rattle.mio_sockets.specs.declared.peer_connections.ConnectionTrouble.T
 use crate::asking::AskedPeer;
 use crate::keyed_stream::{KeyedStream, StreamOutcome};
 use crate::peer_connections::{ConnectionOutcome, ConnectionTrouble, Opening};
-use multiplex::WriteOutcome;
+use polled::WriteOutcome;
 use polled::sockets::taken_by;
 use std::io;
 use std::io::ErrorKind;

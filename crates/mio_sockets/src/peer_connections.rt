@@ -6,7 +6,7 @@ ghost use Rattle.mio_sockets.specs.Looking.{Listened, Look, Looked};
 ghost use Rattle.mio_sockets.specs.Wiring.{Began, Closed, Wired, taken};
 ghost use Rattle.polled.specs.Telling.{Tells};
 
-use multiplex::WriteOutcome;
+use polled::WriteOutcome;
 use sealed::ends::CallTrouble;
 use std::io::ErrorKind;
 use std::net::SocketAddr;

@@ -1,5 +1,3 @@
-pub mod Answered
 pub mod Overlaps
 pub mod Holding
 pub mod Fronts
-pub mod Sheets

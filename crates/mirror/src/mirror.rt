@@ -1,16 +1,14 @@
-//! A list of entries that grows by what desks answer, and the meet that they come to.
+//! A list of entries that grows by what desks answer, and its transcript.
 
-ghost use Rattle.std.specs.Prelude.{◌≡◌, ◌++◌, ◌∷◌, [], ℕ, List, OnErr, OnOk, drop, slice_get};
-ghost use Rattle.commands.specs.History.{StandsFor, answer_to};
+ghost use Rattle.std.specs.Prelude.{◌≡◌, drop};
 
 use acceptor::NoMemory;
 use acceptor::entry::Entry;
-use answers::LogSheetFault;
-use answers::answers::{sheet_in, sheet_of};
+use answers::{LogSheetFault, Transcript};
 use commands::Meet;
 use formats::Event;
 use learner::log::Log;
-use sheets::Style;
+use sheets::SheetStyle;
 use std::alloc::{AllocError, Global};
 use std::collections::VecDeque;
 use std::marker::Model;
@@ -35,28 +33,23 @@ pub enum MirrorGrowth {
 
 /// The first entries of a log, from position 0 on, as they were given.
 ///
-/// Contracts see it as the list of these entries. The meet that they come to is kept beside them,
-/// and what each was answered.
+/// Contracts see it as the list of these entries. Their transcript is kept beside them.
 #[derive(Drop)]
 pub struct Mirror {
     log: Log,
-    meet: Meet,
-    answers: Vec<Answer>,
+    transcript: Transcript,
 }
 
 impl Model for Mirror {
-    ghost use Rattle.std.specs.Prelude.{◌≡◌, [], List};
+    ghost use Rattle.std.specs.Prelude.{List};
     ghost use Rattle.acceptor.specs.declared.entry.Entry.{Entry};
-    ghost use Rattle.answers.specs.Answers.{texts};
-    ghost use Rattle.commands.specs.History.{StandsFor};
-    ghost use Rattle.mirror.specs.Answered.{answers_after};
+    ghost use Rattle.answers.specs.Transcripts.{IsTranscript};
 
     ghost Value = { List Entry };
 
     ghost view = { λ m. m.log.entries };
 
-    ghost invariant = { λ m. StandsFor m.meet (texts m.log.entries)
-        × (m.answers.items ≡ answers_after [] m.log.entries) };
+    ghost invariant = { λ m. IsTranscript m.transcript m.log.entries };
 }
 
 /// The entries after the first `count`.
@@ -70,37 +63,13 @@ fn after_first(entries: Vec<Entry>, count: u32) -> VecDeque<Entry>
     left
 }
 
-/// The answer at a place.
-fn answer_in(answers: &[Answer], place: usize) -> Option<Answer>
-    ensures { result ≡ slice_get answers.now place }
-{
-    answers.get(place).copied()
-}
-
-/// Takes an entry into a meet, and its answer after those that were given. At NoMemory nothing
-/// changes.
-fn answer_next(meet: &mut Meet, answers: &mut Vec<Answer>, entry: &Entry) -> Result<(), NoMemory>
-    ensures stands { OnOk result
-        ((entries : List (ℕ × List ℕ)) → StandsFor meet.old entries
-        → StandsFor meet.new (entries ++ (entry.now.id, entry.now.text) ∷ [])) }
-    ensures answered { OnOk result (answers.new.items
-        ≡ answers.old.items ++ answer_to meet.old entry.now.id entry.now.text ∷ []) }
-    ensures meet { OnErr result (meet.new ≡ meet.old) }
-    ensures answers { OnErr result (answers.new.items ≡ answers.old.items) }
-{
-    answers.reserve(1)?;
-    let answer = meet.apply(entry.id(), entry.text())?;
-    answers.push(answer).unwrap();
-    Ok(())
-}
-
 impl Mirror {
     ghost use Rattle.std.specs.Prelude.{◌≡◌, ◌∷◌, ◌++◌, ◌+◌, ◌-◌, ◌<◌, ◌≤◌, ◌↔◌, [], None, Some};
     ghost use Rattle.std.specs.Prelude.{IfOk, IfErr, IfSome, OnOk, OnErr, IsTrue};
-    ghost use Rattle.std.specs.Prelude.{length, drop, slice_get, option_map};
+    ghost use Rattle.std.specs.Prelude.{length};
     ghost use Rattle.answers.specs.Answers.{sheet_at, texts, NoSheetAt};
     ghost use Rattle.commands.specs.History.{StandsFor};
-    ghost use Rattle.mirror.specs.Answered.{answer_at};
+    ghost use Rattle.answers.specs.Transcripts.{answer_at};
     ghost use Rattle.mirror.specs.Mirrors.{Takes, TakesPart, DiffersFirst, AreHeldBelow, HoldsPart};
 
     /// The mirror with no entry. It takes its first memory here.
@@ -108,9 +77,8 @@ impl Mirror {
         ensures { IfOk result (λ mirror. mirror ≡ []) }
     {
         let log = Log::new(alloc)?;
-        let meet = Meet::new(alloc)?;
-        let answers = Vec::new(alloc);
-        Ok(Mirror { log, meet, answers })
+        let transcript = Transcript::new(alloc)?;
+        Ok(Mirror { log, transcript })
     }
 
     /// The entries that are held, by position.
@@ -126,16 +94,15 @@ impl Mirror {
     pub fn meet(&self) -> &Meet
         ensures { StandsFor result.now (texts self.now) }
     {
-        &self.meet
+        self.transcript.meet()
     }
 
     /// What the entry at a position was answered, by the rules, over the entries before it; none
     /// where no entry is held there.
-    #[tactic(auto, using(crate::proofs::Answered::answered))]
     pub fn answer(&self, position: u32) -> Option<Answer>
         ensures { result ≡ answer_at self.now position }
     {
-        answer_in(&self.answers, position as usize)
+        self.transcript.answer(position)
     }
 
     /// The number of entries that are held, at most 65,536.
@@ -221,7 +188,7 @@ impl Mirror {
         let Ok(()) = self.log.reserve() else {
             return Err(AllocError);
         };
-        answer_next(&mut self.meet, &mut self.answers, &entry)?;
+        self.transcript.take(&entry)?;
         self.log.append(entry);
         Ok(())
     }
@@ -238,7 +205,7 @@ impl Mirror {
         position: u32,
         event: Event,
         round: u8,
-        style: Style,
+        style: SheetStyle,
     ) -> Result<Vec<u8>, LogSheetFault>
         ensures there { OnOk result (position ≤ length self.now) }
         ensures sheet { IfOk result
@@ -247,9 +214,7 @@ impl Mirror {
             (λ fault. NoSheetAt fault self.now position
             (sheet_at style self.now position event round)) }
     {
-        if position == self.log.len() {
-            return sheet_in(alloc, &self.meet, position, event, round, style);
-        }
-        sheet_of(alloc, &self.log, position, event, round, style)
+        self.transcript
+            .sheet_at(alloc, &self.log, position, event, round, style)
     }
 }

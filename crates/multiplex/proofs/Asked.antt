@@ -16,8 +16,8 @@ use Rattle.multiplex.specs.Musts.{WaitsToRead}
 use Rattle.multiplex.specs.Noting.{awakes}
 use Rattle.multiplex.specs.Musts.{AsksUntil, Ends, Follows, GoesOn, Musts, NoneIsSilent, Stand}
 use Rattle.multiplex.specs.Musts.{AreEndsOf, IsEndOf, OffersLast, joined, left_at, wait_by}
-use Rattle.multiplex.specs.Requests.{Asks, Request, Accepting, Closing, Waited, Watching}
-use Rattle.multiplex.specs.declared.clients.AcceptedClient.TheVariants as accepted_is
+use Rattle.polled.specs.Requests.{Asks, Request, Accepting, Closing, Waited, Watching}
+use Rattle.polled.specs.declared.answers.AcceptedPeer.TheVariants as accepted_is
 use Rattle.polled.specs.declared.answers.Ready.{Ready}
 use Rattle.multiplex.specs.declared.ends.ServingEnd.{ServingEnd}
 use Rattle.multiplex.specs.declared.ends.EndReason.{EndReason}

@@ -13,7 +13,7 @@ use Rattle.serving.specs.Turns.{Talk, new_talk}
 use Rattle.store.specs.declared.home.Home.{Home}
 use Rattle.wire.specs.declared.values.Version.{Version}
 use Rattle.multiplex.specs.EachClient.{IsServedClient, came_with, gave, took}
-use Rattle.multiplex.specs.Happenings.{Came, Happened}
+use Rattle.polled.specs.Happenings.{Came, Happened}
 use Rattle.multiplex.proofs.Giving.{Gives, came_with-both, first_there, gave-both, served-both}
 use Rattle.multiplex.proofs.Giving.{took-both}
 use Rattle.multiplex.proofs.Seating.{IsFresh, came_now, other_came, put}

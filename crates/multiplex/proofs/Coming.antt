@@ -2,7 +2,7 @@
 use Rattle.std.proofs.Common.{sym, subst, ◌≤◌, ℕ, ◌∷◌, List, Option, None, Some, arith, [], ap}
 use Rattle.store.specs.declared.home.Home.{Home}
 use Rattle.serving.specs.Making.{Way}
-use Rattle.multiplex.specs.Happenings.{Happened}
+use Rattle.polled.specs.Happenings.{Happened}
 use Rattle.multiplex.specs.Passing.{Change, Changed, Changes, Clock, Comes, IsServedEach, Lobby}
 use Rattle.multiplex.specs.Passing.{NoSocket, Pass, Room, Shut, Step, Stops, Stray, Takes, Ticked}
 use Rattle.multiplex.specs.Passing.{Settles}

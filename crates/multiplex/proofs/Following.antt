@@ -28,7 +28,7 @@ use Rattle.multiplex.specs.EachClient.{AreDoneInTurn, Deed, EachClientIsServed, 
 use Rattle.multiplex.specs.EachClient.{MakesBetween, Settling}
 use Rattle.multiplex.specs.EachClient.{came_with, frames_in, gave, own_ticks, point_in, sides_at}
 use Rattle.multiplex.specs.EachClient.{ticks_of, took}
-use Rattle.multiplex.specs.Happenings.{Closed, Happened, Round, Took}
+use Rattle.polled.specs.Happenings.{Closed, Happened, Round, Took}
 use Rattle.multiplex.specs.Noting.{fresh_notes}
 use Rattle.multiplex.specs.Passing.{Change, Changed, Changes, Clock, Comes, Lobby, NoSocket, Pass}
 use Rattle.multiplex.specs.Passing.{Room, Shut, Step, Stops, Stray, Takes, TakesLast, Ticked}

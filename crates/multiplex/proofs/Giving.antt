@@ -6,8 +6,8 @@ use Rattle.serving.specs.TurnLaw.{handed_out, received}
 use Rattle.connections.specs.Connections.{Served, served_of}
 use Rattle.multiplex.specs.EachClient.{Deed, Frame, OwnTick, Settling, came_with, frames_in, gave}
 use Rattle.multiplex.specs.EachClient.{took}
-use Rattle.multiplex.specs.Happenings.{Happened, Round, Came, Full, Named, Gave, Took, Ended, Broke}
-use Rattle.multiplex.specs.Happenings.{Closed, Failed}
+use Rattle.polled.specs.Happenings.{Happened, Round, Came, Full, Named, Gave, Took, Ended, Broke}
+use Rattle.polled.specs.Happenings.{Closed, Failed}
 use Rattle.multiplex.specs.Passing.{told_end, told_turns, told_why}
 use Rattle.multiplex.specs.declared.ends.EndReason.{EndReason}
 use Rattle.multiplex.specs.declared.ends.EndReason.TheVariants as why

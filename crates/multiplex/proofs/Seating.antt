@@ -10,7 +10,7 @@ use Rattle.serving.specs.Turns.{new_talk}
 use Rattle.store.specs.declared.home.Home.{Home}
 use Rattle.wire.specs.declared.values.Version.{Version}
 use Rattle.multiplex.specs.EachClient.{came_with}
-use Rattle.multiplex.specs.Happenings.{Happened, Came}
+use Rattle.polled.specs.Happenings.{Happened, Came}
 use Rattle.multiplex.specs.Passing.{Lobby, guest}
 use Rattle.multiplex.specs.declared.notes.Notes.{Notes}
 use Rattle.multiplex.specs.declared.table.Guest.{Guest}

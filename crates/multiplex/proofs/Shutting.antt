@@ -8,7 +8,7 @@ use Rattle.store.specs.declared.home.Home.{Home}
 use Rattle.guarded.specs.LockedConnections.{LockedConnectionOf, begun, fresh_locked_connection}
 use Rattle.std.specs.List.{AllByRecursion}
 use Rattle.polled.specs.Telling.{Tells}
-use Rattle.multiplex.specs.Happenings.{Happened, Broke, Came, Closed, Full, watched}
+use Rattle.polled.specs.Happenings.{Happened, Broke, Came, Closed, Full, watched}
 use Rattle.multiplex.specs.Passing.{Change, Changes, Comes, Lobby, NoSocket, Shut, TurnedAway}
 use Rattle.multiplex.specs.Passing.{TakesLast, Unwatched}
 use Rattle.multiplex.specs.Passing.{Enters, IsCause, guest, lobby, told_change}

@@ -13,7 +13,7 @@ use Rattle.serving.specs.Sessions.{outside}
 use Rattle.store.specs.declared.home.Home.{Home}
 use Rattle.wire.specs.declared.values.Version.{Version}
 use Rattle.polled.specs.Telling.{Tells}
-use Rattle.multiplex.specs.Happenings.{Happened, Named, Round}
+use Rattle.polled.specs.Happenings.{Happened, Named, Round}
 use Rattle.multiplex.specs.Passing.{Change, Changed, Clock, IsStop, Lobby, Pass, Room, Settles}
 use Rattle.multiplex.specs.Passing.{Step}
 use Rattle.multiplex.specs.Passing.{Stops, over_settled, told as told_of}

@@ -1,7 +1,7 @@
 -- What is told, one after the other.
 use Rattle.std.proofs.Common.{◌≡◌, refl, sym, ap, ◌∙◌, ℕ, List, [], ◌∷◌, ◌++◌, append_assoc}
 use Rattle.serving.specs.TurnLaw.{Came, Began, Rested, Took, Turn}
-use Rattle.multiplex.specs.Happenings.{Gave, Took as TookSome}
+use Rattle.polled.specs.Happenings.{Gave, Took as TookSome}
 use Rattle.multiplex.specs.Passing.{Step, told, told_all, told_change, told_turns, Change}
 use Rattle.multiplex.specs.model.Scenes.{told_changes}
 

@@ -18,7 +18,7 @@ use Rattle.wire.specs.declared.standing.Difference.{Difference}
 use Rattle.wire.specs.declared.values.Version.{Version}
 use Rattle.multiplex.specs.Noting.{AreNoted}
 use Rattle.polled.specs.Telling.{Tells}
-use Rattle.multiplex.specs.Happenings.{Happened, Closed}
+use Rattle.polled.specs.Happenings.{Happened, Closed}
 use Rattle.multiplex.specs.Passing.{Changed, IsLeft, Lobby, Shares, Stray, Takes, Visit, lobby}
 use Rattle.multiplex.specs.Passing.{over_after, over_by, over_settled, staying, told_turns}
 use Rattle.multiplex.specs.Passing.{told_why}

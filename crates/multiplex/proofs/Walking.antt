@@ -31,7 +31,7 @@ use Rattle.guarded.specs.Permitting.{permission_of}
 use Rattle.wire.specs.declared.fault.WireFault.{WireFault}
 use Rattle.wire.specs.declared.frame.Frame.{Frame}
 use Rattle.polled.specs.Telling.{Tells}
-use Rattle.multiplex.specs.Happenings.{Happened, Gave, Took}
+use Rattle.polled.specs.Happenings.{Happened, Gave, Took}
 use Rattle.multiplex.specs.Passing.{AreMessages, IsFate, IsLeft, Settled, Shares, SharesLast}
 use Rattle.multiplex.specs.Passing.{SharesOne, pieces, told_turns, told_why}
 use Rattle.multiplex.specs.declared.ends.EndReason.{EndReason}

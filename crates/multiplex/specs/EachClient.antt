@@ -13,8 +13,8 @@ use Rattle.serving.specs.Making.{Way, speaking}
 use Rattle.serving.specs.OwnTicks.{unanswered}
 use Rattle.connections.specs.Connections.{AreServedInTurn, IsServedOf, MakesSome, Point, Served}
 use Rattle.connections.specs.Connections.{begun_of, served_of}
-use Rattle.multiplex.specs.Happenings.{Happened, Round, Came, Full, Named, Gave, Took, Ended, Broke}
-use Rattle.multiplex.specs.Happenings.{Closed, Failed}
+use Rattle.polled.specs.Happenings.{Happened, Round, Came, Full, Named, Gave, Took, Ended, Broke}
+use Rattle.polled.specs.Happenings.{Closed, Failed}
 use Rattle.answers.specs.Seen.{settled}
 use Rattle.multiplex.specs.Passing.{Changed, Clock, IsServedEach, Room, Settles, Step, Ticked}
 use Rattle.multiplex.specs.Passing.{TicksBy, Visit, told_all}

@@ -1,5 +1,3 @@
-pub mod Happenings
-pub mod Requests
 pub mod Dear
 pub mod Noting
 pub mod Silence

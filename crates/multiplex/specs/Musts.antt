@@ -8,12 +8,12 @@ use Rattle.multiplex.specs.Dear.{fresh_dear}
 use Rattle.multiplex.specs.Noting.{awakes}
 use Rattle.store.specs.declared.home.Home.{Home}
 use Rattle.wire.specs.declared.standing.Difference.{Difference}
-use Rattle.multiplex.specs.Requests.{Request, Waited, Accepting, Reading, Writing, Watching}
-use Rattle.multiplex.specs.Requests.{Closing}
+use Rattle.polled.specs.Requests.{Request, Waited, Accepting, Reading, Writing, Watching}
+use Rattle.polled.specs.Requests.{Closing}
 use Rattle.polled.specs.declared.answers.Ready.{Ready}
 use Rattle.polled.specs.declared.answers.Ready.TheVariants as ready_is
-use Rattle.multiplex.specs.declared.clients.AcceptedClient.{AcceptedClient}
-use Rattle.multiplex.specs.declared.clients.AcceptedClient.TheVariants as accepted_is
+use Rattle.polled.specs.declared.answers.AcceptedPeer.{AcceptedPeer}
+use Rattle.polled.specs.declared.answers.AcceptedPeer.TheVariants as accepted_is
 use Rattle.polled.specs.declared.answers.ReadOutcome.{ReadOutcome}
 use Rattle.polled.specs.declared.answers.WriteOutcome.{WriteOutcome}
 use Rattle.multiplex.specs.declared.ends.ServingEnd.{ServingEnd}
@@ -101,7 +101,7 @@ Attends k old new asked =
 
 -- Where the system has no socket for it, one of those that are open is let go, if there is one. It
 -- is turned away where there is no memory for it.
-abbrev pub MakesPlace : ℕ → ℕ → AcceptedClient → List Request → Type 0
+abbrev pub MakesPlace : ℕ → ℕ → AcceptedPeer → List Request → Type 0
 MakesPlace k count accepted_is.Full more =
     ((count ≡ 0) × (more ≡ [])) ⊎ ((j : ℕ) × (more ≡ Closing j ∷ []))
 MakesPlace k count (accepted_is.Came random) more = (more ≡ []) ⊎ (more ≡ Closing k ∷ [])
@@ -110,7 +110,7 @@ MakesPlace k count accepted_is.Nobody more = more ≡ []
 -- it is accepted, where this many connections are open
 abbrev pub Accepts : ℕ → ℕ → List Request → Type 0
 Accepts k count asked =
-    (a : AcceptedClient) × (more : List Request) × (asked ≡ Accepting k a ∷ more)
+    (a : AcceptedPeer) × (more : List Request) × (asked ≡ Accepting k a ∷ more)
     × MakesPlace k count a more
 
 -- where as many are open as may be, one of them is let go first, by which serving may be over

@@ -17,9 +17,9 @@ use Rattle.serving.specs.Making.{Outside, Way}
 use Rattle.serving.specs.OwnTicks.{Ticks, TicksInPart, unanswered}
 use Rattle.serving.specs.TurnLaw.{Came as CameIn, Began, Rested, Took as TookOf, Turn, begun_in}
 use Rattle.ticking.specs.Ticking.{Look, Ticking, after, is_due, look, new_ticker}
-use Rattle.multiplex.specs.Happenings.{Happened, Round, Came, Full, Named, Gave, Took, Ended, Broke}
+use Rattle.polled.specs.Happenings.{Happened, Round, Came, Full, Named, Gave, Took, Ended, Broke}
 use Rattle.polled.specs.Telling.{Tells}
-use Rattle.multiplex.specs.Happenings.{Closed, Failed}
+use Rattle.polled.specs.Happenings.{Closed, Failed}
 use Rattle.multiplex.specs.declared.ends.ServingsOutcome.{ServingsOutcome}
 use Rattle.multiplex.specs.declared.ends.ServingEnd.{ServingEnd}
 use Rattle.multiplex.specs.declared.ends.ServingEnd.TheVariants as over

@@ -3,16 +3,16 @@
 ghost use Rattle.std.specs.Prelude.{◌≡◌, ◌≤◌, ℕ, IfOk, None, Option};
 ghost use Rattle.multiplex.specs.model.Scenes.{Does};
 ghost use Rattle.multiplex.specs.Musts.{Musts, left_at, wait_by};
-ghost use Rattle.multiplex.specs.Requests.{Asks};
+ghost use Rattle.polled.specs.Requests.{Asks};
 ghost use Rattle.multiplex.specs.Rounds.{Begins};
 ghost use Rattle.multiplex.specs.Scenes.{scene};
 
-use crate::clients::Clients;
 use crate::ends::ServingEnd;
 use crate::links::PeerLinks;
 use crate::serving_each::{step, wait_of};
 use crate::table::{ClientTable, ServingOptions};
 use answers::Desk;
+use polled::Sockets;
 use std::alloc::{AllocError, Global};
 use std::marker::Model;
 use ticking::Period;
@@ -89,7 +89,7 @@ impl<D: Desk + Drop> Rounds<D> {
 
     /// Does what can be done next, and says why serving is over by that, if it is: a client is let
     /// in, one that is ready has its turn, or a round is over.
-    pub fn step<C: Clients, L: PeerLinks>(
+    pub fn step<C: Sockets, L: PeerLinks>(
         &mut self,
         clients: &mut C,
         links: &mut L,

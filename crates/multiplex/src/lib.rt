@@ -1,7 +1,6 @@
 //! A desk that serves all its clients side by side, in one thread.
 #![tactic(auto)]
 
-mod clients;
 mod dear;
 mod driven;
 mod ends;
@@ -14,10 +13,8 @@ mod steps;
 mod table;
 mod turns;
 
-pub use clients::{AcceptedClient, Clients};
 pub use driven::Rounds;
 pub use ends::{EndReason, ServingEnd, ServingsOutcome};
 pub use links::PeerLinks;
-pub use polled::{ReadOutcome, Ready, WriteOutcome};
 pub use serving_each::serve_each;
 pub use table::ServingOptions;

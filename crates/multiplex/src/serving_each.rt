@@ -5,19 +5,18 @@ ghost use Rattle.polled.specs.Telling.{Tells};
 ghost use Rattle.multiplex.specs.Musts.{AsksDuly, AsksUntil, EndsRound, Musts, left_at, stand};
 ghost use Rattle.multiplex.specs.Musts.{wait_by};
 ghost use Rattle.multiplex.specs.Passing.{first_ticks};
-ghost use Rattle.multiplex.specs.Requests.{Asks};
+ghost use Rattle.polled.specs.Requests.{Asks};
 ghost use Rattle.multiplex.specs.model.Tables.{AreKept, KeepsAll};
 ghost use Rattle.multiplex.specs.model.Scenes.{Does, DoesRound};
 ghost use Rattle.multiplex.specs.Scenes.{Serves, scene};
 
-use crate::clients::Clients;
 use crate::ends::{ServingEnd, ServingsOutcome};
 use crate::links::PeerLinks;
 use crate::own_ticks::OwnTicks;
 use crate::steps::{admit, let_all_go, let_go, visit, wake};
 use crate::table::{ClientTable, ServingOptions};
 use answers::Desk;
-use polled::Ready;
+use polled::{Ready, Sockets};
 use std::alloc::Global;
 use ticking::Period;
 use wire::Difference;
@@ -65,7 +64,7 @@ fn keep_links<D: Desk, L: PeerLinks>(now: u64, links: &mut L, node: &D)
 /// once that another desk differs, where one does, those clients are to be named in the next round
 /// whose Await is to be answered now, and those are let go that weren't ready for longer than a
 /// client is waited for.
-fn end_round<D: Desk, C: Clients, L: PeerLinks>(
+fn end_round<D: Desk, C: Sockets, L: PeerLinks>(
     alloc: Global,
     table: &mut ClientTable,
     terms: ServingOptions,
@@ -101,7 +100,7 @@ fn end_round<D: Desk, C: Clients, L: PeerLinks>(
 }
 
 /// Does what can be done next, and says why serving is over by that, if it is.
-pub(crate) fn step<D: Desk, C: Clients, L: PeerLinks>(
+pub(crate) fn step<D: Desk, C: Sockets, L: PeerLinks>(
     alloc: Global,
     table: &mut ClientTable,
     terms: ServingOptions,
@@ -131,7 +130,7 @@ pub(crate) fn step<D: Desk, C: Clients, L: PeerLinks>(
 }
 
 /// Serves until it is over, and says why it is.
-fn serve_rounds<D: Desk, C: Clients, L: PeerLinks>(
+fn serve_rounds<D: Desk, C: Sockets, L: PeerLinks>(
     alloc: Global,
     table: &mut ClientTable,
     terms: ServingOptions,
@@ -184,7 +183,7 @@ fn serve_rounds<D: Desk, C: Clients, L: PeerLinks>(
 /// It is waited until something is ready, for a second at most, and at most until the next Tick of
 /// the desk's own is due or the links are to be kept again. A contract sees what is done at each
 /// step (`served`), and what has to be asked of the clients and the links there (`asks`).
-pub fn serve_each<D: Desk, C: Clients, L: PeerLinks>(
+pub fn serve_each<D: Desk, C: Sockets, L: PeerLinks>(
     alloc: Global,
     terms: ServingOptions,
     period: Option<Period>,

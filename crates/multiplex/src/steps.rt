@@ -6,7 +6,7 @@ ghost use Rattle.std.specs.List.{AllByRecursion};
 ghost use Rattle.multiplex.specs.Passing.{over_by};
 ghost use Rattle.multiplex.specs.Musts.{Accepts, Admits, AreEndsOf, Attends, IsEndOf, IsWoken};
 ghost use Rattle.multiplex.specs.Musts.{MakesPlace, NoneIsSilent, OffersLast, WaitsToRead};
-ghost use Rattle.multiplex.specs.Requests.{Asks};
+ghost use Rattle.polled.specs.Requests.{Asks};
 ghost use Rattle.multiplex.specs.model.Asking.{AsksHosted, AsksSome, ClosesAt, MayClose};
 ghost use Rattle.multiplex.specs.model.Tables.{AreKept, IsKept, KeepsAll, KeepsKept, MakesRoom};
 ghost use Rattle.multiplex.specs.model.Scenes.{AltersSome, AnswersThenSettles, Empties, EndsLast};
@@ -18,7 +18,7 @@ ghost use Rattle.multiplex.specs.Noting.{awakes};
 ghost use Rattle.multiplex.specs.Noting.{AreNoted};
 ghost use Rattle.multiplex.specs.model.Asking.{KeepsWoken, WakesAll};
 ghost use Rattle.wire.specs.Ranges.{IsDifference};
-ghost use Rattle.multiplex.specs.declared.clients.AcceptedClient.TheVariants as accepted_is;
+ghost use Rattle.polled.specs.declared.answers.AcceptedPeer.TheVariants as accepted_is;
 ghost use Rattle.multiplex.specs.declared.ends.ServingEnd.{ServingEnd as OverOf};
 ghost use Rattle.multiplex.specs.declared.ends.EndReason.{EndReason as WhyOf};
 ghost use Rattle.multiplex.specs.declared.ends.EndReason.TheVariants as why;
@@ -26,7 +26,6 @@ ghost use Rattle.multiplex.specs.declared.table.ClientTable.{ClientTable as Tabl
 ghost use Rattle.multiplex.specs.declared.table.ServingOptions.{ServingOptions as TermsOf};
 ghost use Rattle.store.specs.declared.home.Home.{Home};
 
-use crate::clients::{AcceptedClient, Clients};
 use crate::dear::DearTurns;
 use crate::ends::{EndReason, ServingEnd};
 use crate::notes::{Notes, awaited_next, is_due};
@@ -34,6 +33,7 @@ use crate::table::{ClientTable, Guest, MOST_OPEN, ServingOptions, longest_silent
 use crate::turns::{send, talk_on};
 use answers::Desk;
 use guarded::LockedConnection;
+use polled::{AcceptedPeer, Sockets};
 use serving::{ConnectionEnd, Peers};
 use std::alloc::Global;
 use wire::Difference;
@@ -50,7 +50,7 @@ fn over_by(end: Option<ConnectionEnd>) -> Option<ServingEnd>
 }
 
 /// Ends the connection at this place, and says why serving is over by that, if it is.
-fn shut<C: Clients>(table: &mut ClientTable, place: usize, clients: &mut C) -> Option<ServingEnd>
+fn shut<C: Sockets>(table: &mut ClientTable, place: usize, clients: &mut C) -> Option<ServingEnd>
     requires { place < length table.old.guests.items }
     ensures shut { IsShut C.happened place result table.old table.new clients.old clients.new }
     ensures asks { Asks C.requests clients.old clients.new
@@ -84,7 +84,7 @@ fn stays_off(was_off: bool, guest: &Guest) -> bool
 /// read from, where all that came is served and answered, or an Await is put off, and else when it
 /// can take bytes. While that Await is put off nothing more is asked: so bytes that come meanwhile
 /// name it once, and not at each round.
-fn host<D: Desk, C: Clients, P: Peers>(
+fn host<D: Desk, C: Sockets, P: Peers>(
     guest: &mut Guest,
     time: u64,
     dear: &mut DearTurns,
@@ -131,7 +131,7 @@ fn is_over(why: EndReason) -> bool
 
 /// Lets the client with this number have its turn, if its connection is open, and says why serving
 /// is over by that, if it is. Where what it changed can't be settled, the desk is down.
-pub(crate) fn visit<D: Desk, C: Clients, P: Peers>(
+pub(crate) fn visit<D: Desk, C: Sockets, P: Peers>(
     table: &mut ClientTable,
     terms: ServingOptions,
     number: u64,
@@ -176,7 +176,7 @@ pub(crate) fn visit<D: Desk, C: Clients, P: Peers>(
 }
 
 /// Lets the client go that wasn't ready for the longest time.
-fn crowd_out<C: Clients>(table: &mut ClientTable, clients: &mut C) -> Option<ServingEnd>
+fn crowd_out<C: Sockets>(table: &mut ClientTable, clients: &mut C) -> Option<ServingEnd>
     ensures alters { (home : Home) (t : TermsOf) (w : WhyOf) → MakesRoom w table.old.guests.items
         → AltersSome C.happened home t result table.old table.new clients.old clients.new }
     ensures asks { Asks C.requests clients.old clients.new
@@ -190,7 +190,7 @@ fn crowd_out<C: Clients>(table: &mut ClientTable, clients: &mut C) -> Option<Ser
 }
 
 /// Lets those clients go that weren't ready for longer than a client is waited for.
-pub(crate) fn let_go<C: Clients>(
+pub(crate) fn let_go<C: Sockets>(
     table: &mut ClientTable,
     patience: u64,
     clients: &mut C,
@@ -229,7 +229,7 @@ fn is_awake<D: Desk>(guest: &Guest, node: &D, time: u64) -> bool
 /// Has a client named in the next round, where an Await of it is put off that is to be answered
 /// now: it can take bytes. One that the system refuses to name is let go when it was silent for too
 /// long.
-fn wake_one<D: Desk, C: Clients>(guest: &Guest, time: u64, clients: &mut C, node: &D)
+fn wake_one<D: Desk, C: Sockets>(guest: &Guest, time: u64, clients: &mut C, node: &D)
     ensures told { (home : Home) (t : TermsOf) (table : TableOf)
         → AltersSome C.happened home t None table table clients.old clients.new }
     ensures asks { Asks C.requests clients.old clients.new (λ asked.
@@ -243,7 +243,7 @@ fn wake_one<D: Desk, C: Clients>(guest: &Guest, time: u64, clients: &mut C, node
 
 /// Has those clients named in the next round of which an Await is put off that is to be answered
 /// now.
-pub(crate) fn wake<D: Desk, C: Clients>(table: &ClientTable, clients: &mut C, node: &D)
+pub(crate) fn wake<D: Desk, C: Sockets>(table: &ClientTable, clients: &mut C, node: &D)
     ensures told { (home : Home) (t : TermsOf)
         → AltersSome C.happened home t None table.now table.now clients.old clients.new }
     ensures asks { Asks C.requests clients.old clients.new (WakesAll (D.home_of node.now)
@@ -256,7 +256,7 @@ pub(crate) fn wake<D: Desk, C: Clients>(table: &ClientTable, clients: &mut C, no
 
 /// Offers a client once more what is to be sent to it, where there is such. False: the write
 /// failed.
-fn offer_last<C: Clients>(number: u64, talk: &mut LockedConnection, clients: &mut C) -> bool
+fn offer_last<C: Sockets>(number: u64, talk: &mut LockedConnection, clients: &mut C) -> bool
     ensures sends { Sends C.happened number result clients.old clients.new talk.old talk.new }
     ensures asks { Asks C.requests clients.old clients.new (OffersLast number talk.old.output) }
 {
@@ -267,7 +267,7 @@ fn offer_last<C: Clients>(number: u64, talk: &mut LockedConnection, clients: &mu
 }
 
 /// Ends the connection of a client, to which what it has not taken is offered once more.
-fn end_last<C: Clients>(guest: &mut Guest, clients: &mut C)
+fn end_last<C: Sockets>(guest: &mut Guest, clients: &mut C)
     ensures told { EndsLast C.happened clients.old clients.new guest.old guest.new.talk }
     ensures asks { Asks C.requests clients.old clients.new (IsEndOf guest.old) }
 {
@@ -277,7 +277,7 @@ fn end_last<C: Clients>(guest: &mut Guest, clients: &mut C)
 
 /// Ends all connections that are open. What a client has not taken of its answers is offered to it
 /// once more, without waiting.
-pub(crate) fn let_all_go<C: Clients>(table: &mut ClientTable, clients: &mut C)
+pub(crate) fn let_all_go<C: Sockets>(table: &mut ClientTable, clients: &mut C)
     ensures told { (home : Home) (t : TermsOf) (over : OverOf)
         → Empties C.happened home t over table.old table.new clients.old clients.new }
     ensures asks { Asks C.requests clients.old clients.new (AreEndsOf table.old.guests.items) }
@@ -290,7 +290,7 @@ pub(crate) fn let_all_go<C: Clients>(table: &mut ClientTable, clients: &mut C)
 
 /// Gives the client that came a connection, with these random bytes. Where there is no memory for
 /// it, it is ended.
-fn welcome<D: Desk, C: Clients>(
+fn welcome<D: Desk, C: Sockets>(
     alloc: Global,
     table: &mut ClientTable,
     terms: ServingOptions,
@@ -325,7 +325,7 @@ fn welcome<D: Desk, C: Clients>(
 
 /// Accepts the client that waits. Where the system has no more sockets, the one that wasn't ready
 /// for the longest time is let go.
-fn enter<D: Desk, C: Clients>(
+fn enter<D: Desk, C: Sockets>(
     alloc: Global,
     table: &mut ClientTable,
     terms: ServingOptions,
@@ -342,18 +342,18 @@ fn enter<D: Desk, C: Clients>(
     ensures few { length table.new.guests.items ≤ 512 }
 {
     match clients.accept(table.next) {
-        AcceptedClient::Came { random } => {
+        AcceptedPeer::Came { random } => {
             welcome(alloc, table, terms, random, clients, node);
             None
         }
-        AcceptedClient::Nobody => None,
-        AcceptedClient::Full => crowd_out(table, clients),
+        AcceptedPeer::Nobody => None,
+        AcceptedPeer::Full => crowd_out(table, clients),
     }
 }
 
 /// Accepts the client that waits, if another one is wanted. Where as many are open as may be, the
 /// one that wasn't ready for the longest time is let go first.
-pub(crate) fn admit<D: Desk, C: Clients>(
+pub(crate) fn admit<D: Desk, C: Sockets>(
     alloc: Global,
     table: &mut ClientTable,
     terms: ServingOptions,

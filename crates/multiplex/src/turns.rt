@@ -6,26 +6,25 @@ ghost use Rattle.guarded.specs.LockedConnections.{WantsRead, moment};
 ghost use Rattle.wire.specs.Ranges.{IsDifference};
 ghost use Rattle.multiplex.specs.declared.ends.EndReason.TheVariants as why;
 ghost use Rattle.multiplex.specs.Noting.{AreNoted};
-ghost use Rattle.multiplex.specs.Requests.{Asks};
+ghost use Rattle.polled.specs.Requests.{Asks};
 ghost use Rattle.multiplex.specs.model.Asking.{AsksMove, AsksSome, BeginsWithMove, Hears, Offers};
 ghost use Rattle.multiplex.specs.model.Scenes.{TalksThenSettles};
 ghost use Rattle.multiplex.specs.model.Visiting.{MayBegin, Moves, Reads, Sends, ServesAlone};
 ghost use Rattle.multiplex.specs.model.Visiting.{ServesOne, spot};
 ghost use Rattle.multiplex.specs.Scenes.{scene};
 
-use crate::clients::Clients;
 use crate::dear::DearTurns;
 use crate::ends::EndReason;
 use crate::notes::{Notes, listen, put_off};
 use crate::table::Guest;
 use answers::Desk;
 use guarded::LockedConnection;
-use polled::{ReadOutcome, WriteOutcome};
+use polled::{ReadOutcome, Sockets, WriteOutcome};
 use serving::Peers;
 use wire::Difference;
 
 /// Writes once what is to be sent. False: the write failed.
-pub(crate) fn send<C: Clients>(number: u64, talk: &mut LockedConnection, clients: &mut C) -> bool
+pub(crate) fn send<C: Sockets>(number: u64, talk: &mut LockedConnection, clients: &mut C) -> bool
     requires { talk.old.output ≢ [] }
     ensures sends { Sends C.happened number result clients.old clients.new talk.old talk.new }
     ensures asks { Asks C.requests clients.old clients.new (Offers number talk.old.output) }
@@ -117,7 +116,7 @@ fn serve_next<D: Desk, P: Peers>(
 
 /// Offers what is to be sent, where a frame was served. What was served is settled by then. False:
 /// the write failed.
-fn answer<D: Desk, C: Clients>(
+fn answer<D: Desk, C: Sockets>(
     number: u64,
     talk: &mut LockedConnection,
     served: bool,
@@ -139,7 +138,7 @@ fn answer<D: Desk, C: Clients>(
 }
 
 /// Reads once. None: a piece came, or nothing did.
-fn read<C: Clients>(number: u64, talk: &mut LockedConnection, clients: &mut C) -> Option<EndReason>
+fn read<C: Sockets>(number: u64, talk: &mut LockedConnection, clients: &mut C) -> Option<EndReason>
     requires { WantsRead talk.old }
     ensures reads { Reads C.happened number result clients.old clients.new talk.old talk.new }
     ensures going { result ≢ Some why.Over }
@@ -159,7 +158,7 @@ fn read<C: Clients>(number: u64, talk: &mut LockedConnection, clients: &mut C) -
 
 /// Writes once what is to be sent, or else reads once where all that came is served. Where that
 /// ends the connection, it says why.
-fn move_bytes<C: Clients>(
+fn move_bytes<C: Sockets>(
     number: u64,
     talk: &mut LockedConnection,
     clients: &mut C,
@@ -184,7 +183,7 @@ fn move_bytes<C: Clients>(
 /// Writes or reads once, and serves the messages of desks that come next and one frame of a client.
 /// What these change is settled before the answer is sent. Where the connection is to be ended now,
 /// it says why.
-pub(crate) fn talk_on<D: Desk, C: Clients, P: Peers>(
+pub(crate) fn talk_on<D: Desk, C: Sockets, P: Peers>(
     guest: &mut Guest,
     dear: &mut DearTurns,
     time: u64,

@@ -1,1 +1,1 @@
-pub mod KeptLogs
+pub mod Growing

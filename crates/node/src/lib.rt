@@ -4,11 +4,9 @@
 //! what has become of a command, and gives the result sheets.
 #![tactic(auto)]
 
-mod desk;
-mod kept_meet;
 mod node;
 
-pub use answers::{IdState, LogSheetFault};
+pub use answers::{Desk, IdState, LogSheetFault};
 pub use learner::event::DeskEvent;
 pub use node::Node;
 pub use replica::NodeFault;

@@ -28,7 +28,7 @@ use Rattle.texts.specs.declared.command.Command.TheVariants.{Card, Fix}
 use Rattle.texts.specs.declared.command.RemarkedCommand.{RemarkedCommand}
 use Rattle.texts.specs.declared.command.Settings.{Settings}
 use Rattle.texts.specs.declared.reading.CommandFault.{CommandFault}
-use Rattle.mirror.specs.Answered.{answer_after}
+use Rattle.answers.specs.Transcripts.{answer_after}
 use Rattle.outbox.specs.Cards.{AreSeen, SavedCardIsOverWhatWasSeen}
 use Rattle.outbox.specs.Cards.{SavedFixIsOverWhatWasSeen, SavedIsEntered, accepted_of}
 use Rattle.outbox.specs.Laws.{IsSo, StandsAs}

@@ -8,14 +8,14 @@ mod Fronts
 mod Halls
 mod Held
 mod Listed
-mod Lists
+pub mod Lists
 mod Looking
 mod Needed
 mod Once
 mod Ones
 mod Openings
 mod Passing
-mod Pieces
+pub mod Pieces
 mod Reading
 mod Sent
 mod Sound

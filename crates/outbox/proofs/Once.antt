@@ -11,7 +11,7 @@ use Rattle.commands.specs.History.{History, SeesEachId, answer_to, entry_refusal
 use Rattle.commands.specs.History.{is_seen}
 use Rattle.texts.specs.declared.answer.Answer.TheVariants as answer
 use Rattle.texts.specs.declared.answer.Code.TheVariants as code
-use Rattle.mirror.specs.Answered.{answer_after, answer_at}
+use Rattle.answers.specs.Transcripts.{answer_after, answer_at}
 use Rattle.outbox.specs.Laws.{CountsOnce, StandsAs}
 
 -- an id is among those of the entries before a later position

@@ -12,11 +12,12 @@ use Rattle.texts.specs.declared.answer.Answer.{Answer}
 use Rattle.texts.specs.declared.answer.Answer.TheVariants as answer
 use Rattle.texts.specs.declared.answer.Code.{Code}
 use Rattle.texts.specs.declared.answer.Code.TheVariants as code
-use Rattle.mirror.specs.Answered.{answer_after, answer_at}
+use Rattle.answers.specs.Transcripts.{answer_after, answer_at}
 use Rattle.outbox.specs.declared.state.ItemState.TheVariants as state
 use Rattle.outbox.specs.Laws.{IsSo, NeverByGuess, StandsAs, ToldAtOnce, ToldForGood}
 use Rattle.outbox.specs.States.{answered_as, refused_as, state_at, state_by, state_of}
-use Rattle.outbox.proofs.Fronts.{answer_front, found_at, found_front, get_front}
+use Rattle.answers.proofs.Fronts.{found_front, get_front}
+use Rattle.outbox.proofs.Fronts.{answer_front, found_at}
 
 same_entry : (a b : Entry) → a.id ≡ b.id → a.text ≡ b.text → a ≡ b
 same_entry a b i t = λ k. record { id = i k; text = t k }

@@ -10,7 +10,7 @@ use Rattle.learner.specs.Logs.{position_of}
 use Rattle.texts.specs.declared.answer.Answer.{Answer}
 use Rattle.texts.specs.declared.answer.Answer.TheVariants as answer
 use Rattle.texts.specs.declared.answer.Code.TheVariants as code
-use Rattle.mirror.specs.Answered.{answer_at}
+use Rattle.answers.specs.Transcripts.{answer_at}
 use Rattle.wire.specs.Entries.{IsEntry}
 use Rattle.wire.specs.Spelling.{spelling}
 use Rattle.desk_talks.specs.Dialogues.{CallsLead}

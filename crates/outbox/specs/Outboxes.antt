@@ -107,10 +107,7 @@ looked o log =
 abbrev pub has_ended : Option ItemState → Bool
 has_ended None = false
 has_ended (Some state.Waits) = false
-has_ended (Some (state.Saved position)) = true
-has_ended (Some (state.Changed position)) = true
-has_ended (Some (state.Refused position why)) = true
-has_ended (Some (state.OtherText position)) = true
+has_ended _ = true
 
 -- what became of the item of an id, if one is known
 abbrev pub state_in : List Entry → ItemsOf → ℕ → Option ItemState
@@ -171,11 +168,9 @@ is_left o = nat_lt o.next o.list.kept
 
 -- the desk is waited for
 abbrev pub is_waiting : ConnectionStage → Bool
-is_waiting (stage.Closed last) = false
 is_waiting (stage.Opening since) = true
-is_waiting (stage.Opened since) = false
 is_waiting (stage.Asked since) = true
-is_waiting (stage.Answered last) = false
+is_waiting _ = false
 
 -- how long it is until something is to be done, if nothing comes
 abbrev pub wait_of : OutboxOf → ℕ → ℕ
@@ -210,9 +205,7 @@ AsksNext (pair ∷ more) now old new =
 abbrev pub Asks : DialogueAction → ℕ → OutboxOf → OutboxOf → Type 0
 Asks wish.Write now old new = AsksNext (kept_from old.list old.next) now old new
 Asks wish.Close now old new = new ≡ lost old
-Asks wish.Rest now old new = ⊥
-Asks (wish.Open desk) now old new = ⊥
-Asks wish.Stop now old new = ⊥
+Asks _ now old new = ⊥
 
 abbrev pub Rests : DialogueAction → OutboxOf → OutboxOf → Type 0
 Rests w old new = (w ≡ wish.Rest) × (new ≡ old)

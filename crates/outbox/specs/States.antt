@@ -6,7 +6,7 @@ use Rattle.texts.specs.declared.answer.Answer.{Answer}
 use Rattle.texts.specs.declared.answer.Answer.TheVariants as answer
 use Rattle.texts.specs.declared.answer.Code.{Code}
 use Rattle.texts.specs.declared.answer.Code.TheVariants as code
-use Rattle.mirror.specs.Answered.{answer_at}
+use Rattle.answers.specs.Transcripts.{answer_at}
 use Rattle.outbox.specs.declared.state.ItemState.{ItemState}
 use Rattle.outbox.specs.declared.state.ItemState.TheVariants as state
 

@@ -3,10 +3,9 @@
 ghost use Rattle.std.specs.Prelude.{◌≡◌, ◌+◌, ◌<◌, ◌≤◌, IfSome, slice_get};
 ghost use Rattle.std.specs.List.{prefix_len};
 ghost use Rattle.desk_talks.specs.KeptConnections.{unsent_by};
-ghost use Rattle.outbox.specs.Outboxes.{Acts, Asks, AsksIf, Follows, HearsDesk, IsEntryAt, Opens};
-ghost use Rattle.outbox.specs.Outboxes.{OpensIf, aimed, gone_on, is_decided, is_decided_at};
-ghost use Rattle.outbox.specs.Outboxes.{is_left, is_of};
-ghost use Rattle.outbox.specs.Outboxes.{is_waiting, kept_from, lost, oldest, sent_by, skipped};
+ghost use Rattle.outbox.specs.Outboxes.{Asks, AsksIf, Follows, IsEntryAt, OpensIf, aimed, gone_on};
+ghost use Rattle.outbox.specs.Outboxes.{is_decided, is_decided_at, is_left, is_of};
+ghost use Rattle.outbox.specs.Outboxes.{is_waiting, kept_from, lost, oldest, skipped};
 ghost use Rattle.outbox.specs.Outboxes.{submit_request, took, wait_of};
 ghost use Rattle.wire.specs.Ranges.{IsDesk, IsFrame};
 
@@ -163,26 +162,6 @@ impl Outbox {
         }
     }
 
-    /// What is to be done now, at this many milliseconds of a clock that doesn't go back. It counts
-    /// as begun.
-    pub fn act(&mut self, now: u64) -> DialogueAction
-        ensures { Acts result now self.old self.new }
-    {
-        if self.aim != self.desk {
-            self.go_on();
-            return DialogueAction::Close;
-        }
-        match self.line.due(now) {
-            DueAction::Close | DueAction::Renew => {
-                self.lost();
-                DialogueAction::Close
-            }
-            DueAction::Open => self.open_for_next(now),
-            DueAction::Ask => self.ask_for_next(now),
-            DueAction::Rest => DialogueAction::Rest,
-        }
-    }
-
     /// Leaves the desk for the one that is aimed at, which has accepted no item yet.
     fn go_on(&mut self)
         ensures { self.new ≡ gone_on self.old }
@@ -242,43 +221,6 @@ impl Outbox {
         DialogueAction::Close
     }
 
-    /// Says that the connection that was being opened is open. Where memory is refused, it counts
-    /// as lost, and the answer is false: it is to be closed.
-    pub fn opened(&mut self) -> bool
-        ensures { Opens result self.old self.new }
-    {
-        self.line.opened()
-    }
-
-    /// Says that the connection is lost: it couldn't be opened, it failed, or the desk ended it.
-    pub fn lost(&mut self)
-        ensures { self.new ≡ lost self.old }
-    {
-        self.line.close();
-    }
-
-    /// What is to be written now.
-    pub fn output(&self) -> &[u8]
-        ensures { result.now ≡ unsent_by self.now.line.talking }
-    {
-        self.line.output()
-    }
-
-    /// Says that this many bytes of the output were written.
-    pub fn sent(&mut self, count: usize)
-        ensures { self.new ≡ sent_by self.old count }
-    {
-        self.line.sent(count);
-    }
-
-    /// Takes bytes that came from the desk over the connection.
-    pub fn hear(&mut self, piece: &[u8]) -> ReceiveOutcome
-        ensures { HearsDesk result piece.now self.old self.new }
-    {
-        let heard = self.line.hear(piece);
-        self.follow(heard)
-    }
-
     /// Does what follows of what the desk's bytes came to.
     fn follow(&mut self, heard: AnswerOutcome) -> ReceiveOutcome
         ensures { Follows heard result self.old self.new }
@@ -326,7 +268,19 @@ impl Dialogue for Outbox {
     ghost leads = { DialogueLeads };
 
     fn act(&mut self, now: u64) -> DialogueAction {
-        self.act(now)
+        if self.aim != self.desk {
+            self.go_on();
+            return DialogueAction::Close;
+        }
+        match self.line.due(now) {
+            DueAction::Close | DueAction::Renew => {
+                self.lost();
+                DialogueAction::Close
+            }
+            DueAction::Open => self.open_for_next(now),
+            DueAction::Ask => self.ask_for_next(now),
+            DueAction::Rest => DialogueAction::Rest,
+        }
     }
 
     fn is_opening(&self) -> bool
@@ -336,25 +290,28 @@ impl Dialogue for Outbox {
     }
 
     fn opened(&mut self) -> bool {
-        self.opened()
+        self.line.opened()
     }
 
-    fn lost(&mut self) {
-        self.lost();
+    fn lost(&mut self)
+        ensures { self.new ≡ lost self.old }
+    {
+        self.line.close();
     }
 
     fn output(&self) -> &[u8]
         ensures { result.now ≡ unsent_by self.now.line.talking }
     {
-        self.output()
+        self.line.output()
     }
 
     fn sent(&mut self, count: usize) {
-        self.sent(count);
+        self.line.sent(count);
     }
 
     fn hear(&mut self, now: u64, piece: &[u8]) -> ReceiveOutcome {
         let _now = now;
-        self.hear(piece)
+        let heard = self.line.hear(piece);
+        self.follow(heard)
     }
 }

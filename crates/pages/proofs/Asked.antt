@@ -4,7 +4,7 @@ use Rattle.std.proofs.Common.{append_assoc, append-nil, length, length-append}
 use Rattle.pages.specs.Asking.{AsksSteps, StepsBy}
 use Rattle.polled.specs.Telling.{Tells}
 use Rattle.pages.specs.Musts.{AsksRound, Ends, GoesOn, joined}
-use Rattle.pages.specs.Requests.{Asks, Request}
+use Rattle.polled.specs.Requests.{Asks, Request}
 use Rattle.pages.specs.declared.table.Step.TheVariants as step_is
 use Rattle.pages.specs.declared.table.BrowserTable.{BrowserTable}
 use Rattle.polled.proofs.Telling.{Tells-nil, Tells-trans}

@@ -8,7 +8,7 @@ use Rattle.std.specs.Prelude.{map}
 use Rattle.pages.specs.Asking.{EndsSome, LetsGo}
 use Rattle.pages.specs.Kept.{Places, places_of}
 use Rattle.pages.specs.Musts.{EndsRound, IsIn, IsSame, WasLate, is_late_at}
-use Rattle.pages.specs.Requests.{Closing, Request}
+use Rattle.polled.specs.Requests.{Closing, Request}
 use Rattle.pages.specs.declared.table.Browser.{Browser}
 use Rattle.pages.specs.declared.table.BrowserTable.{BrowserTable}
 

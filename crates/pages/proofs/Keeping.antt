@@ -10,7 +10,8 @@ use Rattle.http_server.specs.History.{History, IsServed, new_history}
 use Rattle.http_server.proofs.Theorems.{always_served}
 use Rattle.pages.specs.declared.table.Browser.{Browser}
 use Rattle.polled.specs.Telling.{Tells}
-use Rattle.pages.specs.Happenings.{Happened, gave, took}
+use Rattle.pages.specs.Happenings.{gave, took}
+use Rattle.polled.specs.Happenings.{Happened}
 use Rattle.pages.specs.Turns.{Moves, Moved, Turn, history_at, history_from}
 use Rattle.pages.specs.Kept.{AreKept, IsHeard, IsOpen, IsTold, IsToldOf, Places}
 use Rattle.pages.proofs.Moving.{gave-append, took-append}

@@ -7,7 +7,8 @@ use Rattle.std.proofs.lemmas.List.{take-take}
 use Rattle.std.proofs.lemmas.Bool.{ne_eqb, eq-eqb}
 use Rattle.http_server.specs.History.{History}
 use Rattle.polled.specs.Telling.{Tells}
-use Rattle.pages.specs.Happenings.{Happened, Gave, Ended, Took, gave, took, gave_at, took_at}
+use Rattle.pages.specs.Happenings.{gave, took, gave_at, took_at}
+use Rattle.polled.specs.Happenings.{Broke, Happened, Gave, Ended, Took}
 use Rattle.pages.specs.Turns.{Hears, Moves, Moved}
 use Rattle.polled.proofs.Telling.{Tells-nil, Tells-trans}
 
@@ -23,12 +24,15 @@ Empty xs = xs ≡ []
 both-empty : (xs ys : List ℕ) → xs ≡ [] → ys ≡ [] → xs ++ ys ≡ []
 both-empty xs ys x y = ap (λ (t : List ℕ). t ++ ys) x ∙ y
 
-pub Moves-none : (k : ℕ) (old new : History) → new.received ≡ old.received → new.sent ≡ old.sent
-    → Moves k [] old new []
-Moves-none k old new received sent = record {
-  others = λ j apart. (refl, refl);
-  heard = append-nil new.received ∙ received ∙ sym (append-nil old.received);
-  handed = sent ∙ sym (append-nil old.sent);
+Moves-none : (k : ℕ) (more : List Happened) (old new : History)
+    → ((j : ℕ) → (gave j more ≡ []) × (took j more ≡ [])) → new.received ≡ old.received
+    → new.sent ≡ old.sent → Moves k more old new []
+Moves-none k more old new quiet received sent = record {
+  others = λ j apart. quiet j;
+  heard = append-nil new.received ∙ received ∙ sym (append-nil old.received)
+      ∙ ap (λ (t : List ℕ). old.received ++ t) (sym (quiet k).0);
+  handed = sent ∙ sym (append-nil old.sent)
+      ∙ ap (λ (t : List ℕ). old.sent ++ t) (sym (quiet k).1);
 }
 
 pub Moves-then : (k : ℕ) (xs ys : List Happened) (a b c : History) (lost : List ℕ)
@@ -55,7 +59,18 @@ Moves-then k xs ys a b c lost x y = record {
 pub Moved-none : (k : ℕ) (goes : Bool) (a b : Option (List Happened)) (old new : History)
     → Tells a b [] → new.received ≡ old.received → new.sent ≡ old.sent → Moved k goes a b old new
 Moved-none k goes a b old new told received sent =
-    ([], [], told, Moves-none k old new received sent, λ _. refl)
+    ([], [], told, Moves-none k [] old new (λ j. (refl, refl)) received sent, λ _. refl)
+
+-- a read or a write failed
+pub Moved-broke : (k : ℕ) (goes : Bool) (a b : Option (List Happened)) (h : History)
+    → Tells a b (Broke k ∷ []) → Moved k goes a b h h
+Moved-broke k goes a b h told = (
+  Broke k ∷ [],
+  [],
+  told,
+  Moves-none k (Broke k ∷ []) h h (λ j. (refl, refl)) refl refl,
+  λ _. refl,
+)
 
 pub Moved-same : (k : ℕ) (goes : Bool) (a : Option (List Happened)) (old new : History)
     → new.received ≡ old.received → new.sent ≡ old.sent → Moved k goes a a old new

@@ -12,7 +12,7 @@ use Rattle.pages.specs.Kept.{places_of}
 use Rattle.pages.specs.Asking.{SettlesBy}
 use Rattle.pages.specs.Musts.{Admits, Attends, EndsRound, turned_as}
 use Rattle.pages.specs.Musts.{IsAt, IsGone, IsSame, IsSameBut, Settles, SettlesOn, has_some}
-use Rattle.pages.specs.Requests.{Request}
+use Rattle.polled.specs.Requests.{Request}
 use Rattle.pages.specs.Waiting.{goes_on}
 use Rattle.pages.specs.declared.waiting.TurnOutcome.{TurnOutcome}
 use Rattle.pages.specs.declared.waiting.Waiting.{Waiting}

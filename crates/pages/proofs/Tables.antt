@@ -13,17 +13,31 @@ use Rattle.pages.specs.declared.table.Browser.{Browser}
 use Rattle.pages.specs.declared.table.BrowserTable.{BrowserTable}
 use Rattle.pages.specs.Browsers.{IsUntold}
 use Rattle.pages.specs.Handed.{EachIsAnswered, IsMovedAsTold}
-use Rattle.pages.specs.Happenings.{Happened, Came, closed, gave, took}
+use Rattle.pages.specs.Happenings.{gave, took}
+use Rattle.polled.specs.Happenings.{Happened, accepted, closed, ready, watched}
+use Rattle.polled.specs.declared.answers.AcceptedPeer.{AcceptedPeer}
+use Rattle.polled.specs.declared.answers.AcceptedPeer.TheVariants as accepted_is
+use Rattle.polled.specs.declared.answers.Ready.{Ready}
+use Rattle.polled.specs.declared.answers.Ready.TheVariants as ready_is
 use Rattle.pages.specs.Kept.{AreKept, Holds, IsOpen, IsTold, Places, places_of}
 use Rattle.pages.specs.Turns.{Moved, Turn, history_at}
 use Rattle.pages.proofs.Keeping.{AreKept-fewer, AreKept-same, AreKept-turn, IsOpen-turn, IsQuiet}
 use Rattle.pages.proofs.Keeping.{new_is_served}
 
-pub quiet_none : IsQuiet []
-quiet_none k = (refl, refl)
+pub quiet_ready : (r : Ready) → IsQuiet (ready r)
+quiet_ready ready_is.Waits k = (refl, refl)
+quiet_ready (ready_is.Peer number) k = (refl, refl)
+quiet_ready (ready_is.Round now) k = (refl, refl)
+quiet_ready ready_is.Failed k = (refl, refl)
 
-pub quiet_came : (number : ℕ) → IsQuiet (Came number ∷ [])
-quiet_came number k = (refl, refl)
+pub quiet_accepted : (number : ℕ) (a : AcceptedPeer) → IsQuiet (accepted number a)
+quiet_accepted number (accepted_is.Came random) k = (refl, refl)
+quiet_accepted number accepted_is.Nobody k = (refl, refl)
+quiet_accepted number accepted_is.Full k = (refl, refl)
+
+pub quiet_watched : (number : ℕ) (is : Bool) → IsQuiet (watched number is)
+quiet_watched number true k = (refl, refl)
+quiet_watched number false k = (refl, refl)
 
 pub quiet_closed : (number : ℕ) → IsQuiet (closed number)
 quiet_closed number k = (refl, refl)
@@ -127,12 +141,12 @@ pub each_is_answered : (config : Config) (a : Option (List Happened)) (f : Place
 each_is_answered config a f next ts x =
     λ k. record { served = x.served k; moved = moved_as_told a ts next k x.told }
 
--- ---- where the sockets tell nothing
+-- ---- where nothing was given and nothing taken
 
 pub holds_on : {C : Type 0} (happened : C → Option (List Happened)) (t : BrowserTable C)
-    (sockets : C)
-    → Tells (happened t.sockets) (happened sockets) [] → Holds happened t
+    (sockets : C) (more : List Happened)
+    → Tells (happened t.sockets) (happened sockets) more → IsQuiet more → Holds happened t
     → AreKept t.terms.config (happened sockets) (places_of t) t.next t.turns.items
-holds_on happened t sockets told held =
-    AreKept-same t.terms.config (happened t.sockets) (happened sockets) [] (places_of t) t.next
-    t.turns.items told quiet_none held
+holds_on happened t sockets more told quiet held =
+    AreKept-same t.terms.config (happened t.sockets) (happened sockets) more (places_of t) t.next
+    t.turns.items told quiet held

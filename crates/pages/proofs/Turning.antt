@@ -7,7 +7,7 @@ use Rattle.http_server.specs.declared.state.Config.{Config}
 use Rattle.http_server.specs.History.{History, Rests}
 use Rattle.pages.specs.Asking.{AsksMove, Comes, OffersOnce}
 use Rattle.pages.specs.Musts.{IsMove, MayOffer, Offers, Turns, came_by, has_failed, is_offer}
-use Rattle.pages.specs.Requests.{Request}
+use Rattle.polled.specs.Requests.{Request}
 use Rattle.pages.specs.declared.waiting.TurnOutcome.{TurnOutcome}
 use Rattle.pages.specs.declared.waiting.TurnOutcome.TheVariants as turn
 

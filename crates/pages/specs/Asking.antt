@@ -8,7 +8,7 @@ use Rattle.pages.specs.Kept.{places_of}
 use Rattle.pages.specs.Musts.{GoesOn, IsAt, IsGone, IsIn, IsLongest, IsMove, IsSame, Musts, Offers}
 use Rattle.pages.specs.Musts.{WasLate, came_by, has_failed, has_more, is_in_round, is_late_at}
 use Rattle.pages.specs.Musts.{is_offer, joined}
-use Rattle.pages.specs.Requests.{Request, Reading, Watching, Closing}
+use Rattle.polled.specs.Requests.{Request, Reading, Watching, Closing}
 use Rattle.polled.specs.declared.answers.ReadOutcome.{ReadOutcome}
 use Rattle.polled.specs.declared.answers.Ready.{Ready}
 use Rattle.polled.specs.declared.answers.Ready.TheVariants as ready_is

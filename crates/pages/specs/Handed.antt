@@ -2,7 +2,8 @@
 use Rattle.std.specs.Prelude.{◌≡◌, ℕ, List, ◌++◌, Option, None, Some, ⊤}
 use Rattle.http_server.specs.declared.state.Config.{Config}
 use Rattle.http_server.specs.History.{History, IsServed}
-use Rattle.pages.specs.Happenings.{Happened, gave, took}
+use Rattle.pages.specs.Happenings.{gave, took}
+use Rattle.polled.specs.Happenings.{Happened}
 use Rattle.pages.specs.Turns.{Turn, history_at}
 
 -- The browser took what its connection handed out, no more and no less. What the connection heard

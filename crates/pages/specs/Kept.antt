@@ -11,7 +11,8 @@ use Rattle.http_server.specs.History.{History, IsServed, new_history}
 use Rattle.pages.specs.declared.table.Browser.{Browser}
 use Rattle.pages.specs.declared.table.BrowserTable.{BrowserTable}
 use Rattle.pages.specs.declared.table.BrowserLimits.{BrowserLimits}
-use Rattle.pages.specs.Happenings.{Happened, gave, took}
+use Rattle.pages.specs.Happenings.{gave, took}
+use Rattle.polled.specs.Happenings.{Happened}
 use Rattle.pages.specs.Turns.{Answers, Turn, history_at}
 
 -- ---- one browser

@@ -1,5 +1,4 @@
 pub mod Happenings
-pub mod Requests
 pub mod Waiting
 pub mod Turns
 pub mod Kept

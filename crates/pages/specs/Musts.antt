@@ -9,7 +9,7 @@ use Rattle.http_server.specs.declared.state.Config.{Config}
 use Rattle.http_server.specs.Connection.{config_of, history}
 use Rattle.http_server.specs.History.{History, IsDone, Rests, new_history}
 use Rattle.pages.specs.Kept.{Places, places_of}
-use Rattle.pages.specs.Requests.{Request, Waited, Accepting, Reading, Writing, Watching, Closing}
+use Rattle.polled.specs.Requests.{Request, Waited, Accepting, Reading, Writing, Watching, Closing}
 use Rattle.pages.specs.Waiting.{after, is_late, is_longer, waits}
 use Rattle.polled.specs.declared.answers.AcceptedPeer.{AcceptedPeer}
 use Rattle.polled.specs.declared.answers.AcceptedPeer.TheVariants as accepted_is
@@ -189,7 +189,7 @@ Seats old new =
 -- for it, another one is let go.
 abbrev pub GivesPlace : {C : Type 0} → AcceptedPeer → BrowserTable C → BrowserTable C → List Request
     → Type 0
-GivesPlace accepted_is.Came old new more =
+GivesPlace (accepted_is.Came random) old new more =
     (new.next ≡ old.next + 1)
     × (((more ≡ []) × Seats old new)
     ⊎ ((more ≡ Closing old.next ∷ []) × IsSame old new))

@@ -8,7 +8,8 @@ use Rattle.http_server.specs.Connection.{history}
 use Rattle.http_server.specs.Exchange.{Calls}
 use Rattle.http_server.specs.History.{History, new_history}
 use Rattle.polled.specs.Telling.{Tells}
-use Rattle.pages.specs.Happenings.{Happened, gave, took}
+use Rattle.pages.specs.Happenings.{gave, took}
+use Rattle.polled.specs.Happenings.{Happened}
 
 -- ---- one browser
 

@@ -3,9 +3,9 @@
 ghost use Rattle.std.specs.Prelude.{◌≡◌, IfOk};
 ghost use Rattle.pages.specs.Kept.{Holds};
 
-use crate::sockets::Sockets;
 use crate::table::{BrowserLimits, BrowserTable};
 use http_server::Service;
+use polled::Sockets;
 use std::alloc::{AllocError, Global};
 use std::hash::RandomState;
 
@@ -16,15 +16,15 @@ use std::hash::RandomState;
 /// and where another one comes and there is no room for it, which ends that of the one that is
 /// waited for since the longest time.
 #[derive(Drop)]
-pub struct Browsers<C: Sockets> {
+pub struct Browsers<C: Sockets + Drop> {
     table: BrowserTable<C>,
     ghost kept: { ∥ Holds C.happened table ∥₁ },
 }
 
-impl<C: Sockets> Browsers<C> {
+impl<C: Sockets + Drop> Browsers<C> {
     ghost use Rattle.pages.specs.Browsers.{IsNew, IsUntold, Served, sockets_of, table_of};
     ghost use Rattle.pages.specs.Musts.{AsksRound};
-    ghost use Rattle.pages.specs.Requests.{Asks};
+    ghost use Rattle.polled.specs.Requests.{Asks};
 
     /// None has come yet. The names of headers are the browsers' choice, so their maps take secret
     /// keys.

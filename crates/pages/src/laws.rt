@@ -4,15 +4,15 @@ ghost use Rattle.pages.specs.Browsers.{EachBrowserIsAnswered};
 ghost use Rattle.pages.specs.Laws.{EachCallIsAnswered, RoundsFollow};
 
 use crate::browsers::Browsers;
-use crate::sockets::Sockets;
 use http_server::Service;
+use polled::Sockets;
 
 /// After any rounds, however reads and writes were cut and whichever browsers have gone: what a
 /// browser's connection handed out is a front part of the answers to the requests that it heard, in
 /// order, as `http_server` says it of one connection. Where the sockets tell what happened, this is
 /// what the browser took, and what it heard is first in what the browser gave. So none is handed
 /// what is another one's.
-pub fn each_browser_is_answered<C: Sockets>(browsers: &Browsers<C>)
+pub fn each_browser_is_answered<C: Sockets + Drop>(browsers: &Browsers<C>)
     ensures { EachBrowserIsAnswered C.happened browsers.now }
 {
     let _browsers = browsers;

@@ -3,12 +3,11 @@
 
 mod browsers;
 pub mod laws;
-mod sockets;
+mod listening;
 mod table;
 mod turns;
 mod waiting;
 
 pub use browsers::Browsers;
-pub use polled::{AcceptedPeer, ReadOutcome, Ready, WriteOutcome};
-pub use sockets::Sockets;
+pub use listening::{TcpBrowsers, browsers_at, say_where};
 pub use table::BrowserLimits;

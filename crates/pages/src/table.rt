@@ -1,14 +1,13 @@
 //! The browsers whose connections are open: one comes, one has its turn, one is let go.
 
 ghost use Rattle.std.specs.Prelude.{◌≡◌, ◌<◌, ◌-◌, ◌^◌, [], ◌∷◌, IfOk, IsFalse, IsTrue};
-ghost use Rattle.pages.specs.Requests.{Closing};
+ghost use Rattle.polled.specs.Requests.{Closing};
 
-use crate::sockets::Sockets;
 use crate::turns::take_turn;
 use crate::waiting::Waiting;
 use http_server::{Config, Connection, Log, Service};
 use indexmap::IndexMap;
-use polled::{AcceptedPeer, Ready};
+use polled::{AcceptedPeer, Ready, Sockets};
 use std::alloc::{AllocError, Global};
 use std::hash::RandomState;
 
@@ -56,13 +55,13 @@ enum Step {
     Failed,
 }
 
-impl<C: Sockets> BrowserTable<C> {
+impl<C: Sockets + Drop> BrowserTable<C> {
     ghost use Rattle.pages.specs.Asking.{FindsLate, FindsLongest, KeepsOn, LetsGo, SettlesBy};
     ghost use Rattle.pages.specs.Asking.{StepsBy};
     ghost use Rattle.pages.specs.Kept.{AnswersIn, IsFirst, Keeps, KeepsWith, StaysSame};
     ghost use Rattle.pages.specs.Musts.{Accepts, Admits, AsksRound, Attends, EndsRound, GivesPlace};
     ghost use Rattle.pages.specs.Musts.{LetsLongestGo, MakesRoom};
-    ghost use Rattle.pages.specs.Requests.{Asks};
+    ghost use Rattle.polled.specs.Requests.{Asks};
     ghost use Rattle.polled.specs.declared.answers.AcceptedPeer.TheVariants as accepted_is;
 
     /// None has come yet.
@@ -209,7 +208,7 @@ impl<C: Sockets> BrowserTable<C> {
         ensures turns { self.new.turns ≡ self.old.turns }
         ensures time { self.new.now ≡ self.old.now }
         ensures asks { Asks C.requests self.old.sockets self.new.sockets
-            (GivesPlace accepted_is.Came self.old self.new) }
+            (GivesPlace (accepted_is.Came []) self.old self.new) }
     {
         let number = self.next;
         self.next += 1;
@@ -242,7 +241,7 @@ impl<C: Sockets> BrowserTable<C> {
             return;
         }
         match self.sockets.accept(self.next) {
-            AcceptedPeer::Came => self.welcome(),
+            AcceptedPeer::Came { .. } => self.welcome(),
             AcceptedPeer::Nobody => {}
             AcceptedPeer::Full => self.let_longest_go(),
         }

@@ -5,14 +5,13 @@ ghost use Rattle.http_server.specs.Connection.{config_of, history};
 ghost use Rattle.http_server.specs.Exchange.{Calls};
 ghost use Rattle.pages.specs.Asking.{AsksAnswer, AsksMove, Comes, OffersOnce, ReadsOnce};
 ghost use Rattle.pages.specs.Musts.{Turns};
-ghost use Rattle.pages.specs.Requests.{Asks};
+ghost use Rattle.polled.specs.Requests.{Asks};
 ghost use Rattle.pages.specs.Turns.{Hears, Moved};
 ghost use Rattle.pages.specs.Waiting.{goes_on};
 
-use crate::sockets::Sockets;
 use crate::waiting::TurnOutcome;
 use http_server::{Connection, Service};
-use polled::{ReadOutcome, WriteOutcome};
+use polled::{ReadOutcome, Sockets, WriteOutcome};
 
 /// Writes once what is to be sent. False: the write failed.
 fn send<C: Sockets>(number: u64, connection: &mut Connection, sockets: &mut C) -> bool

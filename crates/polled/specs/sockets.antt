@@ -3,3 +3,4 @@ pub mod Outcomes
 pub mod Agendas
 pub mod Streams
 pub mod Sockets
+pub mod Mixing

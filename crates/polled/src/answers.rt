@@ -17,8 +17,8 @@ pub enum Ready {
 /// What came of accepting a peer.
 #[derive(Clone, Copy, PartialEq, Eq, Debug)]
 pub enum AcceptedPeer {
-    /// A peer came.
-    Came,
+    /// A peer came. These bytes are new with each peer: they tell its connection from others.
+    Came { random: [u8; 16] },
     /// None waits, or the one that waited has gone.
     Nobody,
     /// The system has no more sockets.

@@ -2,6 +2,8 @@
 #![tactic(auto)]
 
 mod answers;
+mod peers;
 pub mod sockets;
 
 pub use answers::{AcceptedPeer, ReadOutcome, Ready, WriteOutcome};
+pub use peers::Sockets;

@@ -1,7 +1,9 @@
--- What desk d aims at: that its first entry is decided, with help alone and in this many events.
-use Rattle.std.proofs.Common.{◌≡◌, ℕ, zero, suc, ◌≤◌, ◌<◌, ◌+◌, ◌*◌, Bool, true, false}
-use Rattle.std.proofs.Common.{if◌then◌else◌, ◌==◌, ◌&&◌, List, [], ◌∷◌, ◌++◌, inl, inr, Option}
-use Rattle.std.proofs.Common.{Some, None, Ok, length, slice_get, refl, sym, ap, ◌∙◌, subst, arith}
+-- What desk d aims at: that its first entry is decided, with help alone and in this many events. It
+-- is shown at once of desks that take events alone, and of those that start where their logs grow.
+use Rattle.std.proofs.Common.{◌≡◌, ℕ, zero, suc, ◌≤◌, ◌<◌, ◌+◌, ◌-◌, ◌*◌, Bool, true, false}
+use Rattle.std.proofs.Common.{if◌then◌else◌, ◌==◌, ◌&&◌, nat_lt, List, [], ◌∷◌, ◌++◌, inl, inr}
+use Rattle.std.proofs.Common.{Option, Some, None, Ok, length, slice_get, refl, sym, ap, ◌∙◌, subst}
+use Rattle.std.proofs.Common.{arith}
 use Rattle.std.proofs.Common.{length-append}
 use Rattle.std.proofs.lemmas.Bool.Decides.{nat_tests}
 use Rattle.acceptor.specs.declared.entry.Entry.{Entry}
@@ -11,18 +13,22 @@ use Rattle.acceptor.specs.declared.stored.Change.TheVariants.{Promised, Voted, T
 use Rattle.acceptor.specs.Storing.{log_after}
 use Rattle.proposer.specs.declared.plan.Plan.{Plan}
 use Rattle.proposer.specs.Proposing.{tick}
-use Rattle.learner.specs.declared.event.DeskEvent.TheVariants.{Deliver, Tick}
+use Rattle.learner.specs.declared.event.DeskEvent.TheVariants.{Start, Tick, Deliver}
 use Rattle.learner.specs.declared.event.WorldEvent.{WorldEvent}
+use Rattle.learner.specs.declared.event.WorldEvent.TheVariants.{Submit as SubmitAt}
+use Rattle.learner.specs.declared.event.WorldEvent.TheVariants.{Start as StartAt, Tick as TickAt}
 use Rattle.learner.specs.declared.event.WorldEvent.TheVariants.{Deliver as DeliverNth}
-use Rattle.learner.specs.declared.event.WorldEvent.TheVariants.{Tick as TickAt}
+use Rattle.learner.specs.declared.event.WorldEvent.TheVariants.{Restart as RestartAt}
 use Rattle.learner.specs.Chosen.{Has, IsMajority}
 use Rattle.learner.specs.Desks.{Desk, adopt, passing}
 use Rattle.learner.specs.Steps.{IsDesk, is_desk, is_heeded, on_body, done, idle, planned, step}
-use Rattle.learner.specs.Worlds.{World, put, world_after, delivered, happens, run, after, new_world}
+use Rattle.learner.specs.Worlds.{World, put, world_after, at_desk, nth_sent, delivered, happens}
+use Rattle.learner.specs.Worlds.{run, after, new_world}
 use Rattle.learner.specs.Ranges.{IsInRange}
 use Rattle.learner.proofs.Runs.{run_append}
 use Rattle.learner.proofs.InRange.{messages_are_in_range}
-use Rattle.progress.specs.Progress.{IsAmong, IsHelp, AreHelp, lacking}
+use Rattle.progress.specs.Progress.{IsAmong, IsHelp, lacking}
+use Rattle.progress.specs.Turns.{has_grown, started, turn_of, takes_turn}
 
 -- events have led to the world
 pub record IsReached (n : ℕ) (w : World) : Type 0 where
@@ -37,10 +43,82 @@ reached_more n w e r =
       same = run_append n new_world r.past (e ∷ []) ∙ ap (λ v. happens n v e) r.same;
     }
 
+-- ---- events, and turns
+
+-- the event alone, or a turn
+abbrev pub goes : Bool → ℕ → World → WorldEvent → World
+goes false n w e = happens n w e
+goes true n w e = takes_turn n w e
+
+abbrev pub goes_on : Bool → ℕ → World → List WorldEvent → World
+goes_on s n w [] = w
+goes_on s n w (e ∷ es) = goes_on s n (goes s n w e) es
+
+-- each of them is help
+abbrev pub AreHelps : Bool → ℕ → ℕ → List ℕ → ℕ → World → List WorldEvent → Type 0
+AreHelps s n d desks start w [] = Unit {0}
+AreHelps s n d desks start w (e ∷ es) =
+    IsHelp d desks start w e × AreHelps s n d desks start (goes s n w e) es
+
+-- desk k starts where its log has more than this many entries, if desks do
+abbrev pub may_start : Bool → ℕ → ℕ → ℕ → World → World
+may_start false n k before u = u
+may_start true n k before u = started n k before u
+
+-- one whose log has not grown does not
+rests : (s : Bool) (n k before : ℕ) (u : World) → length (u.desks k).log ≤ before
+    → may_start s n k before u ≡ u
+rests false n k before u short = refl
+rests true n k before u short = go (nat_lt before (length (u.desks k).log)) refl
+  where
+    go : (t : Bool) → nat_lt before (length (u.desks k).log) ≡ t
+        → (if t && nat_lt 0 (length (u.desks k).queue) then at_desk n u k Start else u) ≡ u
+    go true t = absurd (grind (arith, nat_tests))
+    go false t = refl
+
+-- it is events of the world
+abbrev pub IsRunTo : ℕ → World → World → Type 0
+IsRunTo n w v = (es : List WorldEvent) × (run n w es ≡ v)
+
+run_starts : (n k before : ℕ) (w v : World) (e : WorldEvent) → happens n w e ≡ v
+    → IsRunTo n w (started n k before v)
+run_starts n k before w v e same = go (has_grown before (v.desks k))
+  where
+    go : (t : Bool) → IsRunTo n w (if t then at_desk n v k Start else v)
+    go true = (e ∷ StartAt k ∷ [], ap (λ u. at_desk n u k Start) same)
+    go false = (e ∷ [], same)
+
+run_goes : (s : Bool) (n : ℕ) (w : World) (e : WorldEvent) → IsRunTo n w (goes s n w e)
+run_goes false n w e = (e ∷ [], refl)
+run_goes true n w (SubmitAt d e) = ([], refl)
+run_goes true n w (StartAt d) = ([], refl)
+run_goes true n w (TickAt d) =
+    run_starts n d (length (w.desks d).log) w (at_desk n w d Tick) (TickAt d) refl
+run_goes true n w (DeliverNth k) = go (nth_sent w.sent k) refl
+  where
+    go : (o : Option Message) → nth_sent w.sent k ≡ o → IsRunTo n w (turn_of n w o)
+    go None same = ([], refl)
+    go (Some m) same =
+        run_starts n m.to (length (w.desks m.to).log) w (at_desk n w m.to (Deliver m))
+        (DeliverNth k) (ap (λ o. delivered n w o) same)
+run_goes true n w (RestartAt d) = ([], refl)
+
+pub run_goes_on : (s : Bool) (n : ℕ) (w : World) (es : List WorldEvent)
+    → IsRunTo n w (goes_on s n w es)
+run_goes_on s n w [] = ([], refl)
+run_goes_on s n w (e ∷ es) =
+    let h = run_goes s n w e in
+    let t = run_goes_on s n (goes s n w e) es in
+    (h.0 ++ t.0, run_append n w h.0 t.0 ∙ ap (λ v. run n v t.0) h.1 ∙ t.1)
+
+-- ---- the aim
+
 -- what is aimed at: desk d of n, which has these entries in its queue, is to have the first decided
 -- with the help of these desks, by messages after the first `start`. At first their logs are at
--- most `old` long, and no number among them is above `number`
+-- most `old` long, and no number among them is above `number`. Desks start where their logs grow,
+-- or do not
 pub record Aim : Type 0 where
+  pub starts : Bool
   pub n : ℕ
   pub d : ℕ
   pub desks : List ℕ
@@ -61,6 +139,33 @@ pub record Aim : Type 0 where
 abbrev pub lack : Aim → World → ℕ
 lack a w = 2 * lacking w a.top a.desks
 
+-- the numbers that desk d may still make by Starts: one for each entry that it lacks
+abbrev pub cost_of : Bool → ℕ → ℕ
+cost_of false lacks = 0
+cost_of true lacks = lacks
+
+abbrev pub cost : Aim → World → ℕ
+cost a w = cost_of a.starts (a.top - length (w.desks a.d).log)
+
+pub cost_less : (a : Aim) (v w : World) → length (w.desks a.d).log ≤ length (v.desks a.d).log
+    → cost a v ≤ cost a w
+cost_less a v w l = go a.starts
+  where
+    go : (s : Bool)
+        → cost_of s (a.top - length (v.desks a.d).log) ≤ cost_of s (a.top - length (w.desks a.d).log)
+    go false = omega arith
+    go true = omega (arith, l)
+
+-- an entry that it learns pays for one
+pub cost_pays : (a : Aim) (v w : World) → length (w.desks a.d).log < length (v.desks a.d).log
+    → length (w.desks a.d).log < a.top → cost a v + cost_of a.starts 1 ≤ cost a w
+cost_pays a v w l low = go a.starts
+  where
+    go : (s : Bool) → cost_of s (a.top - length (v.desks a.d).log) + cost_of s 1
+        ≤ cost_of s (a.top - length (w.desks a.d).log)
+    go false = omega arith
+    go true = omega (arith, l, low)
+
 -- the first entry is in the log, past what stood there, and there is room for another
 pub record IsDecided (a : Aim) (w : World) : Type 0 where
   pub reached : IsReached a.n w
@@ -70,16 +175,17 @@ pub record IsDecided (a : Aim) (w : World) : Type 0 where
   pub past : a.from ≤ at
   pub entry : slice_get (w.desks a.d).log at ≡ Some a.first
   pub lens : (k : ℕ) → Has a.desks k → length (w.desks k).log ≤ a.old + 2
-  pub promised : (k : ℕ) → Has a.desks k → (w.desks k).stored.promised.number ≤ a.number + 2
-  pub tried : (w.desks a.d).stored.tried ≤ a.number + 2
-  pub seen : (w.desks a.d).seen ≤ a.number + 2
+  pub promised : (k : ℕ) → Has a.desks k
+      → (w.desks k).stored.promised.number + cost a w ≤ a.number + 2
+  pub tried : (w.desks a.d).stored.tried + cost a w ≤ a.number + 2
+  pub seen : (w.desks a.d).seen + cost a w ≤ a.number + 2
 
 -- with help in this many events it is decided; what the desks then lack counts with these
 pub record Decides (a : Aim) (most : ℕ) (w : World) : Type 0 where
   pub events : List WorldEvent
-  pub help : AreHelp a.n a.d a.desks a.start w events
-  pub few : length events + lack a (run a.n w events) ≤ most
-  pub ends : IsDecided a (run a.n w events)
+  pub help : AreHelps a.starts a.n a.d a.desks a.start w events
+  pub few : length events + lack a (goes_on a.starts a.n w events) ≤ most
+  pub ends : IsDecided a (goes_on a.starts a.n w events)
 
 pub decides_here : (a : Aim) (most : ℕ) (w : World) → lack a w ≤ most → IsDecided a w
     → Decides a most w
@@ -97,12 +203,12 @@ decides_more a few many w l h =
 
 -- one event, and then others
 pub decides_by : (a : Aim) (few many : ℕ) (w v : World) (e : WorldEvent)
-    → IsHelp a.d a.desks a.start w e → happens a.n w e ≡ v → suc few ≤ many → Decides a few v
-    → Decides a many w
+    → IsHelp a.d a.desks a.start w e → goes a.starts a.n w e ≡ v → suc few ≤ many
+    → Decides a few v → Decides a many w
 decides_by a few many w v e h same l next =
     go (subst (λ (u : World). Decides a few u) (sym same) next)
   where
-    go : Decides a few (happens a.n w e) → Decides a many w
+    go : Decides a few (goes a.starts a.n w e) → Decides a many w
     go k =
         record {
           events = e ∷ k.events;
@@ -157,14 +263,12 @@ pub heeded_test : (n : ℕ) (m : Message) → IsInRange n m → is_heeded n m.to
 heeded_test n m r =
     both_true _ _ (both_true _ _ (self_test m.to) (desk_test n m.from r.from)) r.body
 
--- a message in range that was sent comes to its receiver, and is heeded
-pub deliver_is : (n : ℕ) (w : World) (i : ℕ) (m : Message) → IsInRange n m
-    → slice_get w.sent i ≡ Some m
-    → happens n w (DeliverNth (suc i)) ≡ carried w m.to
-    (on_body n m.to (w.desks m.to) m.from m.body)
-deliver_is n w i m r at =
-    ap (λ o. delivered n w o) at
-    ∙ ap (λ t. if t then world_after w m.to (step n m.to (w.desks m.to) (Deliver m)) else w)
+-- a message in range comes to its receiver, and is heeded
+heard_is : (n : ℕ) (w : World) (m : Message) → IsInRange n m
+    → at_desk n w m.to (Deliver m)
+    ≡ carried w m.to (on_body n m.to (w.desks m.to) m.from m.body)
+heard_is n w m r =
+    ap (λ t. if t then world_after w m.to (step n m.to (w.desks m.to) (Deliver m)) else w)
     (desk_test n m.to r.to)
     ∙ ap (λ t. world_after w m.to (if t then Ok
     (done (w.desks m.to) (on_body n m.to (w.desks m.to) m.from m.body)) else Ok
@@ -173,7 +277,7 @@ deliver_is n w i m r at =
 -- a Tick that is not refused
 pub tick_is : (n : ℕ) (w : World) (d : ℕ) (p : Plan) → IsDesk n d
     → tick n d (w.desks d).stored (length (w.desks d).log) (passing (w.desks d)) ≡ Ok p
-    → happens n w (TickAt d) ≡ carried w d p
+    → at_desk n w d Tick ≡ carried w d p
 tick_is n w d p ours h =
     ap (λ t. if t then world_after w d (step n d (w.desks d) Tick) else w) (desk_test n d ours)
     ∙ ap (λ r. world_after w d (planned (w.desks d) r)) h
@@ -262,11 +366,11 @@ logs_grow w k p j =
     (λ s. subst (λ (i : ℕ). length (w.desks i).log ≤ length (log_after (w.desks k).log p.change)) s
     (log_grows (w.desks k).log p.change)) (omega arith)
 
-lack_less : (a : Aim) (w : World) (k : ℕ) (p : Plan) → lack a (carried w k p) ≤ lack a w
+pub lack_less : (a : Aim) (w : World) (k : ℕ) (p : Plan) → lack a (carried w k p) ≤ lack a w
 lack_less a w k p =
     let l = lacking_less (carried w k p) w a.top a.desks (logs_grow w k p) in omega (arith, l)
 
-lack_pays : (a : Aim) (w : World) (k : ℕ) (p : Plan) (c : Entry) → Has a.desks k
+pub lack_pays : (a : Aim) (w : World) (k : ℕ) (p : Plan) (c : Entry) → Has a.desks k
     → p.change ≡ Some (Appended c) → length (w.desks k).log < a.top
     → lack a (carried w k p) + 2 ≤ lack a w
 lack_pays a w k p c i change low =
@@ -281,64 +385,87 @@ lack_pays a w k p c i change low =
         ∙ ap (λ o. length (log_after (w.desks k).log o)) change
         ∙ length-append (w.desks k).log (c ∷ [])
 
--- a pending message among the desks comes, and the receiver carries out this plan
-arrives : (a : Aim) (few many : ℕ) (w : World) (m : Message) (p : Plan) → IsReached a.n w
+-- a pending message among the desks comes, the receiver carries out this plan, and may start
+pub arrives : (a : Aim) (few many : ℕ) (w : World) (m : Message) (p : Plan) → IsReached a.n w
     → Has a.desks m.from → Has a.desks m.to → IsPending a w m
     → on_body a.n m.to (w.desks m.to) m.from m.body ≡ p → suc few ≤ many
-    → (IsReached a.n (carried w m.to p) → Decides a few (carried w m.to p)) → Decides a many w
+    → (IsReached a.n (carried w m.to p)
+    → Decides a few
+    (may_start a.starts a.n m.to (length (w.desks m.to).log) (carried w m.to p)))
+    → Decides a many w
 arrives a few many w m p r from to h same l next =
     let late = h.1 in
-    decides_by a few many w (carried w m.to p) (DeliverNth (suc h.0))
-    (omega (arith, late), subst (λ (o : Option Message). IsAmong a.desks o) (sym h.2) (from, to)) is
-    l
-    (next (subst (λ (v : World). IsReached a.n v) is (reached_more a.n w (DeliverNth (suc h.0)) r)))
+    decides_by a few many w (may_start a.starts a.n m.to before (carried w m.to p))
+    (DeliverNth (suc h.0))
+    (omega (arith, late), subst (λ (o : Option Message). IsAmong a.desks o) (sym h.2) (from, to))
+    (went a.starts) l
+    (next
+    (subst (λ (v : World). IsReached a.n v) (went false)
+    (reached_more a.n w (DeliverNth (suc h.0)) r)))
   where
+    before : ℕ
+    before = length (w.desks m.to).log
+
     range : IsInRange a.n m
     range =
         messages_are_in_range a.n r.past h.0 m
         (subst (λ (v : World). slice_get v.sent h.0 ≡ Some m) (sym r.same) h.2)
 
-    is : happens a.n w (DeliverNth (suc h.0)) ≡ carried w m.to p
-    is = deliver_is a.n w h.0 m range h.2 ∙ ap (λ q. carried w m.to q) same
+    is : at_desk a.n w m.to (Deliver m) ≡ carried w m.to p
+    is = heard_is a.n w m range ∙ ap (λ q. carried w m.to q) same
 
+    went : (s : Bool) → goes s a.n w (DeliverNth (suc h.0))
+        ≡ may_start s a.n m.to before (carried w m.to p)
+    went false = ap (λ o. delivered a.n w o) h.2 ∙ is
+    went true = ap (λ o. turn_of a.n w o) h.2 ∙ ap (λ v. started a.n m.to before v) is
+
+-- one whose log does not grow does not start
 pub comes : (a : Aim) (c : ℕ) (w : World) (m : Message) (p : Plan) → IsReached a.n w
     → Has a.desks m.from → Has a.desks m.to → IsPending a w m
     → on_body a.n m.to (w.desks m.to) m.from m.body ≡ p
+    → length (log_after (w.desks m.to).log p.change) ≤ length (w.desks m.to).log
     → (IsReached a.n (carried w m.to p)
     → Decides a (lack a (carried w m.to p) + c) (carried w m.to p))
     → Decides a (lack a w + suc c) w
-comes a c w m p r from to h same next =
+comes a c w m p r from to h same short next =
     let l = lack_less a w m.to p in
     arrives a (lack a (carried w m.to p) + c) (lack a w + suc c) w m p r from to h same
-    (omega (arith, l)) next
+    (omega (arith, l))
+    (λ reached. subst (λ (v : World). Decides a (lack a (carried w m.to p) + c) v)
+    (sym (rests a.starts a.n m.to (length (w.desks m.to).log) (carried w m.to p) still))
+    (next reached))
+  where
+    still : length ((carried w m.to p).desks m.to).log ≤ length (w.desks m.to).log
+    still =
+        let e = ap (λ y. length y.log) (put_self w.desks m.to (adopt (w.desks m.to) p)) in
+        let s = short in omega (arith, e, s)
 
--- where the receiver takes an entry, it pays for this event and for another
-pub takes : (a : Aim) (c : ℕ) (w : World) (m : Message) (p : Plan) (e : Entry) → IsReached a.n w
-    → Has a.desks m.from → Has a.desks m.to → IsPending a w m
-    → on_body a.n m.to (w.desks m.to) m.from m.body ≡ p → p.change ≡ Some (Appended e)
-    → length (w.desks m.to).log < a.top
-    → (IsReached a.n (carried w m.to p)
-    → Decides a (lack a (carried w m.to p) + suc c) (carried w m.to p))
-    → Decides a (lack a w + c) w
-takes a c w m p e r from to h same change low next =
-    let l = lack_pays a w m.to p e to change low in
-    arrives a (lack a (carried w m.to p) + suc c) (lack a w + c) w m p r from to h same
-    (omega (arith, l)) next
-
--- desk d ticks
+-- desk d ticks, and its log does not grow
 pub ticks : (a : Aim) (c : ℕ) (w : World) (p : Plan) → IsReached a.n w
     → tick a.n a.d (w.desks a.d).stored (length (w.desks a.d).log) (passing (w.desks a.d)) ≡ Ok p
+    → length (log_after (w.desks a.d).log p.change) ≤ length (w.desks a.d).log
     → (IsReached a.n (carried w a.d p)
     → Decides a (lack a (carried w a.d p) + c) (carried w a.d p))
     → Decides a (lack a w + suc c) w
-ticks a c w p r h next =
+ticks a c w p r h short next =
     let l = lack_less a w a.d p in
     decides_by a (lack a (carried w a.d p) + c) (lack a w + suc c) w (carried w a.d p) (TickAt a.d)
-    refl is (omega (arith, l))
+    refl (went a.starts) (omega (arith, l))
     (next (subst (λ (v : World). IsReached a.n v) is (reached_more a.n w (TickAt a.d) r)))
   where
     ours : IsDesk a.n a.d
     ours = let m = a.majority in m.ours a.d a.mine
 
-    is : happens a.n w (TickAt a.d) ≡ carried w a.d p
+    is : at_desk a.n w a.d Tick ≡ carried w a.d p
     is = tick_is a.n w a.d p ours h
+
+    still : length ((carried w a.d p).desks a.d).log ≤ length (w.desks a.d).log
+    still =
+        let e = ap (λ y. length y.log) (put_self w.desks a.d (adopt (w.desks a.d) p)) in
+        let s = short in omega (arith, e, s)
+
+    went : (s : Bool) → goes s a.n w (TickAt a.d) ≡ carried w a.d p
+    went false = is
+    went true =
+        ap (λ v. started a.n a.d (length (w.desks a.d).log) v) is
+        ∙ rests true a.n a.d (length (w.desks a.d).log) (carried w a.d p) still

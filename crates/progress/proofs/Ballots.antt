@@ -23,27 +23,15 @@ use Rattle.learner.specs.Order.{IsAtMost, IsBelow}
 use Rattle.learner.specs.Steps.{on_body}
 use Rattle.learner.specs.Worlds.{World}
 use Rattle.learner.proofs.Order.{below_from_less, at_most_from_below}
-use Rattle.progress.proofs.Aims.{Aim, lack, IsReached, Decides, decides_more, carried, put_same}
-use Rattle.progress.proofs.Aims.{put_self, IsPending, pending_new, comes, ticks}
+use Rattle.progress.proofs.Aims.{Aim, lack, cost, IsReached, Decides, decides_more, carried}
+use Rattle.progress.proofs.Aims.{put_same, put_self, IsPending, pending_new, comes, ticks}
 use Rattle.progress.proofs.Fits.{Fit, fit_more, seen_at, fit_plain, fit_tried}
 use Rattle.progress.proofs.Answers.{refuses, tells, gives_up, prepare_ahead, prepare_past}
 use Rattle.progress.proofs.Answers.{refused_at, nack_heard, is_own_gathering}
+use Rattle.progress.proofs.Starting.{IsFreeIn, IsFree, free_idle, all_pending}
 use Rattle.progress.proofs.Levels.{desks_same, Level, levels, Taken, pull}
-use Rattle.progress.proofs.Votes.{IsClear, Asks, Leads, self_same, hear_all}
-use Rattle.progress.proofs.Promises.{all_pending, Gathers, Proposes, gather_all}
-
--- the desk's Tick makes a ballot, once there is an entry in its queue
-abbrev pub IsFreeIn : Ballot → Role → Type 0
-IsFreeIn promised Idle = Unit {0}
-IsFreeIn promised (Gathering b pos heard) = Unit {0}
-IsFreeIn promised (Proposing b pos e heard) = ⊥
-IsFreeIn promised (Leading own) = IsBelow own promised
-
-abbrev pub IsFree : Desk → Type 0
-IsFree x = IsFreeIn x.stored.promised x.role
-
-pub free_idle : (x : Desk) → x.role ≡ Idle → IsFree x
-free_idle x h = subst (λ (r : Role). IsFreeIn x.stored.promised r) (sym h) tt
+use Rattle.progress.proofs.Votes.{IsClear, Asks, LeadsOrAsks, Leads, low_more, self_same, hear_all}
+use Rattle.progress.proofs.Promises.{Gathers, Proposes, gather_all}
 
 -- the Tick of a free desk that has an entry, room and a number left
 pub tick_makes : (n d : ℕ) (x : Desk) (e : Entry) (rest : List Entry)
@@ -113,7 +101,7 @@ tick_leads n d x b e rest role low queue room =
 abbrev pub known : Aim → World → ℕ
 known a w = last_number (w.desks a.d).stored (passing (w.desks a.d))
 
-known_under : (a : Aim) (r : ℕ) (w : World) → Fit a r w → known a w ≤ r
+known_under : (a : Aim) (r : ℕ) (w : World) → Fit a r w → known a w + cost a w ≤ r
 known_under a r w h =
     let t = h.tried in let p = h.promised a.d a.mine in let s = h.seen in omega (arith, t, p, s)
 
@@ -121,7 +109,7 @@ known_under a r w h =
 record Made (a : Aim) (r : ℕ) (b : Ballot) (w v : World) : Type 0 where
   pub fit : Fit a r v
   pub role : (v.desks a.d).role ≡ Gathering b (length (w.desks a.d).log) []
-  pub tried : b.number ≤ r
+  pub tried : b.number + cost a v ≤ r
   pub logs : (j : ℕ) → (v.desks j).log ≡ (w.desks j).log
   pub promised : (j : ℕ) → (v.desks j).stored.promised ≡ (w.desks j).stored.promised
   pub known : b.number ≤ known a v
@@ -129,7 +117,7 @@ record Made (a : Aim) (r : ℕ) (b : Ballot) (w v : World) : Type 0 where
       → IsPending a v (message a.d k (Prepare b (length (w.desks a.d).log)))
 
 makes_ballot : (a : Aim) (c r s : ℕ) (w : World) → Fit a r w → IsFree (w.desks a.d) → r ≤ s
-    → s ≤ a.number + 2 → known a w < s
+    → s ≤ a.number + 2 → known a w + cost a w < s
     → ((v : World) → Made a s (record { number = known a w + 1; desk = a.d }) w v
     → Decides a (lack a v + c) v)
     → Decides a (lack a w + suc c) w
@@ -138,13 +126,14 @@ makes_ballot a c r s w h free less under room next =
     (tick_makes a.n a.d x a.first a.rest free h.queue
     (let l = h.lens a.d a.mine in let o = a.room in omega (arith, l, o))
     (let o = a.numbers in omega (arith, o, under, room)))
+    (omega arith)
     (λ reached1. next v
     (record {
       fit = fit_tried a s w (known a w + 1) (Some (Gathering b (length x.log) []))
           (to_all a.n a.d (Prepare b (length x.log)))
           (fit_more a r s w less under h) reached1 (omega (arith, room));
       role = ap (λ y. y.role) self;
-      tried = omega (arith, room);
+      tried = low_more a s (known a w + 1) w a.d made (omega (arith, room));
       logs = λ j. put_same (λ y. y.log) w.desks a.d (adopt x made) refl j;
       promised = λ j. put_same (λ y. y.stored.promised) w.desks a.d (adopt x made) refl j;
       known = subst (λ (y : Desk). known a w + 1 ≤ last_number y.stored (passing y)) (sym self)
@@ -167,10 +156,34 @@ makes_ballot a c r s w h free less under room next =
     self : v.desks a.d ≡ adopt x made
     self = put_self w.desks a.d (adopt x made)
 
--- a desk that leads, and is not outbid, asks for votes for its first entry
+-- it has asked all for votes for its first entry
+pub asks_all : (a : Aim) (r m : ℕ) (C : Type 0) (b : Ballot) (w : World) → Fit a r w
+    → (w.desks a.d).role ≡ Proposing b m a.first [] → length (w.desks a.d).log ≡ m
+    → ((k : ℕ) → Has a.desks k → IsPending a w (message a.d k (Accept b m a.first)))
+    → b.number + cost a w ≤ r → (C → IsClear a b m w) → Asks a r C b m a.first a.desks [] w
+asks_all a r m C b w h role own asked low clear =
+    record {
+      fit = h;
+      role = role;
+      own = own;
+      asked = asked;
+      new = λ k i. refl;
+      within = λ k i. i;
+      distinct = most.distinct;
+      few = grind (arith, nat_tests);
+      enough = let many : a.n < 2 * length a.desks = most.many in omega (arith, many);
+      old = inr refl;
+      low = low;
+      clear = clear;
+    }
+  where
+    most : IsMajority a.n a.desks
+    most = a.majority
+
+-- a desk that leads, and is not outbid, asks for them
 pub lead_asks : (a : Aim) (c r m : ℕ) (C : Type 0) (b : Ballot) (w : World) → Fit a r w
     → (w.desks a.d).role ≡ Leading b → IsAtMost (w.desks a.d).stored.promised b
-    → length (w.desks a.d).log ≡ m → b.number ≤ r → (C → IsClear a b m w)
+    → length (w.desks a.d).log ≡ m → b.number + cost a w ≤ r → (C → IsClear a b m w)
     → ((v : World) → Asks a r C b m a.first a.desks [] v → Decides a (lack a v + c) v)
     → Decides a (lack a w + suc c) w
 lead_asks a c r m C b w h role low own number clear next =
@@ -178,31 +191,22 @@ lead_asks a c r m C b w h role low own number clear next =
     (tick_leads a.n a.d x b a.first a.rest role low h.queue
     (let l = h.lens a.d a.mine in let o = a.room in omega (arith, l, o))
     ∙ ap (λ l. Ok (ask a.n a.d (passing x) b l a.first)) own)
+    (omega arith)
     (λ reached1. next v
-    (record {
-      fit = fit_plain a r w a.d x.seen (Some (Proposing b m a.first []))
-          (to_all a.n a.d (Accept b m a.first)) h a.mine reached1 (λ s. h.seen);
-      role = ap (λ y. y.role) (put_self w.desks a.d (adopt x plan));
-      own = ap (λ y. length y.log) (put_self w.desks a.d (adopt x plan)) ∙ own;
-      asked = λ k i. all_pending a w plan (Accept b m a.first) k refl h.late i;
-      new = λ k i. refl;
-      within = λ k i. i;
-      distinct = most.distinct;
-      few = grind (arith, nat_tests);
-      enough = let many : a.n < 2 * length a.desks = most.many in omega (arith, many);
-      old = inr refl;
-      low = number;
-      clear = λ t j i. let q = clear t j i in (
-        subst (λ (s : Stored). IsAtMost s.promised b)
-            (sym (put_same (λ y. y.stored) w.desks a.d (adopt x plan) refl j)) q.0,
-        subst (λ (l : List Entry). length l ≤ m)
-            (sym (put_same (λ y. y.log) w.desks a.d (adopt x plan) refl j)) q.1,
-      );
-    }))
+    (asks_all a r m C b v
+    (fit_plain a r w a.d x.seen (Some (Proposing b m a.first []))
+    (to_all a.n a.d (Accept b m a.first)) h a.mine reached1 (λ s. h.seen))
+    (ap (λ y. y.role) (put_self w.desks a.d (adopt x plan)))
+    (ap (λ y. length y.log) (put_self w.desks a.d (adopt x plan)) ∙ own)
+    (λ k i. all_pending a w plan (Accept b m a.first) k refl h.late i)
+    (low_more a r b.number w a.d plan number)
+    (λ t j i. let q = clear t j i in (
+      subst (λ (s : Stored). IsAtMost s.promised b)
+          (sym (put_same (λ y. y.stored) w.desks a.d (adopt x plan) refl j)) q.0,
+      subst (λ (l : List Entry). length l ≤ m)
+          (sym (put_same (λ y. y.log) w.desks a.d (adopt x plan) refl j)) q.1,
+    ))))
   where
-    most : IsMajority a.n a.desks
-    most = a.majority
-
     x : Desk
     x = w.desks a.d
 
@@ -211,6 +215,18 @@ lead_asks a c r m C b w h role low own number clear next =
 
     v : World
     v = carried w a.d plan
+
+-- or it has asked by a Start
+pub leads_or_asks : (a : Aim) (c r m : ℕ) (C : Type 0) (b : Ballot) (w : World) → Fit a r w
+    → LeadsOrAsks a b m w → IsAtMost (w.desks a.d).stored.promised b
+    → length (w.desks a.d).log ≡ m → b.number + cost a w ≤ r → (C → IsClear a b m w)
+    → ((v : World) → Asks a r C b m a.first a.desks [] v → Decides a (lack a v + c) v)
+    → Decides a (lack a w + suc c) w
+leads_or_asks a c r m C b w h (inl role) low own number clear next =
+    lead_asks a c r m C b w h role low own number clear next
+leads_or_asks a c r m C b w h (inr asked) low own number clear next =
+    decides_more a (lack a w + c) (lack a w + suc c) w (omega arith)
+    (next w (asks_all a r m C b w h asked.0 own asked.1 number clear))
 
 -- its own entry is not another
 pub not_other : (e : Entry) → is_same_entry e e ≡ false → ⊥
@@ -251,17 +267,17 @@ last_ballot a r w h room free lens numbers =
         hear_all a 0 s (Unit {0}) b (suc m) a.first (λ u y. absurd (y.against tt))
         (λ u l t. absurd (not_other a.first t)) a.desks [] v g
 
-    leads : (f : Entry) (v : World) → Leads a s (Unit {0}) b m v → b.number ≤ s
+    leads : (f : Entry) (v : World) → Leads a s (Unit {0}) b m v
         → Decides a (lack a v + suc (3 * length a.desks + 0)) v
-    leads f v l tried =
-        lead_asks a (3 * length a.desks + 0) s (suc m) (Unit {0}) b v l.fit l.role
-        (l.clear tt a.d a.mine).0 l.own tried l.clear last
+    leads f v l =
+        leads_or_asks a (3 * length a.desks + 0) s (suc m) (Unit {0}) b v l.fit l.role
+        (l.clear tt a.d a.mine).0 l.own l.number l.clear last
 
     asks : (f : Entry) (v : World) → Proposes a s b m f v
         → Decides a (lack a v + (3 * length a.desks + suc (3 * length a.desks + 0))) v
     asks f v p =
         hear_all a (suc (3 * length a.desks + 0)) s (Unit {0}) b m f (λ u y. absurd (y.against tt))
-        (λ u l t. leads f u l p.tried) a.desks [] v
+        (λ u l t. leads f u l) a.desks [] v
         (record {
           fit = p.fit;
           role = p.role;
@@ -356,12 +372,13 @@ learns : (a : Aim) (r m k : ℕ) (b : Ballot) (w : World) → Fit a r w → r + 
 learns a r m k b w h room role own lens i most high asked here =
     comes a (suc (9 * length a.desks + 2)) w (message a.d k (Prepare b m)) (refuses x k a.d b m)
     h.reached a.mine i asked
-    (refused_at a.n a.d k x b m here (at_most_from_below b q above))
+    (refused_at a.n a.d k x b m here (at_most_from_below b q above)) (omega arith)
     (λ reached1. comes a (9 * length a.desks + 2) u (message k a.d (Nack b m q))
     (gives_up (u.desks a.d) q.number) reached1 i a.mine
     (pending_new a w k (refuses x k a.d b m) 0 (message k a.d (Nack b m q)) h.late refl)
     (nack_heard a.n a.d k (u.desks a.d) b m q
     (is_own_gathering (u.desks a.d) b m [] (ap (λ z. z.role) (same a.d) ∙ role)) above)
+    (omega arith)
     (λ reached2. last_ballot a r v (fit2 (fit1 reached1) reached2) room
     (free_idle (v.desks a.d) (ap (λ z. z.role) self))
     (λ j p. subst (λ (l : List Entry). length l ≤ length (v.desks a.d).log) (sym (logs j))
@@ -411,7 +428,8 @@ learns a r m k b w h room role own lens i most high asked here =
     fit2 : Fit a r u → IsReached a.n v → Fit a r v
     fit2 g reached2 =
         fit_plain a r u a.d (max (u.desks a.d).seen q.number) (Some Idle) [] g a.mine reached2
-        (λ s. let l = h.promised k i in let o = g.seen in omega (arith, l, o))
+        (λ s. let l = low_more a r q.number w k (refuses x k a.d b m) (h.promised k i) in
+        let o = g.seen in omega (arith, l, o))
 
 -- with the longest log, whatever was promised
 longest_decides : (a : Aim) (r : ℕ) (w : World) → Fit a r w → r + 1 ≤ a.number + 2
@@ -460,13 +478,13 @@ longest_decides a r w h room free lens =
             (λ u l. learns a r m k b u l.fit room (ap (λ z. z.role) l.own ∙ made.role)
             (ap (λ z. length z.log) l.own ∙ own v made)
             (λ j p. lens2 v made u l j p) g.1
-            (λ j p. subst (λ (s : Stored). s.promised.number ≤ (u.desks k).stored.promised.number)
-            (sym (l.stored j))
-            (subst (λ (s : Stored). (v.desks j).stored.promised.number ≤ s.promised.number)
-            (sym (l.stored k))
+            (λ j p. subst (λ (s : Ballot). s.number ≤ (u.desks k).stored.promised.number)
+            (sym (l.promised j))
+            (subst (λ (s : Ballot). (v.desks j).stored.promised.number ≤ s.number)
+            (sym (l.promised k))
             (subst (λ (s : Ballot). (v.desks j).stored.promised.number ≤ s.number)
             (sym (made.promised k)) (most1 v made j p))))
-            (subst (λ (s : Stored). known a w + 1 < s.promised.number) (sym (l.stored k))
+            (subst (λ (s : Ballot). known a w + 1 < s.number) (sym (l.promised k))
             (subst (λ (s : Ballot). known a w + 1 < s.number) (sym (made.promised k)) high))
             (l.sent (message a.d k (Prepare b m)) (made.asked k g.1)) l.here)
           where
@@ -541,7 +559,7 @@ free_decides a r w h under free = go (greatest (λ j. length (w.desks j).log) a.
             → Taken a (suc r) k len v u → Decides a (lack a u + all) u
         caught_up v logs u t =
             longest_decides a (suc r) u t.fit (omega (arith, under))
-            (free_idle (u.desks a.d) t.role) lens
+            t.free lens
           where
             lens : (j : ℕ) → Has a.desks j → length (u.desks j).log ≤ length (u.desks a.d).log
             lens j p = pick (a.d == j) refl
@@ -563,7 +581,7 @@ free_decides a r w h under free = go (greatest (λ j. length (w.desks j).log) a.
             → Decides a (lack a v + suc all) v
         asks less v made t =
             comes a all v (message a.d k (Prepare b m)) (tells (v.desks k) k a.d m t.0) f.reached
-            a.mine g.1 (made.asked k g.1) t.1
+            a.mine g.1 (made.asked k g.1) t.1 (omega arith)
             (λ reached1. pull a all (suc r) k len g.1 (len - suc m) u m t.0
             (fit_plain a (suc r) v k (v.desks k).seen None ms f g.1 reached1
             (seen_at a (suc r) v k f))

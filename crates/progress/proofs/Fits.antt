@@ -17,14 +17,16 @@ use Rattle.proposer.specs.Plans.{queue_after, begins_with, append}
 use Rattle.learner.specs.Chosen.{Has}
 use Rattle.learner.specs.Desks.{Desk, adopt, passing}
 use Rattle.learner.specs.Worlds.{World}
-use Rattle.progress.proofs.Aims.{Aim, IsReached, IsDecided, carried, put_at, put_self, late_more}
+use Rattle.progress.proofs.Aims.{Aim, IsReached, cost, cost_less, IsDecided, carried, put_at}
+use Rattle.progress.proofs.Aims.{put_self, late_more, logs_grow}
 
 -- the vote is no later than the logs were at first, or it is for the entry itself
 abbrev pub IsOldOr : Aim → Option Vote → Type 0
 IsOldOr a None = Unit {0}
 IsOldOr a (Some v) = (v.pos ≤ a.old) ⊎ (v.entry ≡ a.first)
 
--- the entry is not yet decided, no log is longer than `old` and one more, and no number is above r
+-- the entry is not yet decided, no log is longer than `old` and one more, and no number, with those
+-- that Starts may cost, is above r
 pub record Fit (a : Aim) (r : ℕ) (w : World) : Type 0 where
   pub reached : IsReached a.n w
   pub late : a.start ≤ length w.sent
@@ -32,9 +34,9 @@ pub record Fit (a : Aim) (r : ℕ) (w : World) : Type 0 where
   pub past : a.from ≤ length (w.desks a.d).log
   pub lens : (k : ℕ) → Has a.desks k → length (w.desks k).log ≤ a.old + 1
   pub votes : (k : ℕ) → Has a.desks k → IsOldOr a (w.desks k).stored.vote
-  pub promised : (k : ℕ) → Has a.desks k → (w.desks k).stored.promised.number ≤ r
-  pub tried : (w.desks a.d).stored.tried ≤ r
-  pub seen : (w.desks a.d).seen ≤ r
+  pub promised : (k : ℕ) → Has a.desks k → (w.desks k).stored.promised.number + cost a w ≤ r
+  pub tried : (w.desks a.d).stored.tried + cost a w ≤ r
+  pub seen : (w.desks a.d).seen + cost a w ≤ r
   pub under : r ≤ a.number + 2
 
 pub fit_more : (a : Aim) (r s : ℕ) (w : World) → r ≤ s → s ≤ a.number + 2 → Fit a r w → Fit a s w
@@ -52,18 +54,18 @@ fit_more a r s w l u h =
       under = u;
     }
 
--- what desk k has to keep, going from x to y
-pub record Keeps (a : Aim) (r k : ℕ) (x y : Desk) : Type 0 where
+-- what desk k has to keep, going from x to y, with these numbers to spare
+pub record Keeps (a : Aim) (r spare k : ℕ) (x y : Desk) : Type 0 where
   pub queue : k ≡ a.d → y.queue ≡ x.queue
   pub longer : length x.log ≤ length y.log
   pub lens : length y.log ≤ a.old + 1
   pub votes : IsOldOr a y.stored.vote
-  pub promised : y.stored.promised.number ≤ r
-  pub tried : k ≡ a.d → y.stored.tried ≤ r
-  pub seen : k ≡ a.d → y.seen ≤ r
+  pub promised : y.stored.promised.number + spare ≤ r
+  pub tried : k ≡ a.d → y.stored.tried + spare ≤ r
+  pub seen : k ≡ a.d → y.seen + spare ≤ r
 
 pub fit_goes : (a : Aim) (r : ℕ) (w : World) (k : ℕ) (p : Plan) → Fit a r w
-    → IsReached a.n (carried w k p) → Keeps a r k (w.desks k) (adopt (w.desks k) p)
+    → IsReached a.n (carried w k p) → Keeps a r (cost a w) k (w.desks k) (adopt (w.desks k) p)
     → Fit a r (carried w k p)
 fit_goes a r w k p h reached g =
     record {
@@ -77,15 +79,26 @@ fit_goes a r w k p h reached g =
       lens = λ j i. put_at (λ x. length x.log ≤ a.old + 1) w.desks k y j (λ s. g.lens) (h.lens j i);
       votes = λ j i. put_at (λ x. IsOldOr a x.stored.vote) w.desks k y j (λ s. g.votes)
           (h.votes j i);
-      promised = λ j i. put_at (λ x. x.stored.promised.number ≤ r) w.desks k y j (λ s. g.promised)
-          (h.promised j i);
-      tried = put_at (λ x. x.stored.tried ≤ r) w.desks k y a.d g.tried h.tried;
-      seen = put_at (λ x. x.seen ≤ r) w.desks k y a.d g.seen h.seen;
+      promised = λ j i. put_at (λ x. x.stored.promised.number + cost a v ≤ r) w.desks k y j
+          (λ s. let l = g.promised in let c = cheap in omega (arith, l, c))
+          (let l = h.promised j i in let c = cheap in omega (arith, l, c));
+      tried = put_at (λ x. x.stored.tried + cost a v ≤ r) w.desks k y a.d
+          (λ s. let l = g.tried s in let c = cheap in omega (arith, l, c))
+          (let l = h.tried in let c = cheap in omega (arith, l, c));
+      seen = put_at (λ x. x.seen + cost a v ≤ r) w.desks k y a.d
+          (λ s. let l = g.seen s in let c = cheap in omega (arith, l, c))
+          (let l = h.seen in let c = cheap in omega (arith, l, c));
       under = h.under;
     }
   where
     y : Desk
     y = adopt (w.desks k) p
+
+    v : World
+    v = carried w k p
+
+    cheap : cost a v ≤ cost a w
+    cheap = cost_less a v w (logs_grow w k p a.d)
 
 pub queue_kept : (q : List Entry) → queue_after q false ≡ q
 queue_kept [] = refl
@@ -99,7 +112,7 @@ makes seen role change ms =
 -- nothing of desk k's is stored
 pub fit_plain : (a : Aim) (r : ℕ) (w : World) (k seen : ℕ) (role : Option Role) (ms : List Message)
     → Fit a r w → Has a.desks k → IsReached a.n (carried w k (makes seen role None ms))
-    → (k ≡ a.d → seen ≤ r) → Fit a r (carried w k (makes seen role None ms))
+    → (k ≡ a.d → seen + cost a w ≤ r) → Fit a r (carried w k (makes seen role None ms))
 fit_plain a r w k seen role ms h i reached low =
     fit_goes a r w k (makes seen role None ms) h reached
     (record {
@@ -108,19 +121,20 @@ fit_plain a r w k seen role ms h i reached low =
       lens = h.lens k i;
       votes = h.votes k i;
       promised = h.promised k i;
-      tried = λ s. subst (λ (j : ℕ). (w.desks j).stored.tried ≤ r) (sym s) h.tried;
+      tried = λ s. subst (λ (j : ℕ). (w.desks j).stored.tried + cost a w ≤ r) (sym s) h.tried;
       seen = low;
     })
 
 -- what desk k has seen, where it is desk d
-pub seen_at : (a : Aim) (r : ℕ) (w : World) (k : ℕ) → Fit a r w → k ≡ a.d → (w.desks k).seen ≤ r
-seen_at a r w k h s = subst (λ (j : ℕ). (w.desks j).seen ≤ r) (sym s) h.seen
+pub seen_at : (a : Aim) (r : ℕ) (w : World) (k : ℕ) → Fit a r w → k ≡ a.d
+    → (w.desks k).seen + cost a w ≤ r
+seen_at a r w k h s = subst (λ (j : ℕ). (w.desks j).seen + cost a w ≤ r) (sym s) h.seen
 
 -- desk k promises
 pub fit_promised : (a : Aim) (r : ℕ) (w : World) (k : ℕ) (b : Ballot) (ms : List Message)
     → Fit a r w → Has a.desks k
     → IsReached a.n (carried w k (makes (w.desks k).seen None (Some (Promised b)) ms))
-    → b.number ≤ r
+    → b.number + cost a w ≤ r
     → Fit a r (carried w k (makes (w.desks k).seen None (Some (Promised b)) ms))
 fit_promised a r w k b ms h i reached low =
     fit_goes a r w k (makes (w.desks k).seen None (Some (Promised b)) ms) h reached
@@ -130,14 +144,14 @@ fit_promised a r w k b ms h i reached low =
       lens = h.lens k i;
       votes = h.votes k i;
       promised = low;
-      tried = λ s. subst (λ (j : ℕ). (w.desks j).stored.tried ≤ r) (sym s) h.tried;
+      tried = λ s. subst (λ (j : ℕ). (w.desks j).stored.tried + cost a w ≤ r) (sym s) h.tried;
       seen = seen_at a r w k h;
     })
 
 -- desk k votes
 pub fit_voted : (a : Aim) (r : ℕ) (w : World) (k : ℕ) (v : Vote) (ms : List Message) → Fit a r w
     → Has a.desks k → IsReached a.n (carried w k (makes (w.desks k).seen None (Some (Voted v)) ms))
-    → v.ballot.number ≤ r → (v.pos ≤ a.old) ⊎ (v.entry ≡ a.first)
+    → v.ballot.number + cost a w ≤ r → (v.pos ≤ a.old) ⊎ (v.entry ≡ a.first)
     → Fit a r (carried w k (makes (w.desks k).seen None (Some (Voted v)) ms))
 fit_voted a r w k v ms h i reached low old =
     fit_goes a r w k (makes (w.desks k).seen None (Some (Voted v)) ms) h reached
@@ -147,7 +161,7 @@ fit_voted a r w k v ms h i reached low old =
       lens = h.lens k i;
       votes = old;
       promised = low;
-      tried = λ s. subst (λ (j : ℕ). (w.desks j).stored.tried ≤ r) (sym s) h.tried;
+      tried = λ s. subst (λ (j : ℕ). (w.desks j).stored.tried + cost a w ≤ r) (sym s) h.tried;
       seen = seen_at a r w k h;
     })
 
@@ -155,7 +169,8 @@ fit_voted a r w k v ms h i reached low old =
 pub fit_tried : (a : Aim) (r : ℕ) (w : World) (number : ℕ) (role : Option Role) (ms : List Message)
     → Fit a r w → IsReached a.n (carried w a.d
     (makes (w.desks a.d).seen role (Some (Tried number)) ms))
-    → number ≤ r → Fit a r (carried w a.d (makes (w.desks a.d).seen role (Some (Tried number)) ms))
+    → number + cost a w ≤ r
+    → Fit a r (carried w a.d (makes (w.desks a.d).seen role (Some (Tried number)) ms))
 fit_tried a r w number role ms h reached low =
     fit_goes a r w a.d (makes (w.desks a.d).seen role (Some (Tried number)) ms) h reached
     (record {
@@ -182,7 +197,7 @@ fit_appended a r w k c role ms h i reached low other =
       lens = let l = length-append (w.desks k).log (c ∷ []) in omega (arith, l, low);
       votes = h.votes k i;
       promised = h.promised k i;
-      tried = λ s. subst (λ (j : ℕ). (w.desks j).stored.tried ≤ r) (sym s) h.tried;
+      tried = λ s. subst (λ (j : ℕ). (w.desks j).stored.tried + cost a w ≤ r) (sym s) h.tried;
       seen = seen_at a r w k h;
     })
   where
@@ -225,15 +240,16 @@ fit_decided a r w c role ms h reached same =
           (λ s. let l = length-append x.log (c ∷ []) in let o = h.lens a.d a.mine in omega
           (arith, l, o))
           (let o = h.lens j i in omega (arith, o));
-      promised = λ j i. put_at (λ z. z.stored.promised.number ≤ a.number + 2) w.desks a.d y j
-          (λ s. let o = h.promised a.d a.mine in omega (arith, o, under))
-          (let o = h.promised j i in omega (arith, o, under));
-      tried = put_at (λ z. z.stored.tried ≤ a.number + 2) w.desks a.d y a.d
-          (λ s. let o = h.tried in omega (arith, o, under))
-          (let o = h.tried in omega (arith, o, under));
-      seen = put_at (λ z. z.seen ≤ a.number + 2) w.desks a.d y a.d
-          (λ s. let o = h.seen in omega (arith, o, under))
-          (let o = h.seen in omega (arith, o, under));
+      promised = λ j i. put_at (λ z. z.stored.promised.number + cost a v ≤ a.number + 2) w.desks a.d
+          y j
+          (λ s. let o = h.promised a.d a.mine in let c = cheap in omega (arith, o, c, under))
+          (let o = h.promised j i in let c = cheap in omega (arith, o, c, under));
+      tried = put_at (λ z. z.stored.tried + cost a v ≤ a.number + 2) w.desks a.d y a.d
+          (λ s. let o = h.tried in let c = cheap in omega (arith, o, c, under))
+          (let o = h.tried in let c = cheap in omega (arith, o, c, under));
+      seen = put_at (λ z. z.seen + cost a v ≤ a.number + 2) w.desks a.d y a.d
+          (λ s. let o = h.seen in let c = cheap in omega (arith, o, c, under))
+          (let o = h.seen in let c = cheap in omega (arith, o, c, under));
     }
   where
     x : Desk
@@ -247,6 +263,12 @@ fit_decided a r w c role ms h reached same =
 
     self : (carried w a.d p).desks a.d ≡ y
     self = put_self w.desks a.d y
+
+    v : World
+    v = carried w a.d p
+
+    cheap : cost a v ≤ cost a w
+    cheap = cost_less a v w (logs_grow w a.d p a.d)
 
     under : r ≤ a.number + 2
     under = h.under

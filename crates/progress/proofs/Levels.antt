@@ -17,10 +17,12 @@ use Rattle.learner.specs.Steps.{on_body}
 use Rattle.learner.specs.Worlds.{World}
 use Rattle.progress.proofs.Aims.{Aim, lack, IsReached, Decides, decides_here, decides_more, carried}
 use Rattle.progress.proofs.Aims.{put_other, put_same, put_self, IsPending, pending_more}
-use Rattle.progress.proofs.Aims.{pending_new, comes, takes}
+use Rattle.progress.proofs.Aims.{pending_new, comes}
 use Rattle.progress.proofs.Fits.{Fit, makes, queue_kept, seen_at, fit_plain, fit_appended}
 use Rattle.progress.proofs.Fits.{fit_decided}
-use Rattle.progress.proofs.Answers.{asks_more, takes_in, taken_at, told_at}
+use Rattle.progress.proofs.Answers.{asks_more, takes_in, told_at}
+use Rattle.progress.proofs.Starting.{IsFree, Started, takes, fit_started, start_paid}
+use Rattle.progress.proofs.Starting.{decided_started}
 
 -- what only says something leaves the desk as it is
 pub said_same : (x : Desk) (ms : List Message) → adopt x (makes x.seen None None ms) ≡ x
@@ -46,7 +48,7 @@ pub record Level (a : Aim) (r k len : ℕ) (w v : World) : Type 0 where
   pub own : v.desks a.d ≡ w.desks a.d
   pub here : length (v.desks k).log ≡ len
   pub others : (j : ℕ) → ¬ (k ≡ j) → v.desks j ≡ w.desks j
-  pub stored : (j : ℕ) → (v.desks j).stored ≡ (w.desks j).stored
+  pub promised : (j : ℕ) → (v.desks j).stored.promised ≡ (w.desks j).stored.promised
   pub sent : (m : Message) → IsPending a w m → IsPending a v m
 
 -- desk d tells desk k its next entry, and desk k takes it
@@ -68,17 +70,17 @@ push_one a c r k len w i h own less asked next = telling
         (message a.d k (Decided m y) ∷ more))
         → Decides a (lack a w + suc c) w
     telling t =
-        comes a c w (message k a.d (Behind m)) p h.reached i a.mine asked t.2
-        (λ reached1. takes a c u (message a.d k (Decided m t.0)) taken t.0 reached1 a.mine i
-        (pending_new a w a.d p 0 (message a.d k (Decided m t.0)) h.late refl)
-        (taken_at a.n a.d k (u.desks k) m t.0 (ap (λ z. length z.log) (desks_same w a.d ms k))) refl
-        (let s = ap (λ z. length z.log) (desks_same w a.d ms k) in let l = h.lens a.d a.mine in
-        let z = a.tall in omega (arith, s, l, z, own, less))
-        (λ reached2. next v (level reached1 reached2)
+        comes a c w (message k a.d (Behind m)) p h.reached i a.mine asked t.2 (omega arith)
+        (λ reached1. takes a c u k a.d m t.0 reached1 a.mine i
+        (pending_new a w a.d p 0 (message a.d k (Decided m t.0)) h.late refl) same
+        (let s = same in let l = h.lens a.d a.mine in let z = a.tall in omega
+        (arith, s, l, z, own, less))
+        (λ v s free. next v (level reached1 v s)
         (subst (λ (l : ℕ). IsPending a v (message k a.d (Behind l)))
-        (sym (long ∙ omega (arith, same)))
+        (sym (ap (λ z. length z) (s.logs k) ∙ long))
+        (s.sent (message k a.d (Behind (length (u.desks k).log + 1)))
         (pending_new a u k taken 0 (message k a.d (Behind (length (u.desks k).log + 1)))
-        (fit1 reached1).late refl))))
+        (fit1 reached1).late refl)))))
       where
         ms : List Message
         ms = message a.d k (Decided m t.0) ∷ t.1
@@ -95,10 +97,10 @@ push_one a c r k len w i h own less asked next = telling
         taken : Plan
         taken = takes_in (u.desks k) k a.d t.0
 
-        v : World
-        v = carried u k taken
+        after : World
+        after = carried u k taken
 
-        long : length (v.desks k).log ≡ length (u.desks k).log + 1
+        long : length (after.desks k).log ≡ length (u.desks k).log + 1
         long = ap (λ z. length z.log) (put_self u.desks k (adopt (u.desks k) taken))
             ∙ length-append (u.desks k).log (t.0 ∷ [])
 
@@ -109,22 +111,25 @@ push_one a c r k len w i h own less asked next = telling
         fit1 reached1 = fit_plain a r w a.d (w.desks a.d).seen None ms h a.mine reached1
             (λ s. h.seen)
 
-        level : IsReached a.n u → IsReached a.n v → Level a r k (suc m) w v
-        level reached1 reached2 =
+        level : IsReached a.n u → (v : World) → Started a k after v → Level a r k (suc m) w v
+        level reached1 v s =
             record {
-              fit = fit_appended a r u k t.0 Idle
+              fit = fit_started a r k after v s
+                  (fit_appended a r u k t.0 Idle
                   (message k a.d (Behind (length (u.desks k).log + 1)) ∷ []) (fit1 reached1) i
-                  reached2
-                  (let l = h.lens a.d a.mine in let s = same in omega (arith, l, s, own, less))
-                  (λ s. absurd (apart s));
-              own = put_other u.desks k (adopt (u.desks k) taken) a.d apart
+                  s.first
+                  (let l = h.lens a.d a.mine in let e = same in omega (arith, l, e, own, less))
+                  (λ e. absurd (apart e)))
+                  (λ e. absurd (apart e));
+              own = s.others a.d apart ∙ put_other u.desks k (adopt (u.desks k) taken) a.d apart
                   ∙ desks_same w a.d ms a.d;
-              here = long ∙ (let s = same in omega (arith, s));
-              others = λ j ne. put_other u.desks k (adopt (u.desks k) taken) j ne
-                  ∙ desks_same w a.d ms j;
-              stored = λ j. put_same (λ z. z.stored) u.desks k (adopt (u.desks k) taken) refl j
-                  ∙ ap (λ z. z.stored) (desks_same w a.d ms j);
-              sent = λ x z. pending_more a u k taken x (pending_more a w a.d p x z);
+              here = ap (λ z. length z) (s.logs k) ∙ long ∙ (let e = same in omega (arith, e));
+              others = λ j ne. s.others j ne
+                  ∙ put_other u.desks k (adopt (u.desks k) taken) j ne ∙ desks_same w a.d ms j;
+              promised = λ j. s.promised j
+                  ∙ put_same (λ z. z.stored.promised) u.desks k (adopt (u.desks k) taken) refl j
+                  ∙ ap (λ z. z.stored.promised) (desks_same w a.d ms j);
+              sent = λ x z. s.sent x (pending_more a u k taken x (pending_more a w a.d p x z));
             }
 
 level_on : (a : Aim) (r k l len : ℕ) (w u v : World) → Level a r k l w u → Level a r k len u v
@@ -135,7 +140,7 @@ level_on a r k l len w u v h g =
       own = g.own ∙ h.own;
       here = g.here;
       others = λ j ne. g.others j ne ∙ h.others j ne;
-      stored = λ j. g.stored j ∙ h.stored j;
+      promised = λ j. g.promised j ∙ h.promised j;
       sent = λ m z. g.sent m (h.sent m z);
     }
 
@@ -161,7 +166,7 @@ level_here a r k w h =
       own = refl;
       here = refl;
       others = λ j ne. refl;
-      stored = λ j. refl;
+      promised = λ j. refl;
       sent = λ m
           z. z;
     }
@@ -185,6 +190,7 @@ levels a c r k len w body i h own under asked ahead next = go (nat_lt (length (w
         (arith, q, under)) in g) (level_here a r k w h)))
     go true t =
         comes a (suc c) w (message a.d k body) p h.reached a.mine i asked (ahead (w.desks k) less)
+        (omega arith)
         (λ reached1. push a c r k len i (len - suc (length (w.desks k).log)) u (fit1 reached1)
         (ap (λ z. length z.log) (same a.d) ∙ own)
         (let s = ap (λ z. length z.log) (same k) in let l = less in omega (arith, s, l))
@@ -197,7 +203,7 @@ levels a c r k len w body i h own under asked ahead next = go (nat_lt (length (w
           own = g.own ∙ same a.d;
           here = g.here;
           others = λ j ne. g.others j ne ∙ same j;
-          stored = λ j. g.stored j ∙ ap (λ z. z.stored) (same j);
+          promised = λ j. g.promised j ∙ ap (λ z. z.stored.promised) (same j);
           sent = λ m z. g.sent m (pending_more a w k p m z);
         })))
       where
@@ -219,10 +225,10 @@ levels a c r k len w body i h own under asked ahead next = go (nat_lt (length (w
         fit1 : IsReached a.n u → Fit a r u
         fit1 reached1 = fit_plain a r w k (w.desks k).seen None ms h i reached1 (seen_at a r w k h)
 
--- desk d has taken an entry, and asks for the next
+-- desk d has taken an entry, and asked for the next
 pub record Taken (a : Aim) (r k len : ℕ) (w v : World) : Type 0 where
   pub fit : Fit a r v
-  pub role : (v.desks a.d).role ≡ Idle
+  pub free : IsFree (v.desks a.d)
   pub here : length (v.desks a.d).log ≡ len
   pub others : (j : ℕ) → ¬ (a.d ≡ j) → v.desks j ≡ w.desks j
 
@@ -233,43 +239,49 @@ pub take_one : (a : Aim) (c r k m : ℕ) (w : World) (e : Entry) → Has a.desks
     → Decides a (lack a v + suc c) v)
     → Decides a (lack a w + c) w
 take_one a c r k m w e i h own low told next =
-    takes a c w (message k a.d (Decided m e)) taken e h.reached i a.mine told
-    (taken_at a.n k a.d x m e own) refl (let z = a.tall in omega (arith, own, low, z))
-    (λ reached1. go (is_same_entry a.first e) refl reached1)
+    takes a c w a.d k m e h.reached i a.mine told own short
+    (λ v s free. go (is_same_entry a.first e) refl v s free)
   where
     x : Desk
     x = w.desks a.d
 
-    taken : Plan
-    taken = takes_in x a.d k e
-
-    v : World
-    v = carried w a.d taken
-
     ms : List Message
     ms = message a.d k (Behind (length x.log + 1)) ∷ []
 
-    self : v.desks a.d ≡ adopt x taken
-    self = put_self w.desks a.d (adopt x taken)
+    taken : Plan
+    taken = takes_in x a.d k e
 
-    long : length (v.desks a.d).log ≡ suc m
-    long = ap (λ z. length z.log) self ∙ length-append x.log (e ∷ []) ∙ omega (arith, own)
+    u : World
+    u = carried w a.d taken
 
-    go : (t : Bool) → is_same_entry a.first e ≡ t → IsReached a.n v → Decides a (lack a v + suc c) v
-    go true t reached1 =
-        decides_here a (lack a v + suc c) v (omega arith) (fit_decided a r w e Idle ms h reached1 t)
-    go false t reached1 =
+    short : length x.log < a.top
+    short = let z = a.tall in omega (arith, own, low, z)
+
+    long : length (u.desks a.d).log ≡ suc m
+    long = ap (λ z. length z.log) (put_self w.desks a.d (adopt x taken))
+        ∙ length-append x.log (e ∷ []) ∙ omega (arith, own)
+
+    go : (t : Bool) → is_same_entry a.first e ≡ t → (v : World) → Started a a.d u v
+        → IsFree (v.desks a.d) → Decides a (lack a v + suc c) v
+    go true t v s free =
+        decides_here a (lack a v + suc c) v (omega arith)
+        (decided_started a u v s (fit_decided a r w e Idle ms h s.first t)
+        (let l = start_paid a r w e Idle ms v h short s in let y = h.under in omega (arith, l, y)))
+    go false t v s free =
         next v
         (record {
-          fit = fit_appended a r w a.d e Idle ms h a.mine reached1 (omega (arith, own, low))
-              (λ s. t);
-          role = ap (λ z. z.role) self;
-          here = long;
-          others = λ j ne. put_other w.desks a.d (adopt x taken) j ne;
+          fit = fit_started a r a.d u v s
+              (fit_appended a r w a.d e Idle ms h a.mine s.first (omega (arith, own, low))
+              (λ q. t))
+              (λ q. start_paid a r w e Idle ms v h short s);
+          free = free;
+          here = ap (λ z. length z) (s.logs a.d) ∙ long;
+          others = λ j ne. s.others j ne ∙ put_other w.desks a.d (adopt x taken) j ne;
         })
-        (subst (λ (l : ℕ). IsPending a v (message a.d k (Behind l)))
-        (let s : length x.log + 1 ≡ suc m = omega (arith, own) in s)
-        (pending_new a w a.d taken 0 (message a.d k (Behind (length x.log + 1))) h.late refl))
+        (s.sent (message a.d k (Behind (suc m)))
+        (subst (λ (l : ℕ). IsPending a u (message a.d k (Behind l)))
+        (let q : length x.log + 1 ≡ suc m = omega (arith, own) in q)
+        (pending_new a w a.d taken 0 (message a.d k (Behind (length x.log + 1))) h.late refl)))
 
 -- desk d takes all that desk k has more
 pub pull : (a : Aim) (c r k len : ℕ) → Has a.desks k → (gap : ℕ) (w : World) (m : ℕ) (e : Entry)
@@ -304,7 +316,7 @@ pull a c r k len i (suc gap) w m e h own short there told next =
         (message k a.d (Decided (suc m) y) ∷ more))
         → Decides a (lack a v + suc c) v
     tells_next again v t q s =
-        comes a c v (message a.d k (Behind (suc m))) p f.reached a.mine i q s.2
+        comes a c v (message a.d k (Behind (suc m))) p f.reached a.mine i q s.2 (omega arith)
         (λ reached1. again u s.0
         (fit_plain a r v k (v.desks k).seen None ms f i reached1 (seen_at a r v k f))
         (ap (λ z. length z.log) (desks_same v k ms a.d) ∙ t.here) (omega (arith, short))
@@ -313,7 +325,7 @@ pull a c r k len i (suc gap) w m e h own short there told next =
         (λ z g. next z
         (record {
           fit = g.fit;
-          role = g.role;
+          free = g.free;
           here = g.here;
           others = λ j ne. g.others j ne ∙ desks_same v k ms j ∙ t.others j ne;
         })))

@@ -1,6 +1,7 @@
 pub mod Aims
 pub mod Fits
 pub mod Answers
+pub mod Starting
 pub mod Levels
 pub mod Votes
 pub mod Promises
@@ -8,15 +9,4 @@ pub mod Ballots
 pub mod Standing
 pub mod Roles
 pub mod Queue
-pub mod Turning
-pub mod TurnFits
-pub mod TurnFilters
-pub mod TurnSelf
-pub mod TurnDone
-pub mod TurnLevels
-pub mod TurnVotes
-pub mod TurnPromises
-pub mod TurnBallots
-pub mod TurnRoles
-pub mod TurnQueue
 pub mod Tangle

@@ -1,17 +1,17 @@
 -- Desk d gathers promises of a ballot against which nothing is, until it can ask for votes.
-use Rattle.std.proofs.Common.{◌≡◌, ℕ, zero, suc, ◌≤◌, ◌<◌, ◌+◌, ◌*◌, Bool, true, false}
+use Rattle.std.proofs.Common.{◌≡◌, ℕ, suc, ◌≤◌, ◌<◌, ◌+◌, ◌*◌, Bool, true, false}
 use Rattle.std.proofs.Common.{if◌then◌else◌, ◌==◌, List, [], ◌∷◌, ◌⊎◌, inl, inr, Option, Some, None}
-use Rattle.std.proofs.Common.{length, slice_get, refl, sym, ap, ◌∙◌, subst, arith}
+use Rattle.std.proofs.Common.{length, refl, sym, ap, ◌∙◌, subst, arith}
 use Rattle.std.proofs.lemmas.Bool.Decides.{nat_tests}
 use Rattle.acceptor.specs.declared.ballot.Ballot.{Ballot}
 use Rattle.acceptor.specs.Ballots.{is_below}
 use Rattle.acceptor.specs.declared.entry.Entry.{Entry}
 use Rattle.acceptor.specs.declared.message.Report.{Report}
-use Rattle.acceptor.specs.declared.message.Body.{Body}
 use Rattle.acceptor.specs.declared.message.Body.TheVariants.{Prepare, Promise, Accept}
 use Rattle.acceptor.specs.declared.stored.Stored.{Stored}
 use Rattle.acceptor.specs.declared.stored.Vote.{Vote}
-use Rattle.acceptor.specs.Messages.{message, desks_from, to_each, to_all}
+use Rattle.acceptor.specs.Messages.{message, to_all}
+use Rattle.acceptor.specs.Storing.{log_after}
 use Rattle.acceptor.specs.Answers.{reported}
 use Rattle.proposer.specs.declared.role.PromisingDesk.{PromisingDesk}
 use Rattle.proposer.specs.declared.role.Role.TheVariants.{Gathering, Proposing}
@@ -22,47 +22,16 @@ use Rattle.proposer.specs.Proposing.{promises_heard}
 use Rattle.learner.specs.Chosen.{Has, IsDistinct}
 use Rattle.learner.specs.Desks.{Desk, adopt, passing}
 use Rattle.learner.specs.Order.{IsBelow}
-use Rattle.learner.specs.Steps.{IsDesk}
 use Rattle.learner.specs.Worlds.{World}
 use Rattle.learner.proofs.Order.{at_most_self}
-use Rattle.progress.proofs.Aims.{Aim, lack, IsReached, Decides, decides_more, carried, put_other}
-use Rattle.progress.proofs.Aims.{put_same, put_self, IsPending, pending_more, pending_new, comes}
+use Rattle.progress.proofs.Aims.{Aim, lack, cost, cost_less, IsReached, Decides, decides_more}
+use Rattle.progress.proofs.Aims.{carried, put_other, put_same, put_self, IsPending, pending_more}
+use Rattle.progress.proofs.Aims.{pending_new, comes}
 use Rattle.progress.proofs.Fits.{IsOldOr, Fit, fit_plain, fit_promised}
 use Rattle.progress.proofs.Answers.{promises, prepare_ahead, promised_at, promise_heard}
+use Rattle.progress.proofs.Starting.{all_pending}
 use Rattle.progress.proofs.Levels.{levels}
-use Rattle.progress.proofs.Votes.{IsClear, clear_level, clear_at, not_same, heard_test}
-
--- among what is sent to all is what is sent to one
-pub each_get : (from : ℕ) (body : Body) (first count k : ℕ) → first ≤ k → k < first + count
-    → (i : ℕ) × (slice_get (to_each from (desks_from first count) body) i ≡ Some
-    (message from k body))
-each_get from body first zero k low high = absurd (omega (arith, low, high))
-each_get from body first (suc count) k low high =
-    go (first == k) refl (λ above. each_get from body (suc first) count k above
-    (omega (arith, high)))
-  where
-    go : (t : Bool) → (first == k) ≡ t
-        → (suc first ≤ k → (i : ℕ) × (slice_get (to_each from (desks_from (suc first) count) body)
-        i ≡ Some (message from k body)))
-        → (i : ℕ) × (slice_get (to_each from (desks_from first (suc count)) body) i ≡ Some
-        (message from k body))
-    go true e ih = let same : first ≡ k = grind (arith, nat_tests) in
-        (0, ap (λ j. Some (message from j body)) same)
-    go false e ih =
-        let above : suc first ≤ k = grind (arith, nat_tests) in
-        let r = ih above in (suc r.0, r.1)
-
--- what desk d sends to all comes to each of the desks
-pub all_pending : (a : Aim) (w : World) (p : Plan) (body : Body) (k : ℕ)
-    → p.messages ≡ to_all a.n a.d body → a.start ≤ length w.sent → Has a.desks k
-    → IsPending a (carried w a.d p) (message a.d k body)
-all_pending a w p body k same late i =
-    let ours : IsDesk a.n k = (let m = a.majority in m.ours k i) in
-    let low = ours.0 in
-    let high = ours.1 in
-    let g = each_get a.d body 1 a.n k low (omega (arith, high)) in
-    pending_new a w a.d p g.0 (message a.d k body) late
-    (ap (λ ms. slice_get ms g.0) same ∙ g.1)
+use Rattle.progress.proofs.Votes.{IsClear, low_more, clear_level, clear_at, not_same, heard_test}
 
 -- a vote that is reported is for an old position, or for the entry itself
 abbrev pub IsFair : Aim → ℕ → Option Report → Type 0
@@ -111,7 +80,7 @@ pub record Gathers (a : Aim) (r : ℕ) (b : Ballot) (m : ℕ) (left : List ℕ)
   pub fair : IsFair a m (highest heard)
   pub low : (k : ℕ) → Has left k → IsBelow (w.desks k).stored.promised b
   pub clear : IsClear a b m w
-  pub tried : b.number ≤ r
+  pub tried : b.number + cost a w ≤ r
 
 -- desk d has asked all for their votes, and nothing is against its ballot
 pub record Proposes (a : Aim) (r : ℕ) (b : Ballot) (m : ℕ) (f : Entry) (w : World) : Type 0 where
@@ -121,7 +90,13 @@ pub record Proposes (a : Aim) (r : ℕ) (b : Ballot) (m : ℕ) (f : Entry) (w : 
   pub asked : (k : ℕ) → Has a.desks k → IsPending a w (message a.d k (Accept b m f))
   pub old : (m ≤ a.old) ⊎ (f ≡ a.first)
   pub clear : IsClear a b m w
-  pub tried : b.number ≤ r
+  pub tried : b.number + cost a w ≤ r
+
+-- the entry that is to be proposed does not change the log
+still_proposes : (n d : ℕ) (x : Desk) (b : Ballot) (m : ℕ) (o : Option Entry)
+    → length (log_after x.log (propose n d (passing x) b m o).change) ≤ length x.log
+still_proposes n d x b m None = omega arith
+still_proposes n d x b m (Some e) = omega arith
 
 -- a desk promises
 gives : (a : Aim) (c r : ℕ) (b : Ballot) (m k : ℕ) (ks : List ℕ) (heard : List PromisingDesk)
@@ -133,11 +108,12 @@ gives : (a : Aim) (c r : ℕ) (b : Ballot) (m k : ℕ) (ks : List ℕ) (heard : 
     → Decides a (lack a w + suc (suc c)) w
 gives a c r b m k ks heard w g here proposes again =
     comes a (suc c) w (message a.d k (Prepare b m)) promising fit.reached a.mine i
-    (g.asked k (inl refl)) (promised_at a.n a.d k x b m here (g.low k (inl refl)))
+    (g.asked k (inl refl)) (promised_at a.n a.d k x b m here (g.low k (inl refl))) (omega arith)
     (λ reached1. comes a c u (message k a.d (Promise b m vote))
     (promises_heard a.n a.d (passing z) b m more) reached1 i a.mine
     (pending_new a w k promising 0 (message k a.d (Promise b m vote)) fit.late refl)
     (promise_heard a.n a.d k z b m heard vote role1 (g.new k (inl refl)))
+    (still (is_majority a.n (length more)))
     (count (fit1 reached1) (is_majority a.n (length more)) refl))
   where
     fit : Fit a r w
@@ -188,6 +164,13 @@ gives a c r b m k ks heard w g here proposes again =
     next : Bool → Plan
     next t = if t then propose a.n a.d (passing z) b m (choice (highest more) z.queue) else waits
 
+    still : (t : Bool) → length (log_after z.log (next t).change) ≤ length z.log
+    still true = still_proposes a.n a.d z b m (choice (highest more) z.queue)
+    still false = omega arith
+
+    tried1 : b.number + cost a u ≤ r
+    tried1 = low_more a r b.number w k promising g.tried
+
     count : Fit a r u → (t : Bool) → is_majority a.n (length more) ≡ t
         → IsReached a.n (carried u a.d (next t))
         → Decides a (lack a (carried u a.d (next t)) + c) (carried u a.d (next t))
@@ -211,7 +194,7 @@ gives a c r b m k ks heard w g here proposes again =
               old = f.2;
               clear = clear_at a b m m u a.d plan (clear1 a.d a.mine).0
                   (let o = own1 in omega (arith, o)) (omega arith) clear1;
-              tried = g.tried;
+              tried = low_more a r b.number u a.d plan tried1;
             }))
           where
             plan : Plan
@@ -241,7 +224,7 @@ gives a c r b m k ks heard w g here proposes again =
               (g.low j (inr q));
           clear = clear_at a b m m u a.d waits (clear1 a.d a.mine).0
               (let o = own1 in omega (arith, o)) (omega arith) clear1;
-          tried = g.tried;
+          tried = low_more a r b.number u a.d waits tried1;
         })
       where
         stored2 : (j : ℕ) → Has ks j → ((carried u a.d waits).desks j).stored ≡ (w.desks j).stored
@@ -272,9 +255,11 @@ gather_one a c r b m k ks heard w g proposes again =
       few = g.few;
       enough = g.enough;
       fair = g.fair;
-      low = λ j q. subst (λ (s : Stored). IsBelow s.promised b) (sym (l.stored j)) (g.low j q);
+      low = λ j q. subst (λ (q : Ballot). IsBelow q b) (sym (l.promised j)) (g.low j q);
       clear = clear_level a r b k m w v l g.clear;
-      tried = g.tried;
+      tried = let c = cost_less a v w
+          (let e = ap (λ z. length z.log) l.own in omega (arith, e)) in
+          let o = g.tried in omega (arith, o, c);
     }) l.here proposes again)
   where
     i : Has a.desks k

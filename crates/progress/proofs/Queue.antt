@@ -1,5 +1,6 @@
--- The entries of desk d's queue are decided one after the other.
-use Rattle.std.proofs.Common.{◌≡◌, ℕ, zero, suc, ◌≤◌, ◌+◌, ◌*◌, max, List, [], ◌∷◌, ◌++◌, inl, inr}
+-- The entries of desk d's queue are decided one after the other, by events alone or by turns.
+use Rattle.std.proofs.Common.{◌≡◌, ℕ, zero, suc, ◌≤◌, ◌+◌, ◌-◌, ◌*◌, max, Bool, true, false, List}
+use Rattle.std.proofs.Common.{[], ◌∷◌, ◌++◌, inl, inr}
 use Rattle.std.proofs.Common.{Some, length, slice_get, refl, sym, ap, ◌∙◌, subst, arith}
 use Rattle.std.proofs.Common.{length-append}
 use Rattle.std.proofs.Math.Nat.{suc-mul, mul-suc, add-mul}
@@ -10,14 +11,18 @@ use Rattle.learner.specs.Chosen.{Has, IsMajority}
 use Rattle.learner.specs.Invariant.{IsSound}
 use Rattle.learner.specs.Worlds.{World, happens, run, after}
 use Rattle.learner.specs.Laws.{IsPrefix}
-use Rattle.learner.proofs.Runs.{after_sound, run_append, run_log}
-use Rattle.progress.specs.Progress.{AreHelp, StandFrom, longest, lacking, CanDecide, NoDeskIsStuck}
-use Rattle.progress.specs.Progress.{NoQueueIsStuck}
-use Rattle.progress.proofs.Aims.{IsReached, Aim, lack, IsDecided, Decides, get_left}
+use Rattle.learner.proofs.Runs.{after_sound, run_log}
+use Rattle.progress.specs.Progress.{AreHelp, StandFrom, longest, lacking, enough, CanDecide}
+use Rattle.progress.specs.Progress.{NoDeskIsStuck, NoQueueIsStuck}
+use Rattle.progress.specs.Turns.{takes_turn, take_turns, AreTurns, TurnsDecide}
+use Rattle.progress.specs.Turns.{NoServingDeskIsStuck}
+use Rattle.progress.proofs.Aims.{IsReached, goes, goes_on, AreHelps, run_goes_on, Aim, cost_of, lack}
+use Rattle.progress.proofs.Aims.{IsDecided, Decides, get_left}
 use Rattle.progress.proofs.Roles.{first_decided}
 
 -- what stays the same while one entry after the other is decided
 record Hall : Type 0 where
+  pub starts : Bool
   pub n : ℕ
   pub d : ℕ
   pub desks : List ℕ
@@ -34,10 +39,15 @@ each h = 15 * length h.desks + 10
 -- these entries come to be in the log, and these are left in the queue
 record AllDecide (h : Hall) (most : ℕ) (es rest : List Entry) (w : World) : Type 0 where
   pub events : List WorldEvent
-  pub help : AreHelp h.n h.d h.desks h.start w events
-  pub few : length events + 2 * lacking (run h.n w events) h.top h.desks ≤ most
-  pub decided : StandFrom (length (w.desks h.d).log) es ((run h.n w events).desks h.d).log
-  pub queue : ((run h.n w events).desks h.d).queue ≡ rest
+  pub help : AreHelps h.starts h.n h.d h.desks h.start w events
+  pub few : length events + 2 * lacking (goes_on h.starts h.n w events) h.top h.desks ≤ most
+  pub decided : StandFrom (length (w.desks h.d).log) es
+      ((goes_on h.starts h.n w events).desks h.d).log
+  pub queue : ((goes_on h.starts h.n w events).desks h.d).queue ≡ rest
+
+-- what Starts may cost desk d
+abbrev spends : Hall → World → ℕ
+spends h w = cost_of h.starts (h.top - length (w.desks h.d).log)
 
 -- the logs, and the numbers that are known, and room for these entries
 record IsRoomy (h : Hall) (old number : ℕ) (es rest : List Entry) (w : World) : Type 0 where
@@ -45,18 +55,25 @@ record IsRoomy (h : Hall) (old number : ℕ) (es rest : List Entry) (w : World) 
   pub late : h.start ≤ length w.sent
   pub queue : (w.desks h.d).queue ≡ es ++ rest
   pub lens : (k : ℕ) → Has h.desks k → length (w.desks k).log ≤ old
-  pub promised : (k : ℕ) → Has h.desks k → (w.desks k).stored.promised.number ≤ number
-  pub tried : (w.desks h.d).stored.tried ≤ number
-  pub seen : (w.desks h.d).seen ≤ number
+  pub promised : (k : ℕ) → Has h.desks k
+      → (w.desks k).stored.promised.number + spends h w ≤ number
+  pub tried : (w.desks h.d).stored.tried + spends h w ≤ number
+  pub seen : (w.desks h.d).seen + spends h w ≤ number
   pub logs : old + 2 * length es ≤ h.top
   pub numbers : number + 2 * length es ≤ 4294967295
 
-help_append : (n d : ℕ) (desks : List ℕ) (start : ℕ) (w : World) (xs ys : List WorldEvent)
-    → AreHelp n d desks start w xs → AreHelp n d desks start (run n w xs) ys
-    → AreHelp n d desks start w (xs ++ ys)
-help_append n d desks start w [] ys h k = k
-help_append n d desks start w (x ∷ xs) ys h k =
-    (h.0, help_append n d desks start (happens n w x) xs ys h.1 k)
+goes_append : (s : Bool) (n : ℕ) (w : World) (xs ys : List WorldEvent)
+    → goes_on s n w (xs ++ ys) ≡ goes_on s n (goes_on s n w xs) ys
+goes_append s n w [] ys = refl
+goes_append s n w (x ∷ xs) ys = goes_append s n (goes s n w x) xs ys
+
+help_append : (s : Bool) (n d : ℕ) (desks : List ℕ) (start : ℕ) (w : World)
+    (xs ys : List WorldEvent)
+    → AreHelps s n d desks start w xs → AreHelps s n d desks start (goes_on s n w xs) ys
+    → AreHelps s n d desks start w (xs ++ ys)
+help_append s n d desks start w [] ys h k = k
+help_append s n d desks start w (x ∷ xs) ys h k =
+    (h.0, help_append s n d desks start (goes s n w x) xs ys h.1 k)
 
 pub stand_from : (k l : ℕ) (es log : List Entry) → k ≤ l → StandFrom l es log → StandFrom k es log
 stand_from k l [] log h s = tt
@@ -79,6 +96,7 @@ all_decided h (e ∷ es) rest old number w g =
     aim : Aim
     aim =
         record {
+          starts = h.starts;
           n = h.n;
           d = h.d;
           desks = h.desks;
@@ -116,7 +134,7 @@ all_decided h (e ∷ es) rest old number w g =
     go f others = joined (others v roomy)
       where
         v : World
-        v = run h.n w f.events
+        v = goes_on h.starts h.n w f.events
 
         ends : IsDecided aim v
         ends = f.ends
@@ -140,35 +158,38 @@ all_decided h (e ∷ es) rest old number w g =
         joined o =
             record {
               events = f.events ++ o.events;
-              help = help_append h.n h.d h.desks h.start w f.events o.events f.help o.help;
+              help = help_append h.starts h.n h.d h.desks h.start w f.events o.events f.help o.help;
               few =
                   let l = length-append f.events o.events in
                   let same = ap (λ u. lacking u h.top h.desks)
-                  (run_append h.n w f.events o.events) in
+                  (goes_append h.starts h.n w f.events o.events) in
                   let p = f.few in
                   let q = o.few in
                   let m = suc-mul (length es) (each h) in omega (arith, l, same, p, q, m);
               decided = subst (λ (u : World). StandFrom (length (w.desks h.d).log) (e ∷ es)
-                  (u.desks h.d).log) (sym (run_append h.n w f.events o.events)) stand;
-              queue = ap (λ u. (u.desks h.d).queue) (run_append h.n w f.events o.events) ∙ o.queue;
+                  (u.desks h.d).log) (sym (goes_append h.starts h.n w f.events o.events)) stand;
+              queue = ap (λ u. (u.desks h.d).queue) (goes_append h.starts h.n w f.events o.events) ∙ o.queue;
             }
           where
             r : IsReached h.n v
             r = ends.reached
 
-            grows : IsPrefix (v.desks h.d).log ((run h.n v o.events).desks h.d).log
-            grows = run_log h.n v o.events (subst (λ (u : World). IsSound h.n u) r.same
-                (after_sound h.n r.past)) h.d
+            grows : IsPrefix (v.desks h.d).log ((goes_on h.starts h.n v o.events).desks h.d).log
+            grows =
+                let g = run_goes_on h.starts h.n v o.events in
+                subst (λ (u : World). IsPrefix (v.desks h.d).log (u.desks h.d).log) g.1
+                (run_log h.n v g.0 (subst (λ (u : World). IsSound h.n u) r.same
+                (after_sound h.n r.past)) h.d)
 
             stand : StandFrom (length (w.desks h.d).log) (e ∷ es)
-                ((run h.n v o.events).desks h.d).log
+                ((goes_on h.starts h.n v o.events).desks h.d).log
             stand = (
               ends.at,
               ends.past,
-              prefix_get (v.desks h.d).log ((run h.n v o.events).desks h.d).log ends.at e grows
-                  ends.entry,
+              prefix_get (v.desks h.d).log ((goes_on h.starts h.n v o.events).desks h.d).log ends.at
+                  e grows ends.entry,
               stand_from (suc ends.at) (length (v.desks h.d).log) es
-                  ((run h.n v o.events).desks h.d).log
+                  ((goes_on h.starts h.n v o.events).desks h.d).log
                   (slice_get_within (v.desks h.d).log ends.at e ends.entry) o.decided,
             )
 
@@ -209,34 +230,36 @@ longest_fits w (k ∷ ks) more low h =
     let here = h k (inl refl) in
     let l = longest_fits w ks more low (λ j i. h j (inr i)) in omega (arith, here, l)
 
--- a number that is above none of these is far enough from the last
-numbers_fit : (w : World) (d : ℕ) (ks : List ℕ) (more : ℕ)
-    → (w.desks d).stored.tried + more ≤ 4294967295 → (w.desks d).seen + more ≤ 4294967295
-    → ((k : ℕ) → Has ks k → (w.desks k).stored.promised.number + more ≤ 4294967295)
-    → (number : ℕ) × (number + more ≤ 4294967295) × ((w.desks d).stored.tried ≤ number)
-    × ((w.desks d).seen ≤ number)
-    × ((k : ℕ) → Has ks k → (w.desks k).stored.promised.number ≤ number)
-numbers_fit w d [] more t s h = (
-  max (w.desks d).stored.tried (w.desks d).seen,
+-- a number that is above none of these, with what they may cost, is far enough from the last
+numbers_fit : (w : World) (d : ℕ) (ks : List ℕ) (cost more : ℕ)
+    → (w.desks d).stored.tried + (cost + more) ≤ 4294967295
+    → (w.desks d).seen + (cost + more) ≤ 4294967295
+    → ((k : ℕ) → Has ks k → (w.desks k).stored.promised.number + (cost + more) ≤ 4294967295)
+    → (number : ℕ) × (number + more ≤ 4294967295) × ((w.desks d).stored.tried + cost ≤ number)
+    × ((w.desks d).seen + cost ≤ number)
+    × ((k : ℕ) → Has ks k → (w.desks k).stored.promised.number + cost ≤ number)
+numbers_fit w d [] cost more t s h = (
+  max (w.desks d).stored.tried (w.desks d).seen + cost,
   omega (arith, t, s),
   omega arith,
   omega arith,
   λ k i. elim i [ ],
 )
-numbers_fit w d (x ∷ ks) more t s h = go (numbers_fit w d ks more t s (λ k i. h k (inr i)))
+numbers_fit w d (x ∷ ks) cost more t s h =
+    go (numbers_fit w d ks cost more t s (λ k i. h k (inr i)))
   where
-    go : (number : ℕ) × (number + more ≤ 4294967295) × ((w.desks d).stored.tried ≤ number)
-        × ((w.desks d).seen ≤ number)
-        × ((k : ℕ) → Has ks k → (w.desks k).stored.promised.number ≤ number)
-        → (number : ℕ) × (number + more ≤ 4294967295) × ((w.desks d).stored.tried ≤ number)
-        × ((w.desks d).seen ≤ number)
-        × ((k : ℕ) → Has (x ∷ ks) k → (w.desks k).stored.promised.number ≤ number)
+    go : (number : ℕ) × (number + more ≤ 4294967295) × ((w.desks d).stored.tried + cost ≤ number)
+        × ((w.desks d).seen + cost ≤ number)
+        × ((k : ℕ) → Has ks k → (w.desks k).stored.promised.number + cost ≤ number)
+        → (number : ℕ) × (number + more ≤ 4294967295) × ((w.desks d).stored.tried + cost ≤ number)
+        × ((w.desks d).seen + cost ≤ number)
+        × ((k : ℕ) → Has (x ∷ ks) k → (w.desks k).stored.promised.number + cost ≤ number)
     go r =
         let here = h x (inl refl) in
         let low = r.1 in
         let t1 = r.2 in
         let s1 = r.3 in (
-          max (w.desks x).stored.promised.number r.0,
+          max ((w.desks x).stored.promised.number + cost) r.0,
           omega (arith, here, low),
           omega (arith, t1),
           omega (arith, s1),
@@ -246,9 +269,34 @@ numbers_fit w d (x ∷ ks) more t s h = go (numbers_fit w d ks more t s (λ k i.
           ],
         )
 
-pub no_queue_is_stuck : NoQueueIsStuck
-no_queue_is_stuck n past d desks es rest most mine queue room =
-    go (numbers_fit w d desks (2 * length es) room.tried room.seen room.promised)
+-- what the laws say, of events alone or of turns
+record QueueDecides (s : Bool) (n d : ℕ) (desks : List ℕ) (w : World) (es rest : List Entry)
+    : Type 0 where
+  pub events : List WorldEvent
+  pub help : AreHelps s n d desks (length w.sent) w events
+  pub few : length events ≤ enough w desks (length es)
+  pub decided : StandFrom (length (w.desks d).log) es ((goes_on s n w events).desks d).log
+  pub queue : ((goes_on s n w events).desks d).queue ≡ rest
+
+-- what has to be left above each of the numbers
+abbrev needed : Bool → ℕ → List ℕ → World → ℕ → ℕ
+needed s d desks w count =
+    cost_of s ((longest w desks + 2 * count) - length (w.desks d).log) + 2 * count
+
+queue_decides : (s : Bool) (n : ℕ) (past : List WorldEvent) (d : ℕ) (desks : List ℕ)
+    (es rest : List Entry) → IsMajority n desks → Has desks d
+    → ((after n past).desks d).queue ≡ es ++ rest
+    → ((k : ℕ) → Has desks k → length ((after n past).desks k).log + 2 * length es ≤ 65536)
+    → ((k : ℕ) → Has desks k → ((after n past).desks k).stored.promised.number
+    + needed s d desks (after n past) (length es) ≤ 4294967295)
+    → ((after n past).desks d).stored.tried + needed s d desks (after n past) (length es)
+    ≤ 4294967295
+    → ((after n past).desks d).seen + needed s d desks (after n past) (length es) ≤ 4294967295
+    → QueueDecides s n d desks (after n past) es rest
+queue_decides s n past d desks es rest most mine queue logs promised tried seen =
+    go
+    (numbers_fit w d desks (cost_of s (top - length (w.desks d).log)) (2 * count) tried seen
+    promised)
   where
     w : World
     w = after n past
@@ -256,26 +304,44 @@ no_queue_is_stuck n past d desks es rest most mine queue room =
     count : ℕ
     count = length es
 
-    fits : longest w desks + 2 * count ≤ 65536
-    fits = longest_fits w desks (2 * count) (let l = room.logs d mine in omega (arith, l)) room.logs
+    top : ℕ
+    top = longest w desks + 2 * count
 
     h : Hall
     h =
         record {
+          starts = s;
           n = n;
           d = d;
           desks = desks;
           start = length w.sent;
-          top = longest w desks + 2 * count;
+          top = top;
           majority = most;
           mine = mine;
-          room = fits;
+          room = longest_fits w desks (2 * count)
+              (let l = logs d mine in omega (arith, l)) logs;
         }
 
-    go : (number : ℕ) × (number + 2 * length es ≤ 4294967295) × ((w.desks d).stored.tried ≤ number)
-        × ((w.desks d).seen ≤ number)
-        × ((k : ℕ) → Has desks k → (w.desks k).stored.promised.number ≤ number)
-        → CanDecide n d desks w es rest
+    done : AllDecide h (2 * lacking w top desks + count * each h) es rest w
+        → QueueDecides s n d desks w es rest
+    done o =
+        record {
+          events = o.events;
+          help = o.help;
+          few =
+              let f = o.few in
+              let l = lacking_taller w (longest w desks) (2 * count) desks in
+              let q = shares count (length desks) in omega (arith, f, l, q);
+          decided = o.decided;
+          queue = o.queue;
+        }
+
+    go : (number : ℕ) × (number + 2 * count ≤ 4294967295)
+        × ((w.desks d).stored.tried + cost_of s (top - length (w.desks d).log) ≤ number)
+        × ((w.desks d).seen + cost_of s (top - length (w.desks d).log) ≤ number)
+        × ((k : ℕ) → Has desks k → (w.desks k).stored.promised.number
+        + cost_of s (top - length (w.desks d).log) ≤ number)
+        → QueueDecides s n d desks w es rest
     go r =
         done
         (all_decided h es rest (longest w desks) r.0 w
@@ -290,21 +356,68 @@ no_queue_is_stuck n past d desks es rest most mine queue room =
           logs = omega arith;
           numbers = r.1;
         }))
-      where
-        done : AllDecide h (2 * lacking w h.top desks + count * each h) es rest w
-            → CanDecide n d desks w es rest
-        done o =
-            record {
-              events = o.events;
-              help = o.help;
-              few =
-                  let f = o.few in
-                  let l = lacking_taller w (longest w desks) (2 * count) desks in
-                  let s = shares count (length desks) in omega (arith, f, l, s);
-              decided = o.decided;
-              queue = o.queue;
-            }
+
+-- ---- the laws
+
+plain_goes : (n : ℕ) (w : World) (es : List WorldEvent) → goes_on false n w es ≡ run n w es
+plain_goes n w [] = refl
+plain_goes n w (e ∷ es) = plain_goes n (happens n w e) es
+
+plain_help : (n d : ℕ) (desks : List ℕ) (start : ℕ) (w : World) (es : List WorldEvent)
+    → AreHelps false n d desks start w es → AreHelp n d desks start w es
+plain_help n d desks start w [] h = tt
+plain_help n d desks start w (e ∷ es) h =
+    (h.0, plain_help n d desks start (happens n w e) es h.1)
+
+turns_go : (n : ℕ) (w : World) (es : List WorldEvent) → goes_on true n w es ≡ take_turns n w es
+turns_go n w [] = refl
+turns_go n w (e ∷ es) = turns_go n (takes_turn n w e) es
+
+turns_help : (n d : ℕ) (desks : List ℕ) (start : ℕ) (w : World) (es : List WorldEvent)
+    → AreHelps true n d desks start w es → AreTurns n d desks start w es
+turns_help n d desks start w [] h = tt
+turns_help n d desks start w (e ∷ es) h =
+    (h.0, turns_help n d desks start (takes_turn n w e) es h.1)
+
+pub no_queue_is_stuck : NoQueueIsStuck
+no_queue_is_stuck n past d desks es rest most mine queue room =
+    said
+    (queue_decides false n past d desks es rest most mine queue room.logs
+    (λ k i. let p = room.promised k i in omega (arith, p))
+    (let t = room.tried in omega (arith, t)) (let s = room.seen in omega (arith, s)))
+  where
+    said : QueueDecides false n d desks (after n past) es rest
+        → CanDecide n d desks (after n past) es rest
+    said q =
+        record {
+          events = q.events;
+          help = plain_help n d desks (length (after n past).sent) (after n past) q.events q.help;
+          few = q.few;
+          decided = subst (λ (u : World). StandFrom (length ((after n past).desks d).log) es
+              (u.desks d).log) (plain_goes n (after n past) q.events) q.decided;
+          queue = ap (λ u. (u.desks d).queue) (sym (plain_goes n (after n past) q.events))
+              ∙ q.queue;
+        }
 
 pub no_desk_is_stuck : NoDeskIsStuck
 no_desk_is_stuck n past d desks e rest most mine queue room =
     no_queue_is_stuck n past d desks (e ∷ []) rest most mine queue room
+
+pub no_serving_desk_is_stuck : NoServingDeskIsStuck
+no_serving_desk_is_stuck n past d desks es rest most mine queue room =
+    said
+    (queue_decides true n past d desks es rest most mine queue room.logs room.promised room.tried
+    room.seen)
+  where
+    said : QueueDecides true n d desks (after n past) es rest
+        → TurnsDecide n d desks (after n past) es rest
+    said q =
+        record {
+          turns = q.events;
+          help = turns_help n d desks (length (after n past).sent) (after n past) q.events q.help;
+          few = q.few;
+          decided = subst (λ (u : World). StandFrom (length ((after n past).desks d).log) es
+              (u.desks d).log) (turns_go n (after n past) q.events) q.decided;
+          queue = ap (λ u. (u.desks d).queue) (sym (turns_go n (after n past) q.events))
+              ∙ q.queue;
+        }

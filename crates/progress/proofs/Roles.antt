@@ -1,7 +1,7 @@
 -- Whatever its role, desk d gets its first entry decided.
 use Rattle.std.proofs.Common.{◌≡◌, ℕ, zero, suc, ◌≤◌, ◌<◌, ◌+◌, ◌*◌, ◌||◌, Bool, true, false}
-use Rattle.std.proofs.Common.{if◌then◌else◌, ◌==◌, List, [], ◌∷◌, inl, Option, Some, None, length}
-use Rattle.std.proofs.Common.{slice_get, refl, sym, ap, ◌∙◌, subst, arith}
+use Rattle.std.proofs.Common.{if◌then◌else◌, ◌==◌, List, [], ◌∷◌, inl, inr, Option, Some, None}
+use Rattle.std.proofs.Common.{length, slice_get, refl, sym, ap, ◌∙◌, subst, arith}
 use Rattle.std.proofs.lemmas.Bool.Decides.{nat_tests}
 use Rattle.acceptor.specs.declared.ballot.Ballot.{Ballot}
 use Rattle.acceptor.specs.Ballots.{is_below}
@@ -22,12 +22,13 @@ use Rattle.learner.specs.Steps.{IsDesk}
 use Rattle.learner.specs.Worlds.{World}
 use Rattle.learner.proofs.Quorum.{drop_each, length-drop_each, Has-drop_each, IsDistinct-drop_each}
 use Rattle.learner.proofs.Runs.{after_sound}
-use Rattle.progress.proofs.Aims.{Aim, lack, IsReached, Decides, decides_more, carried, IsPending}
-use Rattle.progress.proofs.Aims.{pending_new, ticks}
+use Rattle.progress.proofs.Aims.{Aim, lack, cost, IsReached, Decides, decides_more, carried}
+use Rattle.progress.proofs.Aims.{IsPending, pending_new, ticks}
 use Rattle.progress.proofs.Fits.{IsOldOr, Fit, fit_plain}
 use Rattle.progress.proofs.Levels.{desks_same}
-use Rattle.progress.proofs.Votes.{Asks, Yields, Leads, hear_all}
-use Rattle.progress.proofs.Ballots.{IsFreeIn, IsFree, free_idle, lead_asks, not_other, free_decides}
+use Rattle.progress.proofs.Starting.{IsFreeIn, IsFree, free_idle}
+use Rattle.progress.proofs.Votes.{Asks, Yields, LeadsOrAsks, Leads, low_more, hear_all}
+use Rattle.progress.proofs.Ballots.{asks_all, lead_asks, not_other, free_decides}
 use Rattle.progress.proofs.Standing.{IsVotedBy, Waits, IsSteady, all_are_steady}
 
 -- those not heard
@@ -103,45 +104,55 @@ asked_get from body first (suc count) k hs ne low high =
         let above : suc first ≤ k = grind (arith, nat_tests) in
         let r = ih above in (suc r.0, r.1)
 
--- a desk that leads, by a number that it knows
-lead_decides : (a : Aim) (b : Ballot) (w : World) → Fit a a.number w
-    → (w.desks a.d).role ≡ Leading b → b.number ≤ a.number
+-- a desk that leads, or has asked by a Start, by a number that it knows
+lead_decides : (a : Aim) (b : Ballot) (m : ℕ) (w : World) → Fit a a.number w
+    → LeadsOrAsks a b m w → length (w.desks a.d).log ≡ m → b.number + cost a w ≤ a.number
     → Decides a (lack a w + (12 * length a.desks + 9)) w
-lead_decides a b w h role low = go (is_below b (w.desks a.d).stored.promised) refl
+lead_decides a b m w h role own low = by_role role
   where
     all : ℕ
     all = 9 * length a.desks + 8
 
-    m : ℕ
-    m = length (w.desks a.d).log
-
     yields : (v : World) → Yields a a.number ⊥ v → Decides a (lack a v + all) v
-    yields v y = free_decides a a.number v y.fit (omega arith) (free_idle (v.desks a.d) y.role)
+    yields v y = free_decides a a.number v y.fit (omega arith) y.free
 
-    go : (t : Bool) → is_below b (w.desks a.d).stored.promised ≡ t
+    asked : (v : World) → Asks a a.number ⊥ b m a.first a.desks [] v
+        → Decides a (lack a v + (3 * length a.desks + all)) v
+    asked v g =
+        hear_all a all a.number ⊥ b m a.first yields (λ u l s. absurd (not_other a.first s))
+        a.desks [] v g
+
+    leads : (w.desks a.d).role ≡ Leading b → (t : Bool)
+        → is_below b (w.desks a.d).stored.promised ≡ t
         → Decides a (lack a w + (12 * length a.desks + 9)) w
-    go true t =
+    leads leading true t =
         decides_more a (lack a w + all) (lack a w + (12 * length a.desks + 9)) w (omega arith)
         (free_decides a a.number w h (omega arith)
-        (subst (λ (r : Role). IsFreeIn (w.desks a.d).stored.promised r) (sym role) t))
-    go false t =
+        (subst (λ (r : Role). IsFreeIn (w.desks a.d).stored.promised r) (sym leading) t))
+    leads leading false t =
         decides_more a (lack a w + suc (3 * length a.desks + all))
         (lack a w + (12 * length a.desks + 9)) w (omega arith)
-        (lead_asks a (3 * length a.desks + all) a.number m ⊥ b w h role t refl low (λ z. absurd z)
-        (λ v g. hear_all a all a.number ⊥ b m a.first yields (λ u l s. absurd (not_other a.first s))
-        a.desks [] v g))
+        (lead_asks a (3 * length a.desks + all) a.number m ⊥ b w h leading t own low
+        (λ z. absurd z) asked)
+
+    by_role : LeadsOrAsks a b m w → Decides a (lack a w + (12 * length a.desks + 9)) w
+    by_role (inl leading) = leads leading (is_below b (w.desks a.d).stored.promised) refl
+    by_role (inr asking) =
+        decides_more a (lack a w + (3 * length a.desks + all))
+        (lack a w + (12 * length a.desks + 9)) w (omega arith)
+        (asked w (asks_all a a.number m ⊥ b w h asking.0 own asking.1 low (λ z. absurd z)))
 
 -- a desk that proposes, by a number that it knows
 proposer_decides : (a : Aim) (b : Ballot) (m : ℕ) (f : Entry) (heard : List ℕ) (w : World)
     → Fit a a.number w → (w.desks a.d).role ≡ Proposing b m f heard → length (w.desks a.d).log ≡ m
-    → m ≤ a.old → b.number ≤ a.number → is_majority a.n (length heard) ≡ false
+    → m ≤ a.old → b.number + cost a w ≤ a.number → is_majority a.n (length heard) ≡ false
     → Decides a (lack a w + (15 * length a.desks + 10)) w
 proposer_decides a b m f heard w h role own old low few =
     decides_more a (lack a w + suc (3 * length left + all)) (lack a w + (15 * length a.desks + 10))
     w
     (let l = unheard_short a.desks heard in omega (arith, l))
     (ticks a (3 * length left + all) w plan h.reached
-    (ap (λ r. tick_by_role a.n a.d x.stored (length x.log) (passing x) r) role)
+    (ap (λ r. tick_by_role a.n a.d x.stored (length x.log) (passing x) r) role) (omega arith)
     (λ reached1. hear_all a all a.number ⊥ b m f yields leads left heard v (asks reached1)))
   where
     most : IsMajority a.n a.desks
@@ -168,12 +179,12 @@ proposer_decides a b m f heard w h role own old low few =
     yields : (u : World) → Yields a a.number ⊥ u → Decides a (lack a u + all) u
     yields u y =
         decides_more a (lack a u + (9 * length a.desks + 8)) (lack a u + all) u (omega arith)
-        (free_decides a a.number u y.fit (omega arith) (free_idle (u.desks a.d) y.role))
+        (free_decides a a.number u y.fit (omega arith) y.free)
 
     leads : (u : World) → Leads a a.number ⊥ b m u
         → Rattle.acceptor.specs.Entries.is_same_entry a.first f ≡ false
         → Decides a (lack a u + all) u
-    leads u l s = lead_decides a b u l.fit l.role low
+    leads u l s = lead_decides a b (suc m) u l.fit l.role l.own l.number
 
     asked : (k : ℕ) → Has left k → IsPending a v (message a.d k (Accept b m f))
     asked k i =
@@ -198,7 +209,7 @@ proposer_decides a b m f heard w h role own old low few =
           enough = let many : a.n < 2 * length a.desks = most.many in
               let l = unheard_long a.desks heard most.distinct in omega (arith, many, l);
           old = inl old;
-          low = low;
+          low = low_more a a.number b.number w a.d plan low;
           clear = λ z. absurd z;
         }
 
@@ -209,9 +220,10 @@ pub record Begins (a : Aim) (w : World) : Type 0 where
   pub queue : (w.desks a.d).queue ≡ a.first ∷ a.rest
   pub past : a.from ≤ length (w.desks a.d).log
   pub lens : (k : ℕ) → Has a.desks k → length (w.desks k).log ≤ a.old
-  pub promised : (k : ℕ) → Has a.desks k → (w.desks k).stored.promised.number ≤ a.number
-  pub tried : (w.desks a.d).stored.tried ≤ a.number
-  pub seen : (w.desks a.d).seen ≤ a.number
+  pub promised : (k : ℕ) → Has a.desks k
+      → (w.desks k).stored.promised.number + cost a w ≤ a.number
+  pub tried : (w.desks a.d).stored.tried + cost a w ≤ a.number
+  pub seen : (w.desks a.d).seen + cost a w ≤ a.number
 
 pub old_vote : (a : Aim) (len : ℕ) (v : Option Vote) → len ≤ a.old → IsVotedBy len v → IsOldOr a v
 old_vote a len None l h = tt
@@ -280,4 +292,5 @@ first_decided a w h = by_role (w.desks a.d).role refl
         subst Stands same stands in
         decides_more a (lack a w + (12 * length a.desks + 9))
         (lack a w + (15 * length a.desks + 10)) w (omega arith)
-        (lead_decides a b w fit same (let t = s.tried in let u = h.tried in omega (arith, t, u)))
+        (lead_decides a b (length (w.desks a.d).log) w fit (inl same) refl
+        (let t = s.tried in let u = h.tried in omega (arith, t, u)))

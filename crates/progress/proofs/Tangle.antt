@@ -34,18 +34,14 @@ room = record {
   seen = omega arith;
 }
 
-turn_room : HasTurnRoom these tangled 1
+turn_room : HasTurnRoom 1 these tangled 1
 turn_room = record {
   logs = of_these (λ j. length (tangled.desks j).log + 2 * 1 ≤ 65536) (omega arith) (omega arith);
   promised =
-      of_these (λ j. (tangled.desks j).stored.promised.number + numbers_needed tangled these 1
+      of_these (λ j. (tangled.desks j).stored.promised.number + numbers_needed 1 these tangled 1
       ≤ 4294967295) (omega arith) (omega arith);
-  tried =
-      of_these (λ j. (tangled.desks j).stored.tried + numbers_needed tangled these 1 ≤ 4294967295)
-      (omega arith) (omega arith);
-  seen =
-      of_these (λ j. (tangled.desks j).seen + numbers_needed tangled these 1 ≤ 4294967295)
-      (omega arith) (omega arith);
+  tried = omega arith;
+  seen = omega arith;
 }
 
 pub tangle_is_decided : NoDeskIsStuck → NoServingDeskIsStuck → TangleIsDecided
@@ -59,7 +55,7 @@ tangle_is_decided first serving = record {
   turn_room = turn_room;
   decides = first 3 tangle 1 these (entry 9) [] majority (inl refl) refl room;
   turns =
-      serving 3 tangle 1 these (entry 9 ∷ []) [] (omega arith) majority (inl refl) refl turn_room;
+      serving 3 tangle 1 these (entry 9 ∷ []) [] majority (inl refl) refl turn_room;
   helps = (
     refl,
     (
@@ -73,14 +69,35 @@ tangle_is_decided first serving = record {
             (
               (omega arith, (inr (inl refl), inl refl)),
               (
-                (omega arith, (inl refl, inr (inl refl))),
+                (omega arith, (inl refl, inl refl)),
                 (
-                  (omega arith, (inr (inl refl), inl refl)),
+                  (omega arith, (inl refl, inl refl)),
                   (
-                    (omega arith, (inl refl, inr (inl refl))),
+                    (omega arith, (inl refl, inl refl)),
                     (
-                      (omega arith, (inl refl, inr (inl refl))),
-                      ((omega arith, (inr (inl refl), inl refl)), tt),
+                      (omega arith, (inl refl, inl refl)),
+                      (
+                        (omega arith, (inl refl, inr (inl refl))),
+                        (
+                          (omega arith, (inr (inl refl), inl refl)),
+                          (
+                            (omega arith, (inl refl, inr (inl refl))),
+                            (
+                              (omega arith, (inl refl, inl refl)),
+                              (
+                                (omega arith, (inl refl, inl refl)),
+                                (
+                                  (omega arith, (inl refl, inr (inl refl))),
+                                  (
+                                    (omega arith, (inr (inl refl), inl refl)),
+                                    tt,
+                                  ),
+                                ),
+                              ),
+                            ),
+                          ),
+                        ),
+                      ),
                     ),
                   ),
                 ),

@@ -80,8 +80,10 @@ these = 1 ∷ 3 ∷ []
 -- then its own, by these turns.
 abbrev pub untangle : List WorldEvent
 untangle =
-    TickAt 1 ∷ DeliverNth 21 ∷ DeliverNth 23 ∷ TickAt 1 ∷ DeliverNth 26 ∷ DeliverNth 28
-    ∷ DeliverNth 31 ∷ DeliverNth 33 ∷ DeliverNth 35 ∷ DeliverNth 38 ∷ DeliverNth 41 ∷ []
+    TickAt 1 ∷ DeliverNth 21 ∷ DeliverNth 22 ∷ TickAt 1 ∷ DeliverNth 25 ∷ DeliverNth 26
+    ∷ DeliverNth 23 ∷ DeliverNth 27 ∷ DeliverNth 28 ∷ DeliverNth 31 ∷ DeliverNth 30
+    ∷ DeliverNth 32 ∷ DeliverNth 34 ∷ DeliverNth 35 ∷ DeliverNth 39 ∷ DeliverNth 37
+    ∷ DeliverNth 40 ∷ []
 
 -- the world meets all premises of the laws, so a majority of it decides what desk 1 has queued; and
 -- these turns do
@@ -92,7 +94,7 @@ pub record TangleIsDecided : Type 0 where
   pub majority : IsMajority 3 these
   pub has : Has these 1
   pub room : HasRoom 1 these tangled 1
-  pub turn_room : HasTurnRoom these tangled 1
+  pub turn_room : HasTurnRoom 1 these tangled 1
   pub decides : CanDecide 3 1 these tangled (entry 9 ∷ []) []
   pub turns : TurnsDecide 3 1 these tangled (entry 9 ∷ []) []
   pub helps : AreTurns 3 1 these 18 tangled untangle

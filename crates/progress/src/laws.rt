@@ -18,16 +18,14 @@ pub fn no_desk_is_stuck()
     ensures queue { NoQueueIsStuck }
 {}
 
-/// So it is of desks that serve, which take no step alone: with each Tick and each message a desk
-/// delivers to itself what it says to itself, at most 16 messages, and where its log has grown and
-/// entries wait in its queue it gives itself a Start. By such turns alone, Ticks of one desk and
-/// messages sent from then on among the majority, all that it has queued is decided, in the queue's
-/// order. There are two desks or more.
+/// So it is of desks that serve, which take no step alone: a desk whose log has grown, and in whose
+/// queue entries wait, gives itself a Start. By such turns alone, Ticks of one desk and messages
+/// sent from then on among the majority, all that it has queued is decided, in the queue's order,
+/// and no more turns are needed than events above.
 ///
-/// A desk that learns an entry may start, and promises its own ballot at once. So each entry that
-/// is learned can cost a number: above those that a desk of the majority has promised, tried or
-/// seen there have to be as many as the desks of the majority lack entries of logs that are longer
-/// than the longest of theirs, by two for each entry to be decided; and eight for each.
+/// A desk that learns an entry may start, which costs it a number. So above the numbers of two for
+/// each entry as many more have to be left as the desk that ticks lacks entries of a log that is
+/// longer than the longest of theirs by two for each entry to be decided.
 pub fn no_serving_desk_is_stuck()
     ensures { NoServingDeskIsStuck }
 {}

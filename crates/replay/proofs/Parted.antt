@@ -13,7 +13,7 @@ use Rattle.sheets.specs.Sheet.{sheet}
 use Rattle.formats.specs.declared.events.Event.{Event}
 use Rattle.replay.specs.Apart.{FailsApart, ReplaysApart, ReplaysPartApart, TellsPart, Told}
 use Rattle.replay.specs.Apart.{run_alone, run_refused}
-use Rattle.sheets.specs.declared.Style.{Style}
+use Rattle.formats.specs.declared.styles.SheetStyle.{SheetStyle as Style}
 use Rattle.replay.specs.Replay.{Run, refusals, refused_text, run_sheet}
 use Rattle.replay.specs.declared.fault.ReplayFault.TheVariants as replay_fault
 use Rattle.replay.specs.model.Applying.{Applies, StopsAmong}

@@ -8,7 +8,7 @@ use Rattle.lines.specs.declared.fault.RunFault.TheVariants as run_fault
 use Rattle.replay.specs.Replay.{Run, refusals, refused_text, run_of, run_sheet, sheet_text}
 use Rattle.replay.specs.declared.fault.ReplayFault.{ReplayFault}
 use Rattle.replay.specs.declared.fault.ReplayFault.TheVariants as fault
-use Rattle.sheets.specs.declared.Style.{Style}
+use Rattle.formats.specs.declared.styles.SheetStyle.{SheetStyle as Style}
 
 -- what a place had before a run, and what it has
 pub record Told : Type 0 where

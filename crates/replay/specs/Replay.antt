@@ -8,7 +8,7 @@ use Rattle.commands.specs.History.{History, nothing, history, after, answer_to}
 use Rattle.texts.specs.Codes.{code_name}
 use Rattle.texts.specs.declared.answer.Answer.{Answer}
 use Rattle.texts.specs.declared.answer.Answer.TheVariants.{Done, Refused}
-use Rattle.sheets.specs.declared.Style.{Style}
+use Rattle.formats.specs.declared.styles.SheetStyle.{SheetStyle as Style}
 use Rattle.sheets.specs.Sheet.{sheet}
 use Rattle.lines.specs.Lines.{whole_lines, lines_of, is_within, lines_read}
 use Rattle.lines.specs.Bytes.{HasLeft, AppendsPart, Sides}

@@ -9,7 +9,7 @@ use crate::fault::ReplayFault;
 use commands::Meet;
 use formats::Event;
 use lines::{RunFault, write_text};
-use sheets::{SheetFault, Style, sheet};
+use sheets::{SheetFault, SheetStyle, sheet};
 use std::alloc::Global;
 use std::io::{Read, Write};
 
@@ -27,7 +27,7 @@ pub fn replay_apart<R: Read, W: Write, F: Write>(
     refused: &mut F,
     event: Event,
     round: u8,
-    style: Style,
+    style: SheetStyle,
 ) -> Result<(), ReplayFault>
     ensures ok { OnOk result (ReplaysAllApart style event round
         (sides R.remaining W.contents reader.old reader.new writer.old writer.new)

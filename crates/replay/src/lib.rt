@@ -18,7 +18,7 @@ pub use fault::ReplayFault;
 use formats::Event;
 use lines::{LineReader, write_long, write_out, write_text};
 pub use lines::{RunFault, lines_are_parted};
-use sheets::{SheetFault, Style, sheet};
+use sheets::{SheetFault, SheetStyle, sheet};
 use std::alloc::{AllocError, Global};
 use std::io::{Read, Write};
 
@@ -109,7 +109,7 @@ pub fn replay<R: Read, W: Write>(
     writer: &mut W,
     event: Event,
     round: u8,
-    style: Style,
+    style: SheetStyle,
 ) -> Result<(), ReplayFault>
     ensures ok { OnOk result (ReplaysAll style event round
         (sides R.remaining W.contents reader.old reader.new writer.old writer.new)) }

@@ -7,8 +7,8 @@ use Rattle.clap.specs.Words.{with_subcommand}
 use Rattle.clap.specs.declared.builder.value_parser.ValueParser.{ValueParser}
 use Rattle.formats.specs.declared.events.Event.{Event}
 use Rattle.formats.specs.Events.{all_events, event_name, event_of_name}
-use Rattle.sheets.specs.declared.Style.{Style}
-use Rattle.sheets.specs.declared.Style.TheVariants as printed
+use Rattle.formats.specs.declared.styles.SheetStyle.{SheetStyle as Style}
+use Rattle.formats.specs.declared.styles.SheetStyle.TheVariants as printed
 use Rattle.replay_arguments.specs.Arguments.{IsFlag, IsOneOf, csv_rule, flag_rule, round_numbers}
 use Rattle.replay_arguments.specs.Arguments.{value_rule}
 use Rattle.replay_arguments.specs.declared.replay.ReplayTask.{ReplayTask}

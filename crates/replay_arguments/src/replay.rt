@@ -9,7 +9,7 @@ use crate::round::{event_at, event_value, round_at, round_value};
 use crate::values::{csv_flag, flag, flag_at, plain_command, with_argument};
 use clap::{ArgMatches, Command};
 use formats::Event;
-use sheets::Style;
+use sheets::SheetStyle;
 use std::alloc::{AllocError, Global};
 
 const ABOUT: &str = "Reads the commands of a competition and prints the result sheet of a round.";
@@ -61,7 +61,7 @@ command opened it, or one cancelled it), or input too long; 4 cannot read, or ca
 pub struct ReplayTask {
     pub event: Event,
     pub round: u8,
-    pub style: Style,
+    pub style: SheetStyle,
     /// Whether the lines of refused commands go to standard error.
     pub only_sheet: bool,
 }
@@ -83,11 +83,15 @@ pub fn replay_command<'a>(alloc: Global) -> Result<Command<'a>, AllocError>
 }
 
 /// How the sheet is printed.
-fn style_of(table: bool) -> Style
-    ensures table { table ≡ true → result ≡ Style.Table }
-    ensures text { table ≡ false → result ≡ Style.Text }
+fn style_of(table: bool) -> SheetStyle
+    ensures table { table ≡ true → result ≡ SheetStyle.Table }
+    ensures text { table ≡ false → result ≡ SheetStyle.Text }
 {
-    if table { Style::Table } else { Style::Text }
+    if table {
+        SheetStyle::Table
+    } else {
+        SheetStyle::Text
+    }
 }
 
 /// What the arguments of `replay` ask for.

@@ -11,8 +11,7 @@ use hall_file::hall_options::{
 use hall_survey::Hall;
 use http_server::Config;
 use outbox::JournalFault;
-use page_sockets::browsers_at;
-use pages::BrowserLimits;
+use pages::{BrowserLimits, browsers_at};
 use std::alloc::{AllocError, Global};
 use std::io::{ErrorKind, Read, Write};
 use std::net::SocketAddr;

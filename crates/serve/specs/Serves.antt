@@ -6,7 +6,7 @@ use Rattle.std.specs.Io.KnownBytes.{Appends, Keeps}
 use Rattle.std.specs.declared.io.Write.{Ghosts as WriteOf}
 use Rattle.sqlite.specs.Recovery.{Image}
 use Rattle.lines.specs.Bytes.{AppendsPart}
-use Rattle.multiplex.specs.Happenings.{Happened}
+use Rattle.polled.specs.Happenings.{Happened}
 use Rattle.multiplex.specs.Passing.{IsServedEach, Lobby, Room, Step}
 use Rattle.multiplex.specs.declared.ends.ServingEnd.{ServingEnd}
 use Rattle.multiplex.specs.declared.ends.ServingEnd.TheVariants as over

@@ -1,5 +1,6 @@
 //! A desk's file, closed when the desk has served.
 
+use answers::Desk;
 use desk_file::put_away;
 use node::Node;
 use sqlite::{FileFrom, FileStore, Start};

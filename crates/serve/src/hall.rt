@@ -1,4 +1,4 @@
-//! The sockets of a desk that serves: its clients, and the links to the other desks of its hall.
+//! The sockets of a desk that serves: its clients, and the links to the desks of its hall.
 
 ghost use Rattle.std.specs.Prelude.{◌≡◌, IfOk, IfErr, IfSome, map};
 ghost use Rattle.mio_sockets.specs.Keying.{wires_of};
@@ -10,8 +10,9 @@ use crate::doors::{hall_key, old_key};
 use crate::fault::ServeFault;
 use crate::twins::twins_in;
 use hall_file::service::Service;
-use mio_sockets::{DeskLinks, SocketClients, SocketConnections, SocketLinks};
+use mio_sockets::{DeskLinks, SocketConnections, SocketLinks};
 use multiplex::PeerLinks;
+use polled::sockets::PeerSockets;
 use prompt_lines::PromptLines;
 use sealed::Access;
 use std::alloc::{AllocError, Global};
@@ -71,12 +72,15 @@ fn no_listener(error: &io::Error) -> ServeFault
     ServeFault::CannotListen
 }
 
+/// The most connections of clients that are open at once.
+const MOST_OPEN: usize = 512;
+
 /// Listens at the desk's address, at the desk's start of this number.
 pub fn listen<'r>(
     rt: &'r HostRuntime,
     service: Service<'_>,
     start: u64,
-) -> Result<SocketClients<'r, HostRuntime>, ServeFault>
+) -> Result<PeerSockets<'r, HostRuntime>, ServeFault>
     ensures { IfErr result IsOfListener }
 {
     let place = usize::from(service.desk).saturating_sub(1);
@@ -88,7 +92,7 @@ pub fn listen<'r>(
         return Err(ServeFault::CannotListen);
     };
     let lines = PromptLines::new(rt.stderr(), rt.alloc());
-    match SocketClients::listen(rt, rt.alloc(), address, start, lines) {
+    match PeerSockets::listen(rt, rt.alloc(), address, MOST_OPEN, start, Some(lines)) {
         Ok(clients) => Ok(clients),
         Err(error) => Err(no_listener(&error)),
     }
@@ -148,15 +152,15 @@ pub fn send_rest(
     }
 }
 
-/// The links to the other desks, at the desk's start of this number, whose sockets the poll of the
-/// clients watches. Where the desk has keys, they speak under the hall's, or the one that was its
-/// own. Where lines about other desks are wanted, it says which two have one address, and of which
-/// no address was found.
+/// The links to all desks, the desk's own address too, at its start of this number, whose sockets
+/// the poll of the clients watches. Where the desk has keys, they speak under the hall's, or the
+/// one that was its own. Where lines about desks are wanted, it says which two have one address,
+/// and of which no address was found.
 pub fn links_to<'r>(
     rt: &'r HostRuntime,
     service: Service<'_>,
     doors: Access,
-    clients: &SocketClients<'r, HostRuntime>,
+    clients: &PeerSockets<'r, HostRuntime>,
     start: u64,
 ) -> Result<SocketLinks<'r, HostRuntime, PromptLines>, ServeFault>
     ensures links { IfOk result

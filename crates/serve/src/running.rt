@@ -15,10 +15,12 @@ use crate::hall::{links_to, listen, send_rest};
 use crate::home::home_of;
 use crate::opening::open_store;
 use crate::telling::{tell_first, tell_last};
+use answers::Desk;
 use desk_file::fault_of_load;
 use hall_file::service::Service;
-use multiplex::{Clients, PeerLinks, ServingEnd, ServingOptions, serve_each};
+use multiplex::{PeerLinks, ServingEnd, ServingOptions, serve_each};
 use node::Node;
+use polled::Sockets;
 use sealed::Access;
 use sqlite::{FileFrom, FileStore, Start};
 use std::alloc::Global;
@@ -85,7 +87,7 @@ fn period_of(service: Service<'_>) -> Option<Period>
 ///   written.
 ///
 /// Where the first line can't be written, nobody is served.
-pub fn serve_node<K: Keeper + Drop, C: Clients, L: PeerLinks, W: Write>(
+pub fn serve_node<K: Keeper + Drop, C: Sockets, L: PeerLinks, W: Write>(
     alloc: Global,
     terms: ServingOptions,
     period: Option<Period>,
@@ -179,9 +181,9 @@ fn serve_kept<K: Keeper + Close + Drop, W: Write>(
 }
 
 /// Opens a desk's file, listens at the desk's address, and serves the clients that come, side by
-/// side; frames for other desks go to their addresses. With a key of the hall it asks a key of each
-/// client, and speaks to the other desks under the hall's. On standard error it says when another
-/// desk can't be reached, and when it is reached again, unless `quiet` is asked for.
+/// side; frames for desks go to their addresses, those for itself to its own. With a key of the
+/// hall it asks a key of each client, and speaks to desks under the hall's. On standard error it
+/// says when a desk can't be reached, and when it is reached again, unless `quiet` is asked for.
 ///
 /// Once it listens it prints `desk <d> of <n> len <len>`, and at its end `served <count>`. It ends
 /// once it has served as many connections as were asked for, where a client asks it to stop, and by

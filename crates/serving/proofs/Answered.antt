@@ -24,33 +24,33 @@ use Rattle.serving.specs.declared.request.Request.TheVariants.{Ignored, Denied, 
 use Rattle.wire.specs.declared.standing.Difference.{Difference}
 use Rattle.wire.specs.declared.values.ClientRefusal.TheVariants as refusal
 use Rattle.formats.specs.declared.events.Event.{Event as EventOf}
-use Rattle.wire.specs.declared.values.SheetStyle.{SheetStyle as Style}
+use Rattle.formats.specs.declared.styles.SheetStyle.{SheetStyle as Style}
 use Rattle.serving.proofs.Makings.{Makes-nil}
 
 -- what reached its end from the beginning of a frame
-pub took : (home : Home) (f : Service → Service) (x y : Seen) (left : ℕ) (acts : List Act)
+pub took : (home : Home) (f : Service → Service) (x y : Seen) (acts : List Act)
     (past : List Fate)
-    → Reaches home f (at x [] 16) (λ s. s) (at y [] left) acts past
-    → f (begun x past) ≡ service (at y [] left) acts []
-took home f x y left acts past r = ap (λ z. f (begun x z)) (sym (append-nil past)) ∙ r.steps [] []
+    → Reaches home f (at x []) (λ s. s) (at y []) acts past
+    → f (begun x past) ≡ service (at y []) acts []
+took home f x y acts past r = ap (λ z. f (begun x z)) (sym (append-nil past)) ∙ r.steps [] []
 
-pub took_calls : (home : Home) (f : Service → Service) (x y : Seen) (left : ℕ) (acts : List Act)
+pub took_calls : (home : Home) (f : Service → Service) (x y : Seen) (acts : List Act)
     (past : List Fate)
-    → Reaches home f (at x [] 16) (λ s. s) (at y [] left) acts past
+    → Reaches home f (at x []) (λ s. s) (at y []) acts past
     → y ≡ seen_after home x acts past
-took_calls home f x y left acts past r =
+took_calls home f x y acts past r =
     sym (r.calls [] []) ∙ ap (λ z. seen_after home x z (past ++ [])) (append-nil acts)
     ∙ ap (λ z. seen_after home x acts z) (append-nil past)
 
 -- the calls and pushes of a request, and the node behind it; the answer is another matter
-pub answers_by : {V : Type 0} {way : Way V} (home : Home) (r : Request) (x y : Seen) (left : ℕ)
+pub answers_by : {V : Type 0} {way : Way V} (home : Home) (r : Request) (x y : Seen)
     (acts : List Act)
     (past : List Fate) (w : Option FrameBody) (a b : Outside way)
-    → (served home x past r ≡ service (at y [] left) acts []) → (y ≡ seen_after home x acts past)
+    → (served home x past r ≡ service (at y []) acts []) → (y ≡ seen_after home x acts past)
     → Makes home.hall a b acts
     → w ≡ answer home x past r
     → Answers home x y past r w a b
-answers_by home r x y left acts past w a b all calls made is = record {
+answers_by home r x y acts past w a b all calls made is = record {
   answer_is = is;
   made =
       subst (λ z. Makes home.hall a b z) (sym (ap (λ (z : Service). z.done) all)) made;
@@ -59,29 +59,29 @@ answers_by home r x y left acts past w a b all calls made is = record {
 }
 
 -- a message of a desk
-pub hears : {V : Type 0} {way : Way V} (home : Home) (m : Message) (x y : Seen) (left : ℕ)
+pub hears : {V : Type 0} {way : Way V} (home : Home) (m : Message) (x y : Seen)
     (answer : NodeAnswer) (acts : List Act)
     (past : List Fate) (a b : Outside way)
-    → DoesTake home left (Deliver m) answer x y acts past a b
+    → DoesTake home (Deliver m) answer x y acts past a b
     → AnswersSome home x y (Heard m) None a b
-hears home m x y left answer acts past a b h = (
+hears home m x y answer acts past a b h = (
   past,
-  answers_by home (Heard m) x y left acts past None a b
-      (took home (take home (Deliver m)) x y left acts past h.did.reaches)
-      (took_calls home (take home (Deliver m)) x y left acts past h.did.reaches) h.did.made refl,
+  answers_by home (Heard m) x y acts past None a b
+      (took home (take home (Deliver m)) x y acts past h.did.reaches)
+      (took_calls home (take home (Deliver m)) x y acts past h.did.reaches) h.did.made refl,
 )
 
 -- a Tick
-pub ticks : {V : Type 0} {way : Way V} (home : Home) (x y : Seen) (left : ℕ) (answer : NodeAnswer)
+pub ticks : {V : Type 0} {way : Way V} (home : Home) (x y : Seen) (answer : NodeAnswer)
     (acts : List Act)
     (past : List Fate) (w : FrameBody) (a b : Outside way)
-    → DoesTake home left Tick answer x y acts past a b → w ≡ answer_first what.Fine answer y
+    → DoesTake home Tick answer x y acts past a b → w ≡ answer_first what.Fine answer y
     → AnswersSome home x y Ticked (Some w) a b
-ticks home x y left answer acts past w a b h is =
-    let all = took home (take home Tick) x y left acts past h.did.reaches in (
+ticks home x y answer acts past w a b h is =
+    let all = took home (take home Tick) x y acts past h.did.reaches in (
       past,
-      answers_by home Ticked x y left acts past (Some w) a b all
-          (took_calls home (take home Tick) x y left acts past h.did.reaches) h.did.made
+      answers_by home Ticked x y acts past (Some w) a b all
+          (took_calls home (take home Tick) x y acts past h.did.reaches) h.did.made
           (ap (λ z. Some z) is
           ∙ ap (λ z. Some (answer_first what.Fine z y)) h.answer_is
           ∙ ap
@@ -99,7 +99,7 @@ ticks home x y left answer acts past w a b h is =
 -- after it
 part_acts : {V : Type 0} {way : Way V} (home : Home) (f : Service → Service) (x shown : Seen)
     (a b : Outside way)
-    (d : DoesPart home f (at x [] 16) shown a b)
+    (d : DoesPart home f (at x []) shown a b)
     → (more : List Act) × ((f (begun x d.1)).done ≡ d.0 ++ more)
 part_acts home f x shown a b d =
     let more = d.4.adds (service d.3 d.0 []) in (
@@ -110,7 +110,7 @@ part_acts home f x shown a b d =
 
 part_seen : {V : Type 0} {way : Way V} (home : Home) (f : Service → Service) (x shown : Seen)
     (a b : Outside way)
-    (d : DoesPart home f (at x [] 16) shown a b)
+    (d : DoesPart home f (at x []) shown a b)
     → shown ≡ seen_after home x d.0 d.1
 part_seen home f x shown a b d =
     sym d.4.last ∙ sym (d.4.reaches.calls [] [])
@@ -122,7 +122,7 @@ pub fails : {V : Type 0} {way : Way V} (home : Home) (f : Service → Service) (
     (x shown : Seen)
     (a b : Outside way)
     → ((fates : List Fate) → served home x fates r ≡ f (begun x fates))
-    → DoesPart home f (at x [] 16) shown a b → FailsToAnswer home x shown r a b
+    → DoesPart home f (at x []) shown a b → FailsToAnswer home x shown r a b
 fails home f r x shown a b is d =
     let more = part_acts home f x shown a b d in (
       d.1,

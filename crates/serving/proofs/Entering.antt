@@ -20,12 +20,12 @@ use Rattle.answers.specs.Seen.{Seen}
 use Rattle.serving.specs.Nodes.{Fate, reply}
 use Rattle.serving.specs.model.Reaching.{at, service, Reaches, did_call, OnlyAdds, Did, Does}
 use Rattle.serving.specs.model.Reaching.{DoesPart}
-use Rattle.serving.specs.Serving.{Service, call, settle_by, settle}
+use Rattle.serving.specs.Serving.{Service, call, push_all}
 use Rattle.serving.specs.Serving.{entered_by, enter, waiting_after}
 use Rattle.serving.specs.declared.calls.NodeAnswer.{NodeAnswer}
 use Rattle.serving.specs.declared.calls.NodeAnswer.TheVariants.{Taken, Refused}
 use Rattle.serving.specs.declared.request.Request.TheVariants.{Entered}
-use Rattle.serving.proofs.Additions.{adds_both, adds_call, adds_settle}
+use Rattle.serving.proofs.Additions.{adds_both, adds_call, adds_push}
 use Rattle.serving.proofs.Makings.{Makes-nil, Makes-trans, Makes-call}
 use Rattle.serving.proofs.Parts.{part_of, part_call}
 use Rattle.serving.proofs.Reached.{stays, goes_on, calls_once}
@@ -33,25 +33,25 @@ use Rattle.serving.proofs.Answered.{took, took_calls, answers_by}
 
 -- Start and all that comes of it
 abbrev pub starts : Home → Service → Service
-starts home s = settle_by home 16 (call home Start s)
+starts home s = push_all (call home Start s)
 
 -- a call behind messages that wait, and then all that comes of them
 pub does_behind : {V : Type 0} (way : Way V) (home h : Home) (x y z : Seen) (event : DeskEvent)
-    (ms more rest : List Message) (left last : ℕ) (answer : NodeAnswer) (u v : V)
+    (ms more rest : List Message) (answer : NodeAnswer) (u v : V)
     (p : Option (List Push)) (b : Outside way)
     → h ≡ home
     → (fate : Fate) → Calls h event fate x y ms more answer → IsCall way.handles h event fate x u v
-    → Does home (settle_by home left) (at y more left) (at z rest last) (outside_of way v p) b
-    → Does home (λ s. settle_by home left (call home event s)) (at x ms left) (at z rest last)
+    → Does home push_all (at y more) (at z rest) (outside_of way v p) b
+    → Does home (λ s. push_all (call home event s)) (at x ms) (at z rest)
     (outside_of way u p) b
-does_behind way home h x y z event ms more rest left last answer u v p b same fate c made d =
+does_behind way home h x y z event ms more rest answer u v p b same fate c made d =
     let e = subst (λ u. Calls u event fate x y ms more answer) same c in (
       did_call home event fate x ∷ d.0,
       fate ∷ d.1,
       record {
         reaches =
             goes_on home _ _ _ _ _ _ (did_call home event fate x ∷ []) d.0 (fate ∷ []) d.1
-            (calls_once home (settle_by home left) event fate x y ms more left answer e)
+            (calls_once home push_all event fate x y ms more answer e)
             d.2.reaches;
         made =
             Makes-trans home.hall (outside_of way u p) (outside_of way v p) b
@@ -62,31 +62,31 @@ does_behind way home h x y z event ms more rest left last answer u v p b same fa
 
 -- memory was refused in the call, or in what comes of it
 pub part_at_behind : {V : Type 0} (way : Way V) (home h : Home) (x y : Seen) (event : DeskEvent)
-    (ms : List Message) (left : ℕ) (u v : V) (p : Option (List Push))
+    (ms : List Message) (u v : V) (p : Option (List Push))
     → h ≡ home
     → (fate : Fate) × LosesMessages h event fate x y × IsCall way.handles h event fate x u v
-    → DoesPart home (λ s. settle_by home left (call home event s)) (at x ms left) y
+    → DoesPart home (λ s. push_all (call home event s)) (at x ms) y
     (outside_of way u p) (outside_of way v p)
-part_at_behind way home h x y event ms left u v p same l =
-    part_call way home h (λ s. settle_by home left (call home event s)) (at x ms left) left left
+part_at_behind way home h x y event ms u v p same l =
+    part_call way home h (λ s. push_all (call home event s)) (at x ms)
     event x y ms [] [] (outside_of way u p) u v p same
-    (stays home (λ s. settle_by home left (call home event s)) (at x ms left))
+    (stays home (λ s. push_all (call home event s)) (at x ms))
     (Makes-nil home.hall (outside_of way u p)) l
 
 pub part_after_behind : {V : Type 0} (way : Way V) (home h : Home) (x y shown : Seen)
-    (event : DeskEvent) (ms more : List Message) (left : ℕ) (answer : NodeAnswer) (u v : V)
+    (event : DeskEvent) (ms more : List Message) (answer : NodeAnswer) (u v : V)
     (p : Option (List Push)) (b : Outside way)
     → h ≡ home
     → (fate : Fate) → Calls h event fate x y ms more answer → IsCall way.handles h event fate x u v
-    → DoesPart home (settle_by home left) (at y more left) shown (outside_of way v p) b
-    → DoesPart home (λ s. settle_by home left (call home event s)) (at x ms left) shown
+    → DoesPart home push_all (at y more) shown (outside_of way v p) b
+    → DoesPart home (λ s. push_all (call home event s)) (at x ms) shown
     (outside_of way u p) b
-part_after_behind way home h x y shown event ms more left answer u v p b same fate c made d =
+part_after_behind way home h x y shown event ms more answer u v p b same fate c made d =
     let e = subst (λ u. Calls u event fate x y ms more answer) same c in
-    part_of home (λ s. settle_by home left (call home event s)) (settle_by home left) d.2
-    (at x ms left) (at y more left) d.3 (did_call home event fate x ∷ []) d.0 (fate ∷ []) d.1 shown
+    part_of home (λ s. push_all (call home event s)) push_all d.2
+    (at x ms) (at y more) d.3 (did_call home event fate x ∷ []) d.0 (fate ∷ []) d.1 shown
     (outside_of way u p) b
-    (calls_once home (settle_by home left) event fate x y ms more left answer e) d.4.reaches
+    (calls_once home push_all event fate x y ms more answer e) d.4.reaches
     d.4.adds d.4.last
     (Makes-trans home.hall (outside_of way u p) (outside_of way v p) b
     (did_call home event fate x ∷ []) d.0 (Makes-call way home h event fate x u v p same made)
@@ -107,18 +107,18 @@ refused_of (Err why) e = (why, refl)
 enters : (home : Home) (e : Entry) (fate : Fate) (x y : Seen) (more ms : List Message)
     (answer : NodeAnswer)
     → Calls home (Submit e) fate x y [] more answer → (reply home x (Submit e) fate).result ≡ Ok ms
-    → Reaches home (enter home e) (at x [] 16) (starts home) (at y more 16)
+    → Reaches home (enter home e) (at x []) (starts home) (at y more)
     (did_call home (Submit e) fate x ∷ [])
     (fate ∷ [])
 unfolding enter call
 enters home e fate x y more ms answer c is =
     let once =
-    calls_once home (λ s. settle home (call home Start s)) (Submit e) fate x y [] more 16 answer
+    calls_once home (λ s. push_all (call home Start s)) (Submit e) fate x y [] more answer
     c in
     record {
       steps = λ done later.
           ap
-          (λ z. entered_by home z (call home (Submit e) (service (at x [] 16) done (fate ∷ later))))
+          (λ z. entered_by home z (call home (Submit e) (service (at x []) done (fate ∷ later))))
           is
           ∙ once.steps done later;
       calls = once.calls;
@@ -129,16 +129,16 @@ stays_out : (home : Home) (e : Entry) (fate : Fate) (x y : Seen) (more : List Me
     (why : NodeFault) (answer : NodeAnswer)
     → Calls home (Submit e) fate x y [] more answer
     → (reply home x (Submit e) fate).result ≡ Err why
-    → Reaches home (enter home e) (at x [] 16) (λ s. s) (at y more 16)
+    → Reaches home (enter home e) (at x []) (λ s. s) (at y more)
     (did_call home (Submit e) fate x ∷ [])
     (fate ∷ [])
 unfolding enter call
 stays_out home e fate x y more why answer c is =
-    let once = calls_once home (λ s. s) (Submit e) fate x y [] more 16 answer c in
+    let once = calls_once home (λ s. s) (Submit e) fate x y [] more answer c in
     record {
       steps = λ done later.
           ap
-          (λ z. entered_by home z (call home (Submit e) (service (at x [] 16) done (fate ∷ later))))
+          (λ z. entered_by home z (call home (Submit e) (service (at x []) done (fate ∷ later))))
           is
           ∙ once.steps done later;
       calls = once.calls;
@@ -146,26 +146,26 @@ stays_out home e fate x y more why answer c is =
 
 adds_entered : (home : Home) (r : Result (List Message) NodeFault) → OnlyAdds (entered_by home r)
 adds_entered home (Ok ms) s =
-    adds_both (call home Start) (settle_by home (call home Start s).left) (adds_call home Start)
-    (adds_settle home (call home Start s).left) s
+    adds_both (call home Start) push_all (adds_call home Start)
+    adds_push s
 adds_entered home (Err why) s = ([], sym (append-nil s.done))
 
 -- memory was refused in the call that hands the entry in
 enters_part : {V : Type 0} (way : Way V) (home h : Home) (e : Entry) (fate : Fate) (x y : Seen)
     (u v : V) (p : Option (List Push))
     → h ≡ home → LosesMessages home (Submit e) fate x y → IsCall way.handles h (Submit e) fate x u v
-    → DoesPart home (enter home e) (at x [] 16) y (outside_of way u p) (outside_of way v p)
+    → DoesPart home (enter home e) (at x []) y (outside_of way u p) (outside_of way v p)
 unfolding enter
 enters_part way home h e fate x y u v p same l made =
     let r = reply home x (Submit e) fate in
     let once =
-    calls_once home (entered_by home r.result) (Submit e) fate x y [] (waiting_after [] r.result) 16
+    calls_once home (entered_by home r.result) (Submit e) fate x y [] (waiting_after [] r.result)
     (answer_of r.result)
     (record { answer_is = refl; seen = l.seen; waits = refl }) in (
       did_call home (Submit e) fate x ∷ [],
       fate ∷ [],
       entered_by home r.result,
-      at y (waiting_after [] r.result) 16,
+      at y (waiting_after [] r.result),
       record {
         reaches = record { steps = once.steps; calls = once.calls };
         adds = adds_entered home r.result;
@@ -179,7 +179,7 @@ pub entered_lost : {V : Type 0} (way : Way V) (home h : Home) (e : Entry) (x y :
     → h ≡ home
     → (fate : Fate) × LosesMessages h (Submit e) fate x y × IsCall way.handles h
     (Submit e) fate x u v
-    → DoesPart home (enter home e) (at x [] 16) y (outside_of way u p) (outside_of way v p)
+    → DoesPart home (enter home e) (at x []) y (outside_of way u p) (outside_of way v p)
 entered_lost way home h e x y u v p same l =
     enters_part way home h e l.0 x y u v p same
     (subst (λ z. LosesMessages z (Submit e) l.0 x y) same l.1) l.2
@@ -191,15 +191,15 @@ pub entered_part : {V : Type 0} (way : Way V) (home h : Home) (e : Entry) (x y s
     → h ≡ home → ms ≡ [] → answer ≡ Taken
     → (fate : Fate) × Calls h (Submit e) fate x y ms more answer
     × IsCall way.handles h (Submit e) fate x u v
-    → DoesPart home (starts home) (at y more 16) shown (outside_of way v p) b
-    → DoesPart home (enter home e) (at x [] 16) shown (outside_of way u p) b
+    → DoesPart home (starts home) (at y more) shown (outside_of way v p) b
+    → DoesPart home (enter home e) (at x []) shown (outside_of way u p) b
 entered_part way home h e x y shown ms more answer u v p b same none taken called d =
     let c =
     subst (λ u. Calls home (Submit e) called.0 x y u more answer) none
     (subst (λ u. Calls u (Submit e) called.0 x y ms more answer) same called.1) in
     let ok = taken_of (reply home x (Submit e) called.0).result (sym c.answer_is ∙ taken) in
     let first = did_call home (Submit e) called.0 x ∷ [] in
-    part_of home (enter home e) (starts home) d.2 (at x [] 16) (at y more 16) d.3 first d.0
+    part_of home (enter home e) (starts home) d.2 (at x []) (at y more) d.3 first d.0
     (called.0 ∷ []) d.1 shown (outside_of way u p) b
     (enters home e called.0 x y more ok.0 answer c ok.1) d.4.reaches d.4.adds d.4.last
     (Makes-trans home.hall (outside_of way u p) (outside_of way v p) b first d.0
@@ -207,15 +207,15 @@ entered_part way home h e x y shown ms more answer u v p b same none taken calle
 
 -- the entry was taken, and all that comes of it done
 pub entered_all : {V : Type 0} (way : Way V) (home h : Home) (e : Entry) (x y z : Seen)
-    (ms more rest : List Message) (last : ℕ) (answer : NodeAnswer) (w : FrameBody) (u v : V)
+    (ms more rest : List Message) (answer : NodeAnswer) (w : FrameBody) (u v : V)
     (p : Option (List Push)) (b : Outside way)
     → h ≡ home → ms ≡ [] → rest ≡ [] → answer ≡ Taken
     → (fate : Fate) × Calls h (Submit e) fate x y ms more answer
     × IsCall way.handles h (Submit e) fate x u v
-    → Does home (starts home) (at y more 16) (at z rest last) (outside_of way v p) b
+    → Does home (starts home) (at y more) (at z rest) (outside_of way v p) b
     → w ≡ answer_first (what.Taken e.id) answer z
     → AnswersSome home x z (Entered e) (Some w) (outside_of way u p) b
-entered_all way home h e x y z ms more rest last answer w u v p b same none empty taken called does
+entered_all way home h e x y z ms more rest answer w u v p b same none empty taken called does
     is =
     let c =
     subst (λ u. Calls home (Submit e) called.0 x y u more answer) none
@@ -225,18 +225,18 @@ entered_all way home h e x y z ms more rest last answer w u v p b same none empt
     let m = outside_of way v p in
     let first = did_call home (Submit e) called.0 x in
     let d =
-    subst (λ u. Did home (starts home) (at y more 16) (at z u last) does.0 does.1 m b) empty
+    subst (λ u. Did home (starts home) (at y more) (at z u) does.0 does.1 m b) empty
     does.2 in
     let reaches =
-    goes_on home (enter home e) (starts home) (λ s. s) (at x [] 16) (at y more 16) (at z [] last)
+    goes_on home (enter home e) (starts home) (λ s. s) (at x []) (at y more) (at z [])
     (first ∷ []) does.0 (called.0 ∷ []) does.1
     (enters home e called.0 x y more ok.0 answer c ok.1) d.reaches in
     let all =
-    took home (enter home e) x z last (first ∷ does.0) (called.0 ∷ does.1) reaches in (
+    took home (enter home e) x z (first ∷ does.0) (called.0 ∷ does.1) reaches in (
       called.0 ∷ does.1,
-      answers_by home (Entered e) x z last (first ∷ does.0) (called.0 ∷ does.1) (Some w)
+      answers_by home (Entered e) x z (first ∷ does.0) (called.0 ∷ does.1) (Some w)
           a b all
-          (took_calls home (enter home e) x z last (first ∷ does.0) (called.0 ∷ does.1)
+          (took_calls home (enter home e) x z (first ∷ does.0) (called.0 ∷ does.1)
           reaches)
           (Makes-trans home.hall a m b (first ∷ []) does.0
           (Makes-call way home h (Submit e) called.0 x u v p same called.2) d.made)
@@ -276,15 +276,15 @@ entered_not way home h e x y ms more answer w u v p same none other called is =
     let reaches =
     subst
     (λ u.
-    Reaches home (enter home e) (at x [] 16) (λ s. s) (at y u 16) first
+    Reaches home (enter home e) (at x []) (λ s. s) (at y u) first
     (called.0 ∷ []))
     empty
     (stays_out home e called.0 x y more err.0 answer c err.1) in
-    let all = took home (enter home e) x y 16 first (called.0 ∷ []) reaches in (
+    let all = took home (enter home e) x y first (called.0 ∷ []) reaches in (
       called.0 ∷ [],
-      answers_by home (Entered e) x y 16 first (called.0 ∷ []) (Some w) (outside_of way u p)
+      answers_by home (Entered e) x y first (called.0 ∷ []) (Some w) (outside_of way u p)
           (outside_of way v p) all
-          (took_calls home (enter home e) x y 16 first (called.0 ∷ []) reaches)
+          (took_calls home (enter home e) x y first (called.0 ∷ []) reaches)
           (Makes-call way home h (Submit e) called.0 x u v p same called.2)
           (ap (λ v. Some v) is
           ∙ ap (λ v. Some (answer_first (what.Taken e.id) v y)) c.answer_is

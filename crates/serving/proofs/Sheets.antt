@@ -4,8 +4,8 @@ use Rattle.acceptor.specs.declared.entry.Entry.{Entry}
 use Rattle.formats.specs.declared.events.Event.{Event}
 use Rattle.answers.specs.Answers.{texts, sheet_at}
 use Rattle.sheets.specs.FrameLaw.{FitsInAFrame}
-use Rattle.sheets.specs.declared.Style.{Style}
-use Rattle.sheets.specs.declared.Style.TheVariants.{Text, Table}
+use Rattle.formats.specs.declared.styles.SheetStyle.{SheetStyle as Style}
+use Rattle.formats.specs.declared.styles.SheetStyle.TheVariants.{Text, Table}
 
 pub fits : FitsInAFrame
     → (style : Style) (log : List Entry) (position : ℕ) (event : Event) (round : ℕ) (text : List ℕ)

@@ -11,8 +11,8 @@ use Rattle.answers.specs.Seen.{Seen}
 use Rattle.serving.specs.Nodes.{Fate}
 use Rattle.serving.specs.model.Reaching.{Place, at, service, Reaches, OnlyAdds, Did, Does, DoesPart}
 use Rattle.serving.specs.model.Reaching.{DoesCall, DoesTake}
-use Rattle.serving.specs.Serving.{Act, Service, call, settle_by, settle, grew, start_if_grown, take}
-use Rattle.serving.proofs.Additions.{adds_both, adds_call, adds_settle}
+use Rattle.serving.specs.Serving.{Act, Service, call, push_all, grew, start_if_grown, take}
+use Rattle.serving.proofs.Additions.{adds_both, adds_call, adds_push}
 use Rattle.serving.proofs.Makings.{Makes-nil}
 use Rattle.serving.proofs.Reached.{goes_on, did_both}
 use Rattle.serving.proofs.Parts.{part_first, part_both}
@@ -20,94 +20,90 @@ use Rattle.serving.proofs.Parts.{part_first, part_both}
 -- ---- Start, where it is due
 
 adds_if : (home : Home) (b : Bool) (s : Service)
-    → (more : List Act) × ((cond b (settle home (call home Start s)) s).done ≡ s.done ++ more)
-adds_if home true s =
-    let first = adds_call home Start s in
-    let second = adds_settle home (call home Start s).left (call home Start s) in
-    adds_both (call home Start) (settle_by home (call home Start s).left) (adds_call home Start)
-    (adds_settle home (call home Start s).left) s
+    → (more : List Act) × ((cond b (push_all (call home Start s)) s).done ≡ s.done ++ more)
+adds_if home true s = adds_both (call home Start) push_all (adds_call home Start) adds_push s
 adds_if home false s = ([], sym (append-nil s.done))
 
 adds_start : (home : Home) (before : ℕ) → OnlyAdds (start_if_grown home before)
 unfolding start_if_grown
 adds_start home before s = adds_if home (grew before s.seen) s
 
-due : (home : Home) (before : ℕ) (y : Seen) (left : ℕ) → grew before y ≡ true
-    → Reaches home (start_if_grown home before) (at y [] left)
-    (λ s. settle_by home left (call home Start s)) (at y [] left) [] []
+due : (home : Home) (before : ℕ) (y : Seen) → grew before y ≡ true
+    → Reaches home (start_if_grown home before) (at y [])
+    (λ s. push_all (call home Start s)) (at y []) [] []
 unfolding start_if_grown call
-due home before y left h = record {
+due home before y h = record {
   steps =
       λ done later.
       ap
       (λ z.
-      cond z (settle home (call home Start (service (at y [] left) done later)))
-      (service (at y [] left) done later))
+      cond z (push_all (call home Start (service (at y []) done later)))
+      (service (at y []) done later))
       h
-      ∙ ap (λ z. settle_by home left (call home Start (service (at y [] left) z later)))
+      ∙ ap (λ z. push_all (call home Start (service (at y []) z later)))
       (sym (append-nil done));
   calls = λ more later. refl;
 }
 
-not_due : (home : Home) (before : ℕ) (y : Seen) (left : ℕ) → grew before y ≡ false
-    → Reaches home (start_if_grown home before) (at y [] left) (λ s. s) (at y [] left) [] []
+not_due : (home : Home) (before : ℕ) (y : Seen) → grew before y ≡ false
+    → Reaches home (start_if_grown home before) (at y []) (λ s. s) (at y []) [] []
 unfolding start_if_grown call
-not_due home before y left h = record {
+not_due home before y h = record {
   steps =
       λ done later.
       ap
       (λ z.
-      cond z (settle home (call home Start (service (at y [] left) done later)))
-      (service (at y [] left) done later))
+      cond z (push_all (call home Start (service (at y []) done later)))
+      (service (at y []) done later))
       h
-      ∙ ap (λ z. service (at y [] left) z later) (sym (append-nil done));
+      ∙ ap (λ z. service (at y []) z later) (sym (append-nil done));
   calls = λ more later. refl;
 }
 
 -- it was given, with all that comes of it
 pub starts : {V : Type 0} {way : Way V} (home : Home) (before : ℕ) (answer : NodeAnswer)
     (y z : Seen)
-    (left last : ℕ) (acts : List Act) (past : List Fate) (a b : Outside way)
-    → grew before y ≡ true → DoesCall home left last Start answer y z acts past a b
-    → Does home (start_if_grown home before) (at y [] left) (at z [] last) a b
-starts home before answer y z left last acts past a b h k = (
+    (acts : List Act) (past : List Fate) (a b : Outside way)
+    → grew before y ≡ true → DoesCall home Start answer y z acts past a b
+    → Does home (start_if_grown home before) (at y []) (at z []) a b
+starts home before answer y z acts past a b h k = (
   acts,
   past,
   record {
     reaches =
-        goes_on home (start_if_grown home before) (λ s. settle_by home left (call home Start s))
-        (λ s. s) (at y [] left) (at y [] left) (at z [] last) [] acts [] past
-        (due home before y left h) k.did.reaches;
+        goes_on home (start_if_grown home before) (λ s. push_all (call home Start s))
+        (λ s. s) (at y []) (at y []) (at z []) [] acts [] past
+        (due home before y h) k.did.reaches;
     made = k.did.made;
   },
 )
 
 -- it was not
-pub starts_not : {V : Type 0} {way : Way V} (home : Home) (before : ℕ) (y : Seen) (left : ℕ)
+pub starts_not : {V : Type 0} {way : Way V} (home : Home) (before : ℕ) (y : Seen)
     (a : Outside way)
     → grew before y ≡ false
-    → Does home (start_if_grown home before) (at y [] left) (at y [] left) a a
-starts_not home before y left a h = (
+    → Does home (start_if_grown home before) (at y []) (at y []) a a
+starts_not home before y a h = (
   [],
   [],
-  record { reaches = not_due home before y left h; made = Makes-nil home.hall a },
+  record { reaches = not_due home before y h; made = Makes-nil home.hall a },
 )
 
 -- memory was refused in it
 pub starts_part : {V : Type 0} {way : Way V} (home : Home) (before : ℕ) (y shown : Seen)
-    (left : ℕ) (a b : Outside way)
+    (a b : Outside way)
     → grew before y ≡ true
-    → DoesPart home (λ s. settle_by home left (call home Start s)) (at y [] left) shown a b
-    → DoesPart home (start_if_grown home before) (at y [] left) shown a b
-starts_part home before y shown left a b h d = (
+    → DoesPart home (λ s. push_all (call home Start s)) (at y []) shown a b
+    → DoesPart home (start_if_grown home before) (at y []) shown a b
+starts_part home before y shown a b h d = (
   d.0,
   d.1,
   d.2,
   d.3,
   record {
     reaches =
-        goes_on home (start_if_grown home before) (λ s. settle_by home left (call home Start s))
-        d.2 (at y [] left) (at y [] left) d.3 [] d.0 [] d.1 (due home before y left h)
+        goes_on home (start_if_grown home before) (λ s. push_all (call home Start s))
+        d.2 (at y []) (at y []) d.3 [] d.0 [] d.1 (due home before y h)
         d.4.reaches;
     adds = d.4.adds;
     last = d.4.last;
@@ -123,9 +119,9 @@ then_start home f s = start_if_grown home (length s.seen.desk.log) (f s)
 -- from its beginning on the log is known
 from_here : (home : Home) (f rest : Service → Service) (x : Seen) (second : Place)
     (acts : List Act) (past : List Fate)
-    → Reaches home (λ s. start_if_grown home (length x.desk.log) (f s)) (at x [] 16) rest second
+    → Reaches home (λ s. start_if_grown home (length x.desk.log) (f s)) (at x []) rest second
     acts past
-    → Reaches home (then_start home f) (at x [] 16) rest second acts past
+    → Reaches home (then_start home f) (at x []) rest second acts past
 from_here home f rest x second acts past r = record {
   steps = λ done later. r.steps done later;
   calls = r.calls;
@@ -133,8 +129,8 @@ from_here home f rest x second acts past r = record {
 
 part_from_here : {V : Type 0} {way : Way V} (home : Home) (f : Service → Service)
     (x shown : Seen) (a b : Outside way)
-    → DoesPart home (λ s. start_if_grown home (length x.desk.log) (f s)) (at x [] 16) shown a b
-    → DoesPart home (then_start home f) (at x [] 16) shown a b
+    → DoesPart home (λ s. start_if_grown home (length x.desk.log) (f s)) (at x []) shown a b
+    → DoesPart home (then_start home f) (at x []) shown a b
 part_from_here home f x shown a b d = (
   d.0,
   d.1,
@@ -152,12 +148,12 @@ part_from_here home f x shown a b d = (
 pub then_did : {V : Type 0} {way : Way V} (home : Home) (f : Service → Service) (before : ℕ)
     (x : Seen) (second third : Place) (xs ys : List Act) (past more : List Fate)
     (a b c : Outside way)
-    → before ≡ length x.desk.log → Did home f (at x [] 16) second xs past a b
+    → before ≡ length x.desk.log → Did home f (at x []) second xs past a b
     → Did home (start_if_grown home before) second third ys more b c
-    → Did home (then_start home f) (at x [] 16) third (xs ++ ys) (past ++ more) a c
+    → Did home (then_start home f) (at x []) third (xs ++ ys) (past ++ more) a c
 then_did home f before x second third xs ys past more a b c is d e =
     let both =
-    did_both home f (start_if_grown home (length x.desk.log)) (at x [] 16) second third xs ys past
+    did_both home f (start_if_grown home (length x.desk.log)) (at x []) second third xs ys past
     more a b c d
     (subst (λ k. Did home (start_if_grown home k) second third ys more b c) is e) in
     record {
@@ -169,33 +165,33 @@ then_did home f before x second third xs ys past more a b c is d e =
 -- memory was refused in the first
 pub then_not : {V : Type 0} {way : Way V} (home : Home) (f : Service → Service) (x shown : Seen)
     (a b : Outside way)
-    → DoesPart home f (at x [] 16) shown a b
-    → DoesPart home (then_start home f) (at x [] 16) shown a b
+    → DoesPart home f (at x []) shown a b
+    → DoesPart home (then_start home f) (at x []) shown a b
 then_not home f x shown a b d =
     part_from_here home f x shown a b
-    (part_first home f (start_if_grown home (length x.desk.log)) (at x [] 16) shown a b
+    (part_first home f (start_if_grown home (length x.desk.log)) (at x []) shown a b
     (adds_start home (length x.desk.log)) d)
 
 -- memory was refused in the second
 pub then_part : {V : Type 0} {way : Way V} (home : Home) (f : Service → Service) (before : ℕ)
     (x shown : Seen) (second : Place) (xs : List Act) (past : List Fate) (a b c : Outside way)
-    → before ≡ length x.desk.log → Did home f (at x [] 16) second xs past a b
+    → before ≡ length x.desk.log → Did home f (at x []) second xs past a b
     → DoesPart home (start_if_grown home before) second shown b c
-    → DoesPart home (then_start home f) (at x [] 16) shown a c
+    → DoesPart home (then_start home f) (at x []) shown a c
 then_part home f before x shown second xs past a b c is d e =
     part_from_here home f x shown a c
-    (part_both home f (start_if_grown home (length x.desk.log)) (at x [] 16) second xs past shown
+    (part_both home f (start_if_grown home (length x.desk.log)) (at x []) second xs past shown
     a b c d (subst (λ k. DoesPart home (start_if_grown home k) second shown b c) is e))
 
 -- ---- behind an event and all that comes of it
 
 abbrev pub settled_call : Home → DeskEvent → Service → Service
-settled_call home event s = settle_by home 16 (call home event s)
+settled_call home event s = push_all (call home event s)
 
 take_so : (home : Home) (event : DeskEvent) (x : Seen) (rest : Service → Service) (second : Place)
     (acts : List Act) (past : List Fate)
-    → Reaches home (then_start home (settled_call home event)) (at x [] 16) rest second acts past
-    → Reaches home (take home event) (at x [] 16) rest second acts past
+    → Reaches home (then_start home (settled_call home event)) (at x []) rest second acts past
+    → Reaches home (take home event) (at x []) rest second acts past
 unfolding take call
 take_so home event x rest second acts past r = record {
   steps = λ done later. r.steps done later;
@@ -204,8 +200,8 @@ take_so home event x rest second acts past r = record {
 
 take_part_so : {V : Type 0} {way : Way V} (home : Home) (event : DeskEvent) (x shown : Seen)
     (a b : Outside way)
-    → DoesPart home (then_start home (settled_call home event)) (at x [] 16) shown a b
-    → DoesPart home (take home event) (at x [] 16) shown a b
+    → DoesPart home (then_start home (settled_call home event)) (at x []) shown a b
+    → DoesPart home (take home event) (at x []) shown a b
 take_part_so home event x shown a b d = (
   d.0,
   d.1,
@@ -222,41 +218,41 @@ take_part_so home event x shown a b d = (
 -- memory was refused in the event
 pub take_not : {V : Type 0} {way : Way V} (home : Home) (event : DeskEvent) (x shown : Seen)
     (a b : Outside way)
-    → DoesPart home (settled_call home event) (at x [] 16) shown a b
-    → DoesPart home (take home event) (at x [] 16) shown a b
+    → DoesPart home (settled_call home event) (at x []) shown a b
+    → DoesPart home (take home event) (at x []) shown a b
 take_not home event x shown a b d =
     take_part_so home event x shown a b (then_not home (settled_call home event) x shown a b d)
 
 -- memory was refused in Start
 pub take_part : {V : Type 0} {way : Way V} (home : Home) (event : DeskEvent) (answer : NodeAnswer)
-    (before : ℕ) (x y shown : Seen) (left : ℕ) (xs : List Act) (past : List Fate)
+    (before : ℕ) (x y shown : Seen) (xs : List Act) (past : List Fate)
     (a b c : Outside way)
-    → before ≡ length x.desk.log → DoesCall home 16 left event answer x y xs past a b
-    → DoesPart home (start_if_grown home before) (at y [] left) shown b c
-    → DoesPart home (take home event) (at x [] 16) shown a c
-take_part home event answer before x y shown left xs past a b c is h d =
+    → before ≡ length x.desk.log → DoesCall home event answer x y xs past a b
+    → DoesPart home (start_if_grown home before) (at y []) shown b c
+    → DoesPart home (take home event) (at x []) shown a c
+take_part home event answer before x y shown xs past a b c is h d =
     take_part_so home event x shown a c
-    (then_part home (settled_call home event) before x shown (at y [] left) xs past a b c is h.did
+    (then_part home (settled_call home event) before x shown (at y []) xs past a b c is h.did
     d)
 
 -- both were done
 pub takes : {V : Type 0} {way : Way V} (home : Home) (event : DeskEvent) (answer : NodeAnswer)
-    (before : ℕ) (x y z : Seen) (left last : ℕ) (xs : List Act) (past : List Fate)
+    (before : ℕ) (x y z : Seen) (xs : List Act) (past : List Fate)
     (a b c : Outside way)
-    → before ≡ length x.desk.log → DoesCall home 16 left event answer x y xs past a b
-    → Does home (start_if_grown home before) (at y [] left) (at z [] last) b c
+    → before ≡ length x.desk.log → DoesCall home event answer x y xs past a b
+    → Does home (start_if_grown home before) (at y []) (at z []) b c
     → (acts : List Act) × (fates : List Fate)
-    × DoesTake home last event answer x z acts fates a c
-takes home event answer before x y z left last xs past a b c is h d =
+    × DoesTake home event answer x z acts fates a c
+takes home event answer before x y z xs past a b c is h d =
     let both =
-    then_did home (settled_call home event) before x (at y [] left) (at z [] last) xs d.0 past d.1
+    then_did home (settled_call home event) before x (at y []) (at z []) xs d.0 past d.1
     a b c is h.did d.2 in (
       xs ++ d.0,
       past ++ d.1,
       record {
         did = record {
           reaches =
-              take_so home event x (λ s. s) (at z [] last) (xs ++ d.0) (past ++ d.1)
+              take_so home event x (λ s. s) (at z []) (xs ++ d.0) (past ++ d.1)
               both.reaches;
           made = both.made;
         };

@@ -16,7 +16,7 @@ use Rattle.serving.specs.Adding.{Push, Hands}
 use Rattle.serving.specs.Making.{Way, Outside, outside_of, Makes}
 use Rattle.answers.specs.Seen.{Seen}
 use Rattle.serving.specs.Nodes.{Fate}
-use Rattle.serving.specs.Serving.{Act, Answered, Service, call, settle_by, hand_out}
+use Rattle.serving.specs.Serving.{Act, Answered, Service, call, push_all, hand_out}
 use Rattle.serving.specs.Serving.{answer_out, tell}
 use Rattle.serving.specs.Telling.{with_entry, decided_at, entry_told, entries_told}
 use Rattle.serving.specs.Telling.{run_of, run_pushed}
@@ -27,7 +27,7 @@ use Rattle.serving.specs.model.Calling.{Calls, IsCall, LosesMessages}
 use Rattle.serving.specs.model.Gathering.{Gathers, IsRun}
 use Rattle.serving.specs.model.Reaching.{at, service, Reaches, did_call, OnlyAdds, Does}
 use Rattle.serving.specs.model.Reaching.{DoesPart}
-use Rattle.serving.proofs.Additions.{adds_settle}
+use Rattle.serving.proofs.Additions.{adds_push}
 use Rattle.serving.proofs.Makings.{Makes-trans, Makes-call}
 use Rattle.serving.proofs.Parts.{part_of, lost}
 use Rattle.serving.proofs.Reached.{stays, goes_on, calls_once}
@@ -159,33 +159,33 @@ pub told_so : (home : Home) (m : Message) (x : Seen)
 unfolding tell
 told_so home m x = record { served_so = λ fates. refl; silent = λ fates. refl }
 
-adds_out : (home : Home) (r : Option DecidedRun) (s : Service)
-    → (more : List Act) × ((hand_out home r s).done ≡ s.done ++ more)
-adds_out home None s = adds_settle home s.left s
-adds_out home (Some run) s = (Answered run ∷ [], refl)
+adds_out : (r : Option DecidedRun) (s : Service)
+    → (more : List Act) × ((hand_out r s).done ≡ s.done ++ more)
+adds_out None s = adds_push s
+adds_out (Some run) s = (Answered run ∷ [], refl)
 
 adds_answer : (home : Home) → OnlyAdds (answer_out home)
 unfolding answer_out
-adds_answer home s = adds_out home (run_of home.desk s.waiting) s
+adds_answer home s = adds_out (run_of home.desk s.waiting) s
 
 -- a run goes out
 runs_out : (home : Home) (y : Seen) (ms rest : List Message) (run : DecidedRun)
     → run_of home.desk ms ≡ Some run → rest ≡ []
-    → Reaches home (answer_out home) (at y ms 16) (λ s. s) (at y [] 16) (Answered run ∷ []) []
+    → Reaches home (answer_out home) (at y ms) (λ s. s) (at y []) (Answered run ∷ []) []
 unfolding answer_out
 runs_out home y ms rest run is none = record {
-  steps = λ done later. ap (λ z. hand_out home z (service (at y ms 16) done later)) is;
+  steps = λ done later. ap (λ z. hand_out z (service (at y ms) done later)) is;
   calls = λ more later. refl;
 }
 
 -- there is no run
 no_run : (home : Home) (y : Seen) (ms : List Message) → run_of home.desk ms ≡ None
-    → Reaches home (answer_out home) (at y ms 16) (settle_by home 16) (at y ms 16) [] []
+    → Reaches home (answer_out home) (at y ms) push_all (at y ms) [] []
 unfolding answer_out
 no_run home y ms is = record {
   steps = λ done later.
-      ap (λ z. hand_out home z (service (at y ms 16) done later)) is
-      ∙ ap (λ z. settle_by home 16 (service (at y ms 16) z later)) (sym (append-nil done));
+      ap (λ z. hand_out z (service (at y ms) done later)) is
+      ∙ ap (λ z. push_all (service (at y ms) z later)) (sym (append-nil done));
   calls = λ more later. refl;
 }
 
@@ -193,10 +193,10 @@ no_run home y ms is = record {
 told_call : (home h : Home) (m : Message) (fate : Fate) (x y : Seen) (empty more : List Message)
     (answer : NodeAnswer)
     → h ≡ home → empty ≡ [] → Calls h (Deliver m) fate x y empty more answer
-    → Reaches home (told_first home m) (at x [] 16) (answer_out home) (at y more 16)
+    → Reaches home (told_first home m) (at x []) (answer_out home) (at y more)
     (did_call home (Deliver m) fate x ∷ []) (fate ∷ [])
 told_call home h m fate x y empty more answer same none c =
-    calls_once home (answer_out home) (Deliver m) fate x y [] more 16 answer
+    calls_once home (answer_out home) (Deliver m) fate x y [] more answer
     (subst (λ z. Calls home (Deliver m) fate x y z more answer) none
     (subst (λ z. Calls z (Deliver m) fate x y empty more answer) same c))
 
@@ -214,7 +214,7 @@ pub tells_run : {V : Type 0} (way : Way V) (home h : Home) (m : Message) (x y : 
     → (fate : Fate) → Calls h (Deliver m) fate x y empty more answer
     → IsCall way.handles h (Deliver m) fate x u v
     → Hands p q (run_pushed way.wire home.hall run ∷ [])
-    → Does home (told_first home m) (at x [] 16) (at y [] 16) (outside_of way u p)
+    → Does home (told_first home m) (at x []) (at y []) (outside_of way u p)
     (outside_of way v q)
 tells_run way home h m x y empty more messages answer run u v p q same none is found fate c made
     handed = (
@@ -222,8 +222,8 @@ tells_run way home h m x y empty more messages answer run u v p q same none is f
       fate ∷ [],
       record {
         reaches =
-            goes_on home (told_first home m) (answer_out home) (λ s. s) (at x [] 16) (at y more 16)
-            (at y [] 16) (did_call home (Deliver m) fate x ∷ []) (Answered run ∷ []) (fate ∷ []) []
+            goes_on home (told_first home m) (answer_out home) (λ s. s) (at x []) (at y more)
+            (at y []) (did_call home (Deliver m) fate x ∷ []) (Answered run ∷ []) (fate ∷ []) []
             (told_call home h m fate x y empty more answer same none c)
             (runs_out home y more [] run
             (sym (found ∙ ap (λ z. run_of home.desk z) is)) refl);
@@ -236,34 +236,31 @@ tells_run way home h m x y empty more messages answer run u v p q same none is f
     )
 
 pub tells_others : {V : Type 0} (way : Way V) (home h : Home) (m : Message) (x y z : Seen)
-    (empty more messages queue rest : List Message) (left last : ℕ) (answer : NodeAnswer) (u v : V)
+    (empty more messages queue rest : List Message) (answer : NodeAnswer) (u v : V)
     (p : Option (List Push)) (b : Outside way)
-    → h ≡ home → left ≡ 16 → empty ≡ [] → messages ≡ more → queue ≡ messages → rest ≡ []
+    → h ≡ home → empty ≡ [] → messages ≡ more → queue ≡ messages → rest ≡ []
     → None ≡ run_of home.desk messages
     → (fate : Fate) → Calls h (Deliver m) fate x y empty more answer
     → IsCall way.handles h (Deliver m) fate x u v
-    → Does home (settle_by home left) (at y queue left) (at z rest last) (outside_of way v p) b
-    → Does home (told_first home m) (at x [] 16) (at z [] last) (outside_of way u p) b
-tells_others way home h m x y z empty more messages queue rest left last answer u v p b same is
-    none kept lined all found fate c made d =
+    → Does home push_all (at y queue) (at z rest) (outside_of way v p) b
+    → Does home (told_first home m) (at x []) (at z []) (outside_of way u p) b
+tells_others way home h m x y z empty more messages queue rest answer u v p b same none kept lined
+    all found fate c made d =
     let e =
-    subst (λ w. Does home (settle_by home 16) (at y more 16) (at z w last) (outside_of way v p) b)
+    subst (λ w. Does home push_all (at y more) (at z w) (outside_of way v p) b)
     all
-    (subst (λ w. Does home (settle_by home 16) (at y w 16) (at z rest last) (outside_of way v p) b)
-    (lined ∙ kept)
-    (subst
-    (λ k. Does home (settle_by home k) (at y queue k) (at z rest last) (outside_of way v p) b) is
-    d)) in (
+    (subst (λ w. Does home push_all (at y w) (at z rest) (outside_of way v p) b)
+    (lined ∙ kept) d) in (
       (did_call home (Deliver m) fate x ∷ []) ++ ([] ++ e.0),
       (fate ∷ []) ++ ([] ++ e.1),
       record {
         reaches =
-            goes_on home (told_first home m) (answer_out home) (λ s. s) (at x [] 16)
-            (at y more 16) (at z [] last) (did_call home (Deliver m) fate x ∷ []) ([] ++ e.0)
+            goes_on home (told_first home m) (answer_out home) (λ s. s) (at x [])
+            (at y more) (at z []) (did_call home (Deliver m) fate x ∷ []) ([] ++ e.0)
             (fate ∷ []) ([] ++ e.1)
             (told_call home h m fate x y empty more answer same none c)
-            (goes_on home (answer_out home) (settle_by home 16) (λ s. s) (at y more 16)
-            (at y more 16) (at z [] last) [] e.0 [] e.1
+            (goes_on home (answer_out home) push_all (λ s. s) (at y more)
+            (at y more) (at z []) [] e.0 [] e.1
             (no_run home y more (sym (found ∙ ap (λ w. run_of home.desk w) kept))) e.2.reaches);
         made =
             Makes-trans home.hall (outside_of way u p) (outside_of way v p) b
@@ -278,12 +275,12 @@ pub tells_lost : {V : Type 0} (way : Way V) (home h : Home) (m : Message) (x y :
     → h ≡ home
     → (fate : Fate) × LosesMessages h (Deliver m) fate x y
     × IsCall way.handles h (Deliver m) fate x u v
-    → DoesPart home (told_first home m) (at x [] 16) y (outside_of way u p) (outside_of way v p)
+    → DoesPart home (told_first home m) (at x []) y (outside_of way u p) (outside_of way v p)
 tells_lost way home h m x y u v p same l =
-    part_of home (told_first home m) (told_first home m) (answer_out home) (at x [] 16)
-    (at x [] 16) _ [] (did_call home (Deliver m) l.0 x ∷ []) [] (l.0 ∷ []) y (outside_of way u p)
-    (outside_of way v p) (stays home (told_first home m) (at x [] 16))
-    (lost home (answer_out home) (Deliver m) l.0 x y [] 16
+    part_of home (told_first home m) (told_first home m) (answer_out home) (at x [])
+    (at x []) _ [] (did_call home (Deliver m) l.0 x ∷ []) [] (l.0 ∷ []) y (outside_of way u p)
+    (outside_of way v p) (stays home (told_first home m) (at x []))
+    (lost home (answer_out home) (Deliver m) l.0 x y []
     (subst (λ z. LosesMessages z (Deliver m) l.0 x y) same l.1))
     (adds_answer home) refl (Makes-call way home h (Deliver m) l.0 x u v p same l.2)
 
@@ -293,36 +290,34 @@ pub tells_no_run : {V : Type 0} (way : Way V) (home h : Home) (m : Message) (x y
     → h ≡ home → empty ≡ []
     → (fate : Fate) → Calls h (Deliver m) fate x y empty more answer
     → IsCall way.handles h (Deliver m) fate x u v
-    → DoesPart home (told_first home m) (at x [] 16) y (outside_of way u p) (outside_of way v p)
+    → DoesPart home (told_first home m) (at x []) y (outside_of way u p) (outside_of way v p)
 tells_no_run way home h m x y empty more answer u v p same none fate c made =
-    part_of home (told_first home m) (told_first home m) (answer_out home) (at x [] 16)
-    (at x [] 16) (at y more 16) [] (did_call home (Deliver m) fate x ∷ []) [] (fate ∷ []) y
-    (outside_of way u p) (outside_of way v p) (stays home (told_first home m) (at x [] 16))
+    part_of home (told_first home m) (told_first home m) (answer_out home) (at x [])
+    (at x []) (at y more) [] (did_call home (Deliver m) fate x ∷ []) [] (fate ∷ []) y
+    (outside_of way u p) (outside_of way v p) (stays home (told_first home m) (at x []))
     (told_call home h m fate x y empty more answer same none c)
     (adds_answer home) refl (Makes-call way home h (Deliver m) fate x u v p same made)
 
 -- memory was refused in what comes of it
 pub tells_part : {V : Type 0} (way : Way V) (home h : Home) (m : Message) (x y shown : Seen)
-    (empty more messages queue : List Message) (left : ℕ) (answer : NodeAnswer) (u v : V)
+    (empty more messages queue : List Message) (answer : NodeAnswer) (u v : V)
     (p : Option (List Push)) (b : Outside way)
-    → h ≡ home → left ≡ 16 → empty ≡ [] → messages ≡ more → queue ≡ messages
+    → h ≡ home → empty ≡ [] → messages ≡ more → queue ≡ messages
     → None ≡ run_of home.desk messages
     → (fate : Fate) → Calls h (Deliver m) fate x y empty more answer
     → IsCall way.handles h (Deliver m) fate x u v
-    → DoesPart home (settle_by home left) (at y queue left) shown (outside_of way v p) b
-    → DoesPart home (told_first home m) (at x [] 16) shown (outside_of way u p) b
-tells_part way home h m x y shown empty more messages queue left answer u v p b same is none kept
-    lined found fate c made d =
+    → DoesPart home push_all (at y queue) shown (outside_of way v p) b
+    → DoesPart home (told_first home m) (at x []) shown (outside_of way u p) b
+tells_part way home h m x y shown empty more messages queue answer u v p b same none kept lined
+    found fate c made d =
     let e =
-    subst (λ w. DoesPart home (settle_by home 16) (at y w 16) shown (outside_of way v p) b)
-    (lined ∙ kept)
-    (subst (λ k. DoesPart home (settle_by home k) (at y queue k) shown (outside_of way v p) b) is
-    d) in
-    part_of home (told_first home m) (settle_by home 16) e.2 (at x [] 16) (at y more 16) e.3
+    subst (λ w. DoesPart home push_all (at y w) shown (outside_of way v p) b)
+    (lined ∙ kept) d in
+    part_of home (told_first home m) push_all e.2 (at x []) (at y more) e.3
     ((did_call home (Deliver m) fate x ∷ []) ++ []) e.0 ((fate ∷ []) ++ []) e.1 shown
     (outside_of way u p) b
-    (goes_on home (told_first home m) (answer_out home) (settle_by home 16) (at x [] 16)
-    (at y more 16) (at y more 16) (did_call home (Deliver m) fate x ∷ []) [] (fate ∷ []) []
+    (goes_on home (told_first home m) (answer_out home) push_all (at x [])
+    (at y more) (at y more) (did_call home (Deliver m) fate x ∷ []) [] (fate ∷ []) []
     (told_call home h m fate x y empty more answer same none c)
     (no_run home y more (sym (found ∙ ap (λ w. run_of home.desk w) kept))))
     e.4.reaches e.4.adds e.4.last

@@ -14,8 +14,6 @@ use Rattle.answers.specs.declared.answers.IdState.{IdState}
 use Rattle.answers.specs.declared.answers.IdState.TheVariants as tells
 use Rattle.replica.specs.declared.roles.fault.NodeFault.{NodeFault}
 use Rattle.replica.specs.declared.roles.fault.NodeFault.TheVariants as fault
-use Rattle.sheets.specs.declared.Style.{Style as SheetStyle}
-use Rattle.sheets.specs.declared.Style.TheVariants as layout
 use Rattle.wire.specs.Numbers.{state_in, refusal_in, standing_in}
 use Rattle.wire.specs.Ranges.{IsBody, ToClient, way_of}
 use Rattle.wire.specs.declared.values.ClientRefusal.{ClientRefusal as Refusal}
@@ -23,8 +21,7 @@ use Rattle.wire.specs.declared.values.ClientRefusal.TheVariants as refusal
 use Rattle.wire.specs.declared.values.Version.{Version}
 use Rattle.wire.specs.declared.values.CommandState.{CommandState}
 use Rattle.wire.specs.declared.values.CommandState.TheVariants.{Unknown, Pending, Done}
-use Rattle.wire.specs.declared.values.SheetStyle.{SheetStyle as Style}
-use Rattle.wire.specs.declared.values.SheetStyle.TheVariants as asked
+use Rattle.formats.specs.declared.styles.SheetStyle.{SheetStyle as Style}
 use Rattle.wire.specs.declared.values.DeskRole.{DeskRole}
 use Rattle.wire.specs.declared.values.DeskRole.TheVariants as role
 use Rattle.wire.specs.declared.standing.Difference.{Difference}
@@ -69,13 +66,9 @@ told_what id Goes s = what.Told id s
 told_what id Starves s = what.Refused refusal.NoMemory
 told_what id Breaks s = what.Refused refusal.NoMemory
 
-abbrev pub style_of : Style → SheetStyle
-style_of asked.Text = layout.Text
-style_of asked.Table = layout.Table
-
 -- the sheet of this desk's log at the position
 abbrev pub sheet : Seen → Event → ℕ → ℕ → Style → Option (List ℕ)
-sheet x event round position style = sheet_at (style_of style) x.desk.log position event round
+sheet x event round position style = sheet_at style x.desk.log position event round
 
 abbrev pub printed_as : Fate → Option (List ℕ) → FrameBody
 printed_as Goes None = what.Refused refusal.NoSuchRound

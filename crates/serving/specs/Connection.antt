@@ -110,7 +110,7 @@ pub record AreBegun (bytes : List ℕ) (begun : List Begun) (rest : List ℕ) : 
   pub each : AllByRecursion IsFrame (frames_of begun)
 
 -- what serving changes: what is seen of the node, what the writer was given, and, beside what is
--- seen, the node itself and what the other desks were handed
+-- seen, the node itself and what the desks were handed
 pub record Sides {V : Type 0} (way : Way V) : Type 0 where
   pub seen : Seen
   pub written : Option (List ℕ)

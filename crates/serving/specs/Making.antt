@@ -1,4 +1,4 @@
--- Calls of a node and pushes to other desks as they are made (the project's own).
+-- Calls of a node and pushes to desks as they are made (the project's own).
 use Rattle.std.specs.Prelude.{◌≡◌, ℕ, ◌==◌, Bool, if◌then◌else◌, List, [], ◌∷◌, Option, Result}
 use Rattle.acceptor.specs.declared.message.Message.{Message}
 use Rattle.learner.specs.declared.event.DeskEvent.{DeskEvent}
@@ -54,7 +54,7 @@ abbrev pub Lead : {V : Type 0} → Handling V → V → List Call → V → Type
 Lead {V} way x [] y = x ≡ y
 Lead {V} way x (c ∷ cs) y = (z : V) × way x c.event c.answer z × Lead way z cs y
 
--- what is there beside what is seen: the node itself, and what the other desks were handed
+-- what is there beside what is seen: the node itself, and what the desks were handed
 pub record Outside {V : Type 0} (way : Way V) : Type 0 where
   pub node : V
   pub handed : Option (List Push)

@@ -46,7 +46,7 @@ abbrev pub TicksInPart : {V : Type 0} → {way : Way V} → Home → Sides way �
 TicksInPart {V} {way} home a b =
     (fates : List Fate) × FailsIn fault.NoMemory home a b (tick_begun way.wire home fates)
 
--- what a Tick changes of a node and the other desks, where frames are pushed in this version
+-- what a Tick changes of a node and the desks, where frames are pushed in this version
 abbrev pub sides_alone : {V U : Type 0} → (d : DeskOf V) → PeersOf U → (version : Version) → V → U
     → Sides (speaking d.handles d.settles version)
 sides_alone d p version node peers =

@@ -1,5 +1,5 @@
 -- Serving: what is done for a frame, and for one frame after the other (the project's own).
-use Rattle.std.specs.Prelude.{ℕ, zero, suc, ◌+◌, ◌==◌, ◌&&◌, not, nat_lt, Bool, if◌then◌else◌, List}
+use Rattle.std.specs.Prelude.{ℕ, ◌+◌, ◌&&◌, not, nat_lt, Bool, if◌then◌else◌, List}
 use Rattle.std.specs.Prelude.{[], ◌∷◌, ◌++◌, length, map, Option, None, Some, Result, Ok, Err}
 use Rattle.acceptor.specs.declared.message.Message.{Message}
 use Rattle.acceptor.specs.declared.message.Body.{Body}
@@ -50,18 +50,17 @@ pushed version hall m = record { to = m.to; bytes = spelling (framed version hal
 -- ---- one frame
 
 -- what is done while a frame is served: the node is called, with an event and its answer to it, a
--- message is pushed to another desk, or a desk that lacks entries is answered by a run of entries
+-- message is pushed, or a desk that lacks entries is answered by a run of entries
 pub data Act : Type 0 where
   Called : DeskEvent → Result (List Message) NodeFault → Act
   Pushed : Message → Act
   Answered : DecidedRun → Act
 
--- where the service of a frame is: the node, the messages that wait, how many more the desk may
--- deliver to itself, what was done, and the fates of the calls to come
+-- where the service of a frame is: the node, the messages that wait, what was done, and the fates of
+-- the calls to come
 pub record Service : Type 0 where
   pub seen : Seen
   pub waiting : List Message
-  pub left : ℕ
   pub done : List Act
   pub fates : List Fate
 
@@ -90,7 +89,6 @@ answered s event r =
     record {
       seen = r.seen;
       waiting = waiting_after s.waiting r.result;
-      left = s.left;
       done = s.done ++ Called event r.result ∷ [];
       fates = later_fates s.fates;
     }
@@ -101,53 +99,19 @@ reply_to home event s = reply home s.seen event (first_fate s.fates)
 unfoldable pub call : Home → DeskEvent → Service → Service
 call home event s = answered s event (reply_to home event s)
 
--- the messages in front of the first one to desk d, and that one with those after it
-abbrev pub in_front : ℕ → List Message → List Message
-in_front d [] = []
-in_front d (m ∷ ms) = if m.to == d then [] else m ∷ in_front d ms
-
-abbrev pub from_own : ℕ → List Message → List Message
-from_own d [] = []
-from_own d (m ∷ ms) = if m.to == d then m ∷ ms else from_own d ms
-
--- the messages to other desks
-abbrev pub to_others : ℕ → List Message → List Message
-to_others d [] = []
-to_others d (m ∷ ms) = if m.to == d then to_others d ms else m ∷ to_others d ms
-
--- these are pushed, and these wait after them
-abbrev pub push_all : List Message → List Message → Service → Service
-push_all ms waiting s =
+-- The messages that wait are pushed in order, those to the desk itself as all others.
+unfoldable pub push_all : Service → Service
+push_all s =
     record {
       seen = s.seen;
-      waiting = waiting;
-      left = s.left;
-      done = s.done ++ map (λ m. Pushed m) ms;
+      waiting = [];
+      done = s.done ++ map (λ m. Pushed m) s.waiting;
       fates = s.fates;
     }
 
--- these wait, and this many more may be delivered
-abbrev pub waits : List Message → ℕ → Service → Service
-waits ms left s =
-    record { seen = s.seen; waiting = ms; left = left; done = s.done; fates = s.fates }
-
--- the first message to the desk itself is delivered, if there is one, and then the others have
--- their turn
-abbrev pub deliver : Home → (Service → Service) → ℕ → List Message → Service → Service
-deliver home next k [] s = s
-deliver home next k (m ∷ ms) s = next (call home (Deliver m) (waits ms k s))
-
--- The messages that wait are taken in order: pushed, or delivered where they are to the desk
--- itself; what comes of these goes after the rest. Where no more may be delivered, those to the
--- desk itself are dropped.
-unfoldable pub settle_by : Home → ℕ → Service → Service
-settle_by home zero s = push_all (to_others home.desk s.waiting) [] s
-settle_by home (suc k) s =
-    deliver home (λ t. settle_by home k t) k (from_own home.desk s.waiting)
-    (push_all (in_front home.desk s.waiting) [] s)
-
-abbrev pub settle : Home → Service → Service
-settle home s = settle_by home s.left s
+-- these wait
+abbrev pub waits : List Message → Service → Service
+waits ms s = record { seen = s.seen; waiting = ms; done = s.done; fates = s.fates }
 
 -- ---- what was done
 
@@ -176,12 +140,12 @@ grew before x = not x.is_down && nat_lt before (length x.desk.log) && nat_lt 0 (
 -- Where the log has more than this many entries now, and entries wait in the queue, Start is given,
 -- unless the node is down.
 unfoldable pub start_if_grown : Home → ℕ → Service → Service
-start_if_grown home before s = if grew before s.seen then settle home (call home Start s) else s
+start_if_grown home before s = if grew before s.seen then push_all (call home Start s) else s
 
--- an event, all that comes of it, and Start where the log grew
+-- an event, its messages, and Start where the log grew
 unfoldable pub take : Home → DeskEvent → Service → Service
 take home event s =
-    start_if_grown home (length s.seen.desk.log) (settle home (call home event s))
+    start_if_grown home (length s.seen.desk.log) (push_all (call home event s))
 
 -- a desk says what was decided at a position
 abbrev pub decided : ℕ → ℕ → ℕ → Entry → DeskEvent
@@ -199,38 +163,37 @@ unfoldable pub learn : Home → ℕ → ℕ → ℕ → List Entry → Service �
 learn home from to pos [] s = s
 learn home from to pos (e ∷ es) s =
     unless_down (λ t. learn home from to (pos + 1) es t)
-    (call home (decided from to pos e) (waits [] s.left s))
+    (call home (decided from to pos e) (waits [] s))
 
--- entries, all that comes of the last one, and Start where the log grew
+-- entries, the messages of the last one, and Start where the log grew
 unfoldable pub learn_all : Home → DecidedRun → Service → Service
 learn_all home run s =
     start_if_grown home (length s.seen.desk.log)
-    (settle_by home s.left (learn home run.from run.to run.pos run.entries s))
+    (push_all (learn home run.from run.to run.pos run.entries s))
 
 -- The answer to a desk that lacks entries: a run of entries goes out as one, and anything else as
--- what comes of other messages.
-abbrev pub hand_out : Home → Option DecidedRun → Service → Service
-hand_out home None s = settle home s
-hand_out home (Some run) s =
+-- messages.
+abbrev pub hand_out : Option DecidedRun → Service → Service
+hand_out None s = push_all s
+hand_out (Some run) s =
     record {
       seen = s.seen;
       waiting = [];
-      left = s.left;
       done = s.done ++ Answered run ∷ [];
       fates = s.fates;
     }
 
 unfoldable pub answer_out : Home → Service → Service
-answer_out home s = hand_out home (run_of home.desk s.waiting) s
+answer_out home s = hand_out (run_of home.desk s.waiting) s
 
--- a desk says how long its log is, all that comes of it, and Start where the log grew
+-- a desk says how long its log is, the answer, and Start where the log grew
 unfoldable pub tell : Home → Message → Service → Service
 tell home m s =
     start_if_grown home (length s.seen.desk.log) (answer_out home (call home (Deliver m) s))
 
 -- an entry that was taken is followed by Start
 abbrev pub entered_by : Home → Result (List Message) NodeFault → Service → Service
-entered_by home (Ok ms) s = settle home (call home Start s)
+entered_by home (Ok ms) s = push_all (call home Start s)
 entered_by home (Err why) s = s
 
 unfoldable pub enter : Home → Entry → Service → Service
@@ -238,7 +201,7 @@ enter home e s = entered_by home (reply_to home (Submit e) s).result (call home 
 
 -- before anything is done for a frame
 abbrev pub begun : Seen → List Fate → Service
-begun x fates = record { seen = x; waiting = []; left = 16; done = []; fates = fates }
+begun x fates = record { seen = x; waiting = []; done = []; fates = fates }
 
 -- the calls and pushes of a request, with the fates of its calls
 abbrev pub served : Home → Seen → List Fate → Request → Service

@@ -10,7 +10,7 @@ use Rattle.serving.specs.declared.source.Source.{Ghosts as SourceOf}
 use Rattle.serving.specs.Connection.{Begun, IsConnection, Reads, Sides, sides}
 use Rattle.serving.specs.Making.{Outside, outside_of, speaking}
 
--- a node that serves, the other desks of its hall, and the writer of its answers
+-- a node that serves, the desks of its hall, and the writer of its answers
 pub record Line (V U X : Type 0) : Type 0 where
   pub node : V
   pub peers : U

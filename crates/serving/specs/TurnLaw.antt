@@ -35,7 +35,7 @@ pub record Place {V : Type 0} (way : Way V) : Type 0 where
 abbrev pub sides_in : {V : Type 0} → {way : Way V} → Place way → List ℕ → Sides way
 sides_in a answers = sides a.seen (Some answers) a.outside
 
--- node and other desks are as before
+-- node and desks are as before
 pub record IsQuiet {V : Type 0} {way : Way V} (a b : Place way) : Type 0 where
   pub seen : b.seen ≡ a.seen
   pub outside : b.outside ≡ a.outside

@@ -21,7 +21,7 @@ use Rattle.serving.specs.Sessions.{outside}
 
 -- what a connection has between two turns
 pub record Talk : Type 0 where
-  -- the desk that serves it, and the version in which frames are pushed to other desks
+  -- the desk that serves it, and the version in which frames are pushed to desks
   pub home : Home
   pub wire : Version
   -- the bytes of a frame that is not whole yet, or the fault that is there
@@ -88,7 +88,7 @@ Receives piece old new = OnlyReads old new × ReadsTo new.end piece old new
 
 -- ---- a frame is begun
 
--- a node, the other desks of its hall, and one of its connections
+-- a node, the desks of its hall, and one of its connections
 pub record Moment (V U : Type 0) : Type 0 where
   pub node : V
   pub peers : U

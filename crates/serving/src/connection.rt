@@ -118,7 +118,7 @@ impl Model for Connection {
 }
 
 impl Connection {
-    /// A connection with this desk that brought nothing yet. What is said to other desks is pushed
+    /// A connection with this desk that brought nothing yet. What is said to desks is pushed
     /// in the version `wire`; all versions are read.
     pub fn new<D: Desk>(alloc: Global, node: &D, wire: Version) -> Result<Connection, NoMemory>
         ensures { IfOk result (λ c. c ≡ new_talk (D.home_of node.now) wire) }

@@ -1,7 +1,7 @@
 //! Serving a desk: what is done for each frame that a connection brings, and how a connection ends.
 //!
-//! A frame of another desk is delivered, and a client's is answered. What a desk says to others is
-//! pushed to them as frames, and what it says to itself it hears at once.
+//! A frame of a desk is delivered, and a client's is answered. What a desk says is pushed as frames,
+//! to itself as to the others.
 #![tactic(auto)]
 
 mod calls;

@@ -1,9 +1,9 @@
-//! The other desks of a hall.
+//! The desks of a hall.
 
 ghost use Rattle.std.specs.Prelude.{[], ◌∷◌, List, Option};
 ghost use Rattle.serving.specs.Adding.{Push, Hands};
 
-/// The other desks of a hall, to which frames are pushed.
+/// The desks of a hall, to which frames are pushed: the other ones, and the desk itself.
 pub trait Peers {
     /// The frames that were handed over, in order, where that is known.
     ghost handed: { Self → Option (List Push) };

@@ -1,12 +1,11 @@
-//! Messages as frames, and those for other desks pushed.
+//! Messages as frames, pushed to their receivers.
 
-ghost use Rattle.std.specs.Prelude.{◌≡◌, ◌≤◌, ◌<◌, [], ◌∷◌, IfOk, OnOk, OnErr};
+ghost use Rattle.std.specs.Prelude.{◌≡◌, ◌≤◌, [], ◌∷◌, IfOk, OnOk, OnErr};
 ghost use Rattle.learner.specs.Ranges.{IsInRange, AreInRange};
 ghost use Rattle.wire.specs.Ranges.{IsEntry, IsFrame};
 ghost use Rattle.serving.specs.model.Framing.{IsTyped, ReportIsTyped};
-ghost use Rattle.serving.specs.model.Pushing.{Leads};
 ghost use Rattle.serving.specs.model.Sessions.{Pushes, PushesSome};
-ghost use Rattle.serving.specs.Serving.{what_of, framed, in_front, from_own, to_others};
+ghost use Rattle.serving.specs.Serving.{what_of, framed};
 
 use crate::peers::Peers;
 use crate::session::Session;
@@ -114,50 +113,20 @@ impl Session {
         Ok(())
     }
 
-    /// Pushes the messages in front of the first one to the desk itself, and takes that one, if
-    /// there is one.
-    pub fn push_front<P: Peers>(
-        self,
-        waiting: &mut VecDeque<Message>,
-        peers: &mut P,
-    ) -> Result<Option<Message>, NoMemory>
-        requires in_range { AreInRange self.home.desks self.home.desk waiting.old.items }
-        ensures pushed { OnOk result
-            (Pushes P.Peers self (in_front self.home.desk waiting.old.items) peers.old peers.new) }
-        ensures own { let own = from_own self.home.desk waiting.old.items in
-            IfOk result (λ m. Leads m own waiting.new.items) }
-        ensures in_range { AreInRange self.home.desks self.home.desk waiting.new.items }
-        ensures err { OnErr result
-            (PushesSome P.Peers self (in_front self.home.desk waiting.old.items)
-            peers.old peers.new) }
-    {
-        while let Some(message) = waiting.pop_front() {
-            if message.to == self.home.desk {
-                return Ok(Some(message));
-            }
-            self.push_message(message, peers)?;
-        }
-        Ok(None)
-    }
-
-    /// Pushes the messages to other desks, and drops those to the desk itself.
-    pub fn push_others<P: Peers>(
+    /// Pushes the messages that wait, in order.
+    pub fn push_all<P: Peers>(
         self,
         waiting: &mut VecDeque<Message>,
         peers: &mut P,
     ) -> Result<(), NoMemory>
         requires in_range { AreInRange self.home.desks self.home.desk waiting.old.items }
-        ensures pushed { OnOk result
-            (Pushes P.Peers self (to_others self.home.desk waiting.old.items) peers.old peers.new) }
+        ensures pushed { OnOk result (Pushes P.Peers self waiting.old.items peers.old peers.new) }
         ensures empty { OnOk result (waiting.new.items ≡ []) }
         ensures err { OnErr result
-            (PushesSome P.Peers self (to_others self.home.desk waiting.old.items)
-            peers.old peers.new) }
+            (PushesSome P.Peers self waiting.old.items peers.old peers.new) }
     {
         while let Some(message) = waiting.pop_front() {
-            if message.to != self.home.desk {
-                self.push_message(message, peers)?;
-            }
+            self.push_message(message, peers)?;
         }
         Ok(())
     }

@@ -4,7 +4,7 @@ ghost use Rattle.std.specs.Option.{ForSome};
 ghost use Rattle.std.specs.Prelude.{◌≡◌, ◌<◌, ◌≢◌, None, Some, OnErr, IfOk};
 ghost use Rattle.wire.specs.Ranges.{IsId};
 ghost use Rattle.serving.specs.Answering.{IsAnswer, IsAnswerIn, answer_first, refusal_of, state_of};
-ghost use Rattle.serving.specs.Answering.{state, told_what, style_of, printed, said_in};
+ghost use Rattle.serving.specs.Answering.{state, told_what, printed, said_in};
 ghost use Rattle.serving.specs.Connection.{answer_bytes, framed_answer};
 ghost use Rattle.serving.specs.Nodes.{Fate};
 
@@ -16,8 +16,7 @@ use formats::Event;
 use replica::roles::NodeFault;
 use sheets::fits_in_a_frame;
 use wire::{
-    Bytes, ClientRefusal as Refusal, CommandState, Frame, FrameBody, SheetStyle as Style, Version,
-    encode,
+    Bytes, ClientRefusal as Refusal, CommandState, Frame, FrameBody, SheetStyle, Version, encode,
 };
 
 /// What is said to a client of a desk's refusal.
@@ -82,25 +81,21 @@ pub fn asked<D: Desk>(node: &D, id: u64) -> FrameBody
     }
 }
 
-/// A sheet's style, in a sheet's words.
-fn style_of(style: Style) -> sheets::Style
-    ensures { result ≡ style_of style }
-{
-    match style {
-        Style::Text => sheets::Style::Text,
-        Style::Table => sheets::Style::Table,
-    }
-}
-
 /// The sheet of a round after the log's first entries.
 #[tactic(auto, using(crate::proofs::Refusing::refuses))]
-pub fn printed<D: Desk>(node: &D, event: Event, round: u8, position: u32, style: Style) -> FrameBody
+pub fn printed<D: Desk>(
+    node: &D,
+    event: Event,
+    round: u8,
+    position: u32,
+    style: SheetStyle,
+) -> FrameBody
     ensures what { (fate : Fate)
         × (result ≡ printed (D.seen node.now) fate event round position style) }
     ensures in_range { IsAnswer result }
 {
     fits_in_a_frame();
-    let refusal = match node.sheet_at(position, event, round, style_of(style)) {
+    let refusal = match node.sheet_at(position, event, round, style) {
         Ok(text) => {
             return FrameBody::SheetText {
                 text: Bytes::new(text),

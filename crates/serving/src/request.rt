@@ -12,7 +12,7 @@ use acceptor::entry::Entry;
 use acceptor::message::{Body, Message};
 use formats::Event;
 use store::home::Home;
-use wire::{Difference, Entries, Frame, FrameBody, SheetStyle as Style, Version};
+use wire::{Difference, Entries, Frame, FrameBody, SheetStyle, Version};
 
 /// What a desk says was decided, from a position on.
 #[derive(Debug, Drop)]
@@ -55,7 +55,7 @@ pub enum Request {
         event: Event,
         round: u8,
         position: u32,
-        style: Style,
+        style: SheetStyle,
     },
     /// A client asks how the desk is, and how another desk differs, if that was heard.
     Inspected {

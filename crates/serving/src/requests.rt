@@ -12,7 +12,6 @@ ghost use Rattle.serving.specs.model.Sessions.{TicksPart, desks};
 
 use crate::calls::{NodeAnswer, call};
 use crate::copies::copied;
-use crate::events::MOST_OWN;
 use crate::peers::Peers;
 use crate::replies::{answer_first, asked, printed};
 use crate::request::Request;
@@ -59,7 +58,7 @@ impl Session {
         Ok(answer_first(FrameBody::Fine, answer, node))
     }
 
-    /// Start, and all that comes of it and of the messages that wait.
+    /// Gives the node Start, and pushes the messages that wait and those of it.
     fn start<D: Desk, P: Peers>(
         self,
         node: &mut D,
@@ -76,10 +75,8 @@ impl Session {
         ensures empty { OnOk result (waiting.new.items ≡ []) }
         ensures home { D.home_of node.new ≡ D.home_of node.old }
     {
-        let mut left = MOST_OWN;
         call(node, waiting, DeskEvent::Start)?;
-        self.settle(node, peers, waiting, &mut left)?;
-        Ok(())
+        self.push_all(waiting, peers)
     }
 
     /// A client enters a command: where the desk accepts it, Start follows.

@@ -8,10 +8,9 @@ ghost use Rattle.serving.specs.Telling.{entries_told, entry_told, entries_said, 
 ghost use Rattle.serving.specs.model.Gathering.{Gathers, IsRun};
 ghost use Rattle.serving.specs.model.Sessions.{Delivers, DeliversPart, FailsToLearn, FailsToTell};
 ghost use Rattle.serving.specs.model.Sessions.{Learns, LearnsAll, LearnsPart, Tells, TellsAll};
-ghost use Rattle.serving.specs.model.Sessions.{TellsPart, desks, idle};
+ghost use Rattle.serving.specs.model.Sessions.{TellsPart, desks};
 
 use crate::calls::call;
-use crate::events::MOST_OWN;
 use crate::peers::Peers;
 use crate::request::DecidedRun;
 use crate::session::Session;
@@ -162,26 +161,24 @@ impl Session {
         Ok(())
     }
 
-    /// Delivers the entries, and takes all that comes of the last one.
-    fn learn_and_settle<D: Desk, P: Peers>(
+    /// Delivers the entries, and pushes the messages of the last one.
+    fn learn_and_push<D: Desk, P: Peers>(
         self,
         node: &mut D,
         peers: &mut P,
-        left: &mut u8,
         run: DecidedRun,
     ) -> Result<(), NoMemory>
         requires most { run.pos + length run.entries ≤ 65536 }
         requires home { D.home_of node.old ≡ self.home }
-        requires left { left.old ≡ 16 }
         ensures ok { OnOk result (LearnsAll D.Desk P.Peers self run
-            (desks node.old peers.old) (idle node.new peers.new left.new)) }
+            (desks node.old peers.old) (desks node.new peers.new)) }
         ensures err { OnErr result (LearnsPart D.Desk P.Peers self run
             (desks node.old peers.old) (desks node.new peers.new)) }
         ensures home { D.home_of node.new ≡ D.home_of node.old }
     {
         let mut waiting = VecDeque::new(self.alloc);
         self.deliver_each(node, &mut waiting, run)?;
-        self.settle(node, peers, &mut waiting, left)
+        self.push_all(&mut waiting, peers)
     }
 
     /// A desk says what was decided: each entry is delivered, and Start follows where the log grew.
@@ -200,9 +197,8 @@ impl Session {
         ensures home { D.home_of node.new ≡ D.home_of node.old }
     {
         let before = node.log().len();
-        let mut left = MOST_OWN;
-        self.learn_and_settle(node, peers, &mut left, run)?;
-        self.start_if_grown(node, peers, &mut left, before)
+        self.learn_and_push(node, peers, run)?;
+        self.start_if_grown(node, peers, before)
     }
 
     /// Pushes a run as one frame.
@@ -234,19 +230,17 @@ impl Session {
         Ok(())
     }
 
-    /// Gives the node a message of a desk that lacks entries, and takes all that comes of it. Where
-    /// that is a run, it is pushed as one frame.
+    /// Gives the node a message of a desk that lacks entries, and pushes the answer: as one frame
+    /// where it is a run.
     fn call_and_answer<D: Desk, P: Peers>(
         self,
         node: &mut D,
         peers: &mut P,
-        left: &mut u8,
         message: Message,
     ) -> Result<(), NoMemory>
         requires home { D.home_of node.old ≡ self.home }
-        requires left { left.old ≡ 16 }
         ensures ok { OnOk result (TellsAll D.Desk P.Peers self message
-            (desks node.old peers.old) (idle node.new peers.new left.new)) }
+            (desks node.old peers.old) (desks node.new peers.new)) }
         ensures err { OnErr result (TellsPart D.Desk P.Peers self message
             (desks node.old peers.old) (desks node.new peers.new)) }
         ensures home { D.home_of node.new ≡ D.home_of node.old }
@@ -258,7 +252,7 @@ impl Session {
             return self.push_run(run, peers);
         }
         let mut waiting = VecDeque::from(messages);
-        self.settle(node, peers, &mut waiting, left)
+        self.push_all(&mut waiting, peers)
     }
 
     /// A desk says how long its log is: it is sent what it lacks, and Start follows where this
@@ -277,8 +271,7 @@ impl Session {
         ensures home { D.home_of node.new ≡ D.home_of node.old }
     {
         let before = node.log().len();
-        let mut left = MOST_OWN;
-        self.call_and_answer(node, peers, &mut left, message)?;
-        self.start_if_grown(node, peers, &mut left, before)
+        self.call_and_answer(node, peers, message)?;
+        self.start_if_grown(node, peers, before)
     }
 }

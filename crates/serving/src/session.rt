@@ -14,7 +14,7 @@ pub struct Session {
     pub alloc: Global,
     /// The hall, the desk's number in it, and the number of desks.
     pub home: Home,
-    /// The version of the wire in which frames are pushed to other desks.
+    /// The version of the wire in which frames are pushed to desks.
     pub wire: Version,
     ghost few: { home.desks ≤ 5 },
     ghost ours: { IsDesk home.desks home.desk },

@@ -129,7 +129,7 @@ fn spoken(wire: u8) -> Version
 /// Serves a connection of a desk, frame by frame, until one of its ends: the stream's end, a Stop,
 /// 64 frames, 19,200,256 reads, a fault of the stream, a read or a write that fails, a store that
 /// fails, or want of memory. Each frame's answer is written before the next frame is begun, in the
-/// version of that frame. What is said to other desks is pushed in the version `wire`, 1 to 5; all
+/// version of that frame. What is said to desks is pushed in the version `wire`, 1 to 5; all
 /// are read. No frame is served beyond what the connection `may` ask, and an Await is answered as
 /// an Ask, since no time is known here.
 pub fn serve_connection<D: Desk, R: Read + Drop, W: Write, P: Peers>(

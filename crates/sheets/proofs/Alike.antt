@@ -10,8 +10,8 @@ use Rattle.rounds.specs.Tables.{Table, entrant, standings}
 use Rattle.commands.specs.Accepted.{Opened, name_of, opened, plus_command}
 use Rattle.commands.specs.Accepted.{round_in, round_of, seen_by, seen_of}
 use Rattle.commands.proofs.OneMore.{keeps_open, opened_kept}
-use Rattle.sheets.specs.declared.Style.{Style}
-use Rattle.sheets.specs.declared.Style.TheVariants as style
+use Rattle.formats.specs.declared.styles.SheetStyle.{SheetStyle as Style}
+use Rattle.formats.specs.declared.styles.SheetStyle.TheVariants as style
 use Rattle.sheets.specs.Sheet.{header, first_line, second_line, entrant_line, line_of}
 use Rattle.sheets.specs.Sheet.{text_of_round, entrant_record, record_of, table_of_round, is_marked}
 use Rattle.sheets.specs.Sheet.{sheet}

@@ -6,7 +6,7 @@ use Rattle.texts.specs.declared.command.Settings.{Settings}
 use Rattle.commands.specs.History.{history}
 use Rattle.commands.specs.Accepted.{round_of}
 use Rattle.commands.proofs.Sizes.{IsSmallRound, small_history}
-use Rattle.sheets.specs.declared.Style.TheVariants as style
+use Rattle.formats.specs.declared.styles.SheetStyle.TheVariants as style
 use Rattle.sheets.specs.Sheet.{text_of_round, table_of_round}
 use Rattle.sheets.specs.FrameLaw.{FitsInAFrame}
 use Rattle.sheets.proofs.TextLengths.{text_short}

@@ -4,7 +4,7 @@ use Rattle.std.specs.Prelude.{◌≡◌, ◌≤◌, ℕ, List}
 use Rattle.formats.specs.declared.events.Event.{Event}
 use Rattle.commands.specs.History.{history_in}
 use Rattle.commands.specs.EditionLaws.{AreWithout}
-use Rattle.sheets.specs.declared.Style.{Style}
+use Rattle.formats.specs.declared.styles.SheetStyle.{SheetStyle as Style}
 use Rattle.sheets.specs.Sheet.{sheet}
 
 -- of entries that set no edition after k, up to `later`, a program that knows the editions up to

@@ -2,7 +2,7 @@
 use Rattle.std.specs.Prelude.{◌≡◌, ◌^◌, ◌<◌, ◌≤◌, ℕ, List, length, Some}
 use Rattle.formats.specs.declared.events.Event.{Event}
 use Rattle.commands.specs.History.{history}
-use Rattle.sheets.specs.declared.Style.{Style}
+use Rattle.formats.specs.declared.styles.SheetStyle.{SheetStyle as Style}
 use Rattle.sheets.specs.Sheet.{sheet}
 
 -- of every list of entries, each an id and a text, every sheet at a position that is a u32 has at

@@ -21,8 +21,8 @@ use Rattle.advancement.specs.Advancing.{goes_on}
 use Rattle.texts.specs.Spelling.{cutoff_text, limit_text, advance_text}
 use Rattle.rounds.specs.Tables.{Entrant, Table, entrant, place, standings}
 use Rattle.commands.specs.Accepted.{name_of, round_of, seen_of}
-use Rattle.sheets.specs.declared.Style.{Style}
-use Rattle.sheets.specs.declared.Style.TheVariants as style
+use Rattle.formats.specs.declared.styles.SheetStyle.{SheetStyle as Style}
+use Rattle.formats.specs.declared.styles.SheetStyle.TheVariants as style
 
 -- ---- what a sheet says of a round
 

@@ -11,19 +11,11 @@ mod styled;
 
 pub use as_table::table;
 pub use as_text::text;
+pub use formats::SheetStyle;
 pub use going_on::AdvancingEntrants;
 pub use laws::{fits_in_a_frame, later_editions_change_no_sheet};
 pub use reading_back::table_reads_back;
 pub use styled::sheet;
-
-/// How a sheet is printed.
-#[derive(Clone, Copy, Debug, PartialEq, Eq)]
-pub enum Style {
-    /// Lines for reading, in columns.
-    Text,
-    /// Comma-separated values, a record a line.
-    Table,
-}
 
 /// Why there is no sheet.
 #[derive(Clone, Copy, Debug, PartialEq, Eq)]

@@ -4,7 +4,7 @@ ghost use Rattle.std.specs.Prelude.{◌≡◌, IfOk, IfErr, Some};
 ghost use Rattle.sheets.specs.Sheet.{sheet};
 ghost use Rattle.sheets.specs.Faults.{NoSheet};
 
-use crate::{SheetFault, Style, table, text};
+use crate::{SheetFault, SheetStyle, table, text};
 use commands::Meet;
 use formats::Event;
 use std::alloc::Global;
@@ -22,7 +22,7 @@ pub fn sheet(
     event: Event,
     round: u8,
     position: u32,
-    style: Style,
+    style: SheetStyle,
 ) -> Result<Vec<u8>, SheetFault>
     ensures sheet { IfOk result
         (λ text. sheet style meet.now.accepted event round position ≡ Some text.items) }
@@ -30,7 +30,7 @@ pub fn sheet(
         (λ e. NoSheet e (sheet style meet.now.accepted event round position)) }
 {
     match style {
-        Style::Text => text(alloc, meet, event, round, position),
-        Style::Table => table(alloc, meet, event, round, position),
+        SheetStyle::Text => text(alloc, meet, event, round, position),
+        SheetStyle::Table => table(alloc, meet, event, round, position),
     }
 }

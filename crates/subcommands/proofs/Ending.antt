@@ -1,12 +1,18 @@
 -- A task that asks a desk ends.
-use Rattle.std.proofs.Common.{◌≡◌, Bool, ℕ, List, Option, inl, inr, refl, string_bytes}
+use Rattle.std.proofs.Common.{◌≡◌, ◌⊎◌, Bool, ℕ, List, Option, Result, Ok, Err, IfErr, OnOk, inl}
+use Rattle.std.proofs.Common.{arith, inr, refl}
 use Rattle.desk_choice.specs.Resolving.{Resolves}
 use Rattle.desk_choice.specs.declared.resolving.DeskAddress.{DeskAddress}
 use Rattle.arguments.specs.declared.places.Place.{Place}
 use Rattle.batch.specs.Dialing.{Dialed, Told, place_of}
 use Rattle.batch.specs.declared.asking.Receiver.{Receiver}
 use Rattle.batch.specs.declared.dialing.Contact.{Contact}
-use Rattle.subcommands.specs.Places.{EndsAt, MissesDesk, Reach, looking}
+use Rattle.desk_requests.specs.Statuses.{status_of}
+use Rattle.desk_requests.specs.declared.fault.DeskFault.{DeskFault}
+use Rattle.desk_requests.specs.declared.fault.DeskFault.TheVariants as fault
+use Rattle.keys.specs.declared.key_file.fault.KeyFileFault.TheVariants as key
+use Rattle.lines.specs.declared.fault.RunFault.TheVariants as run
+use Rattle.subcommands.specs.Places.{EndsAs, EndsAt, IsAsked, MissesDesk, Reach, looking}
 
 -- no desk was found
 pub missed : (p : Place) (patience status : ℕ) (r : Reach) (Left : Type 0)
@@ -18,13 +24,11 @@ missed p patience status r Left Does misses left = inl (misses, left)
 pub done : (p : Place) (patience status : ℕ) (r : Reach) (Left : Type 0)
     (Does : Receiver → Contact → Told → Type 0) (found : DeskAddress) (there : Contact)
     (mid : Option (List Dialed)) (told : Option (List ℕ)) (awaits : Bool)
-    → Resolves p patience found (looking r mid told)
-    → there.address.now ≡ string_bytes found.address → there.patience ≡ patience
-    → there.key ≡ found.key
+    → Resolves p patience found (looking r mid told) → IsAsked found patience there
     → Does (record { hall = found.hall; desk = found.desk; awaits = awaits }) there
     (record { place = place_of there; old = mid; new = r.dialed_then })
     → EndsAt p patience status r Left Does
-done p patience status r Left Does found there mid told awaits resolves address same under does =
+done p patience status r Left Does found there mid told awaits resolves asked does =
     inr (
       record { hall = found.hall; desk = found.desk; awaits = awaits },
       there,
@@ -35,9 +39,66 @@ done p patience status r Left Does found there mid told awaits resolves address 
         resolves = resolves;
         hall = refl;
         desk = refl;
-        address = address;
-        patience_is = same;
-        key = under;
+        asked = asked;
       },
       does,
     )
+
+-- what was done with it is what the status says
+pub as_it_ended : (asked : Result (Unit {0}) DeskFault) (status : ℕ) (Did : Type 0)
+    (Failed : DeskFault → Type 0) → EndsAs asked status → OnOk asked Did → IfErr asked Failed
+    → ((status ≡ 0) × Did) ⊎ ((f : DeskFault) × (status ≡ status_of f) × Failed f)
+as_it_ended (Ok done) status Did Failed ends did failed = inl (ends, did)
+as_it_ended (Err f) status Did Failed ends did failed = inr (f, ends, failed)
+
+-- no fault ends with status 0
+pub not_zero : (f : DeskFault) (status : ℕ) → status ≡ status_of f → status ≡ 0 → ⊥
+not_zero (fault.Run run.BadCount) status is zero = omega (arith, is, zero)
+not_zero (fault.Run run.InputTooLong) status is zero = omega (arith, is, zero)
+not_zero (fault.Run (run.BadLine line)) status is zero = omega (arith, is, zero)
+not_zero (fault.Run run.Read) status is zero = omega (arith, is, zero)
+not_zero (fault.Run run.Write) status is zero = omega (arith, is, zero)
+not_zero (fault.Run run.NoMemory) status is zero = omega (arith, is, zero)
+not_zero fault.BadDesk status is zero = omega (arith, is, zero)
+not_zero fault.TextTooLong status is zero = omega (arith, is, zero)
+not_zero (fault.Refused refusal) status is zero = omega (arith, is, zero)
+not_zero fault.CannotConnect status is zero = omega (arith, is, zero)
+not_zero fault.NoAnswer status is zero = omega (arith, is, zero)
+not_zero fault.Late status is zero = omega (arith, is, zero)
+not_zero fault.NoKey status is zero = omega (arith, is, zero)
+not_zero fault.OtherKey status is zero = omega (arith, is, zero)
+not_zero fault.HasKey status is zero = omega (arith, is, zero)
+not_zero (fault.KeyFile key.NotThere) status is zero = omega (arith, is, zero)
+not_zero (fault.KeyFile key.Unreadable) status is zero = omega (arith, is, zero)
+not_zero (fault.KeyFile key.NotFile) status is zero = omega (arith, is, zero)
+not_zero (fault.KeyFile key.Open) status is zero = omega (arith, is, zero)
+not_zero (fault.KeyFile key.Mark) status is zero = omega (arith, is, zero)
+not_zero (fault.KeyFile key.Return) status is zero = omega (arith, is, zero)
+not_zero (fault.KeyFile key.Zeros) status is zero = omega (arith, is, zero)
+not_zero (fault.KeyFile key.NoKey) status is zero = omega (arith, is, zero)
+not_zero (fault.KeyFile key.NoMemory) status is zero = omega (arith, is, zero)
+not_zero fault.KeyThere status is zero = omega (arith, is, zero)
+not_zero fault.SameKeys status is zero = omega (arith, is, zero)
+not_zero fault.NoHallKey status is zero = omega (arith, is, zero)
+not_zero fault.WrongDesk status is zero = omega (arith, is, zero)
+not_zero fault.DamagedStore status is zero = omega (arith, is, zero)
+not_zero fault.StoreDevice status is zero = omega (arith, is, zero)
+not_zero fault.StoreDown status is zero = omega (arith, is, zero)
+not_zero fault.CannotListen status is zero = omega (arith, is, zero)
+not_zero fault.NoMoreIds status is zero = omega (arith, is, zero)
+not_zero fault.StillPending status is zero = omega (arith, is, zero)
+not_zero fault.Lost status is zero = omega (arith, is, zero)
+not_zero fault.NoStore status is zero = omega (arith, is, zero)
+not_zero fault.StoreThere status is zero = omega (arith, is, zero)
+not_zero fault.SameAddresses status is zero = omega (arith, is, zero)
+not_zero (fault.UnknownHost desk) status is zero = omega (arith, is, zero)
+not_zero fault.BadHallFile status is zero = omega (arith, is, zero)
+not_zero fault.NoCommand status is zero = omega (arith, is, zero)
+not_zero fault.AnotherCommand status is zero = omega (arith, is, zero)
+not_zero fault.AtRefusal status is zero = omega (arith, is, zero)
+
+-- where the status is 0, what a fault alone changes is as it was
+pub as_before : (asked : Result (Unit {0}) DeskFault) (status : ℕ) (Same : Type 0)
+    → EndsAs asked status → OnOk asked Same → status ≡ 0 → Same
+as_before (Ok done) status Same ends same zero = same
+as_before (Err f) status Same ends same zero = absurd (not_zero f status ends zero)

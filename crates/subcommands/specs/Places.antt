@@ -1,5 +1,5 @@
 -- A task that asks a desk: the desk is found, and then it is asked (the project's own).
-use Rattle.std.specs.Prelude.{◌≡◌, ◌⊎◌, ℕ, List, Option, string_bytes}
+use Rattle.std.specs.Prelude.{◌≡◌, ◌⊎◌, ℕ, List, Option, Result, Ok, Err, string_bytes}
 use Rattle.desk_choice.specs.Resolving.{FailsToResolve, Outside, Resolves}
 use Rattle.desk_choice.specs.declared.resolving.DeskAddress.{DeskAddress}
 use Rattle.arguments.specs.declared.places.Place.{Place}
@@ -33,6 +33,12 @@ pub record MissesDesk (status : ℕ) (p : Place) (patience : ℕ) (r : Reach) : 
   pub is : status ≡ status_of fault
   pub misses : FailsToResolve fault p patience (looking r r.dialed_then told)
 
+-- a desk that was found is asked there, for this long, under its key
+pub record IsAsked (found : DeskAddress) (patience : ℕ) (there : Contact) : Type 0 where
+  pub address : there.address.now ≡ string_bytes found.address
+  pub patience_is : there.patience ≡ patience
+  pub key : there.key ≡ found.key
+
 -- a desk was found, after what became of connections up to here, and it is asked as this one there
 pub record FindsDesk (p : Place) (patience : ℕ) (r : Reach) (one : Receiver) (there : Contact)
     (mid : Option (List Dialed)) : Type 0 where
@@ -41,9 +47,7 @@ pub record FindsDesk (p : Place) (patience : ℕ) (r : Reach) (one : Receiver) (
   pub resolves : Resolves p patience found (looking r mid told)
   pub hall : one.hall ≡ found.hall
   pub desk : one.desk ≡ found.desk
-  pub address : there.address.now ≡ string_bytes found.address
-  pub patience_is : there.patience ≡ patience
-  pub key : there.key ≡ found.key
+  pub asked : IsAsked found patience there
 
 -- no desk was found, and this is left as it was; or one was, and this was done with it
 abbrev pub EndsAt : Place → ℕ → ℕ → Reach → Type 0 → (Receiver → Contact → Told → Type 0) → Type 0
@@ -52,6 +56,11 @@ EndsAt p patience status r Left Does =
     ⊎ ((one : Receiver) × (there : Contact) × (mid : Option (List Dialed))
     × FindsDesk p patience r one there mid
     × Does one there (record { place = place_of there; old = mid; new = r.dialed_then }))
+
+-- the status is 0 after what was done, and that of the fault otherwise
+abbrev pub EndsAs : Result (Unit {0}) DeskFault → ℕ → Type 0
+EndsAs (Ok done) status = status ≡ 0
+EndsAs (Err fault) status = status ≡ status_of fault
 
 -- the arguments name the desk and its address
 abbrev pub NamesDesk : Place → Type 0

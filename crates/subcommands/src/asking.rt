@@ -7,12 +7,11 @@ ghost use Rattle.subcommands.specs.Asking.{EndsCarry, EndsCopyLog, EndsNewest, E
 ghost use Rattle.subcommands.specs.Asking.{EndsUnnamed, is_of_file, lacks_name, log_form};
 ghost use Rattle.subcommands.specs.Places.{NamesDesk, reach};
 
-use crate::finding::found_at;
+use crate::finding::{contact_of, found_at};
 use crate::telling::{tell_asked, tell_unnamed};
 use arguments::{ClientRequest, LogFormOption, Place};
-use batch::{Contact, Dial, Receiver, RoundSheet};
+use batch::{Dial, Receiver, RoundSheet};
 use desk_requests::{Errand, ResultOwner, ShownEntries, carry, print_log, print_newest};
-use fault_hints::FaultSubject;
 use std::io::Write;
 
 /// Whether the desk is one of a file's hall.
@@ -59,30 +58,16 @@ fn carry_named<D: Dial, W: Write, F: Write>(
         Ok(found) => found,
         Err(status) => return status,
     };
-    let contact = Contact {
-        address: found.address.as_str(),
-        patience,
-        key: found.key,
-    };
-    let (hall, desk) = (found.hall, found.desk);
+    let contact = contact_of(&found, patience);
     let errand = Errand {
-        hall,
-        desk,
+        hall: found.hall,
+        desk: found.desk,
         contact,
         request,
         names,
     };
-    match carry(rt.alloc(), dial, errand, writer) {
-        Ok(()) => 0,
-        Err(fault) => {
-            let about = FaultSubject::Asking {
-                hall,
-                desk,
-                contact,
-            };
-            tell_asked(rt, faults, fault, about, contact, explains)
-        }
-    }
+    let asked = carry(rt.alloc(), dial, errand, writer);
+    tell_asked(rt, faults, asked, &found, contact, explains)
 }
 
 /// Says which desk of a file's hall answers, since the arguments have to name one, and returns the
@@ -155,28 +140,14 @@ pub fn newest_at<D: Dial, W: Write, F: Write>(
         Ok(found) => found,
         Err(status) => return status,
     };
-    let contact = Contact {
-        address: found.address.as_str(),
-        patience,
-        key: found.key,
-    };
-    let (hall, desk) = (found.hall, found.desk);
+    let contact = contact_of(&found, patience);
     let receiver = Receiver {
-        hall,
-        desk,
+        hall: found.hall,
+        desk: found.desk,
         awaits: false,
     };
-    match print_newest(rt.alloc(), dial, contact, receiver, sheet, writer) {
-        Ok(()) => 0,
-        Err(fault) => {
-            let about = FaultSubject::Asking {
-                hall,
-                desk,
-                contact,
-            };
-            tell_asked(rt, faults, fault, about, contact, explains)
-        }
-    }
+    let asked = print_newest(rt.alloc(), dial, contact, receiver, sheet, writer);
+    tell_asked(rt, faults, asked, &found, contact, explains)
 }
 
 /// In which form a log is printed.
@@ -221,27 +192,13 @@ pub fn copy_log_at<D: Dial, W: Write, F: Write>(
         Ok(found) => found,
         Err(status) => return status,
     };
-    let contact = Contact {
-        address: found.address.as_str(),
-        patience,
-        key: found.key,
-    };
-    let (hall, desk) = (found.hall, found.desk);
+    let contact = contact_of(&found, patience);
     let receiver = Receiver {
-        hall,
-        desk,
+        hall: found.hall,
+        desk: found.desk,
         awaits: false,
     };
     let form = log_form(form);
-    match print_log(rt.alloc(), dial, contact, receiver, form, from, writer) {
-        Ok(()) => 0,
-        Err(fault) => {
-            let about = FaultSubject::Asking {
-                hall,
-                desk,
-                contact,
-            };
-            tell_asked(rt, faults, fault, about, contact, explains)
-        }
-    }
+    let asked = print_log(rt.alloc(), dial, contact, receiver, form, from, writer);
+    tell_asked(rt, faults, asked, &found, contact, explains)
 }

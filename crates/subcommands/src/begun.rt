@@ -10,7 +10,6 @@ ghost use Rattle.wire.specs.Ranges.{IsDesk};
 use batch::{BatchFault, Contact, Dial, ask_over};
 use client::status_request;
 use desk_requests::Inquiry;
-use std::alloc::Global;
 use std::io::Write;
 use wire::FrameBody;
 
@@ -60,7 +59,6 @@ fn joined(one: KnownDesks, more: KnownDesks) -> KnownDesks
 
 /// Asks at an address how the desk of a number is.
 fn ask_one<D: Dial>(
-    alloc: Global,
     dial: &mut D,
     inquiry: Inquiry<'_>,
     desk: u8,
@@ -75,13 +73,12 @@ fn ask_one<D: Dial>(
         patience: inquiry.patience,
         key: inquiry.key,
     };
-    ask_over(alloc, dial, contact, &status_request(inquiry.hall, desk))
+    ask_over(dial, contact, &status_request(inquiry.hall, desk))
 }
 
 /// Asks at these addresses, at the first for the desk of this number, and at each further one for
 /// the next.
 fn ask_all<D: Dial>(
-    alloc: Global,
     dial: &mut D,
     inquiry: Inquiry<'_>,
     lost: u8,
@@ -100,9 +97,9 @@ fn ask_all<D: Dial>(
             had: 0,
         };
     };
-    let answer = ask_one(alloc, dial, inquiry, desk, address);
+    let answer = ask_one(dial, inquiry, desk, address);
     let one = known_by(lost, &answer);
-    let more = ask_all(alloc, dial, inquiry, lost, desk + 1, rest);
+    let more = ask_all(dial, inquiry, lost, desk + 1, rest);
     joined(one, more)
 }
 
@@ -145,7 +142,6 @@ fn tell_known<F: Write>(faults: &mut F, known: KnownDesks, desk: u8, may: bool)
 /// is made, and returns whether it may be: none that answers has a command, or heard of one by this
 /// desk; and one answers, or all desks of the hall are new. Where it may not, a line says so.
 pub fn may_make<D: Dial, F: Write>(
-    alloc: Global,
     dial: &mut D,
     inquiry: Inquiry<'_>,
     desk: u8,
@@ -156,7 +152,7 @@ pub fn may_make<D: Dial, F: Write>(
     ensures { MayMake inquiry.entry desk new_hall result (D.dialed dial.old) (D.dialed dial.new)
         (F.contents faults.old) (F.contents faults.new) }
 {
-    let known = ask_all(alloc, dial, inquiry, desk, 1, inquiry.addresses);
+    let known = ask_all(dial, inquiry, desk, 1, inquiry.addresses);
     let may = may_begin(known, new_hall);
     tell_known(faults, known, desk, may);
     may

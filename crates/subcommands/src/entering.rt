@@ -7,13 +7,12 @@ ghost use Rattle.subcommands.specs.Entering.{EndsEnter, EndsLines, EndsWords, Is
 ghost use Rattle.subcommands.specs.Entering.{is_looked_at, spaced};
 ghost use Rattle.subcommands.specs.Places.{reach};
 
-use crate::finding::found_at;
+use crate::finding::{contact_of, found_at};
 use crate::reached::HallSearch;
 use crate::telling::tell_asked;
 use arguments::{EnterOptions, Place};
-use batch::{Contact, Dial, Receiver, knows_await};
+use batch::{Dial, Receiver, knows_await};
 use desk_requests::{DeskFault, enter_all, enter_one, may_enter, tell};
-use fault_hints::FaultSubject;
 use lines::RunFault;
 use std::alloc::Global;
 use std::io::{IsTerminal, Read, Write};
@@ -40,17 +39,12 @@ fn enter_at<D: Dial, W: Write, F: Write>(
         Ok(found) => found,
         Err(status) => return status,
     };
-    let contact = Contact {
-        address: found.address.as_str(),
-        patience,
-        key: found.key,
-    };
-    let (hall, desk) = (found.hall, found.desk);
+    let contact = contact_of(&found, patience);
     let alloc = rt.alloc();
     let receiver = Receiver {
-        hall,
-        desk,
-        awaits: knows_await(alloc, dial, contact, hall, desk),
+        hall: found.hall,
+        desk: found.desk,
+        awaits: knows_await(dial, contact, found.hall, found.desk),
     };
     let mut reached = HallSearch::new(rt, place, found.key);
     match enter_one(
@@ -67,14 +61,7 @@ fn enter_at<D: Dial, W: Write, F: Write>(
         faults,
     ) {
         Ok(status) => status,
-        Err(fault) => {
-            let about = FaultSubject::Asking {
-                hall,
-                desk,
-                contact,
-            };
-            tell_asked(rt, faults, fault, about, contact, explains)
-        }
+        Err(fault) => tell_asked(rt, faults, Err(fault), &found, contact, explains),
     }
 }
 
@@ -171,21 +158,16 @@ pub fn enter_lines_at<D: Dial, R: Read, W: Write, F: Write>(
         Ok(found) => found,
         Err(status) => return status,
     };
-    let contact = Contact {
-        address: found.address.as_str(),
-        patience,
-        key: found.key,
-    };
-    let (hall, desk) = (found.hall, found.desk);
+    let contact = contact_of(&found, patience);
     let alloc = rt.alloc();
     let receiver = Receiver {
-        hall,
-        desk,
-        awaits: knows_await(alloc, dial, contact, hall, desk),
+        hall: found.hall,
+        desk: found.desk,
+        awaits: knows_await(dial, contact, found.hall, found.desk),
     };
     let mut reached = HallSearch::new(rt, place, found.key);
     let is_terminal = rt.stderr().is_terminal();
-    match enter_all(
+    let asked = enter_all(
         rt,
         alloc,
         dial,
@@ -197,15 +179,6 @@ pub fn enter_lines_at<D: Dial, R: Read, W: Write, F: Write>(
         writer,
         &mut reached,
         faults,
-    ) {
-        Ok(()) => 0,
-        Err(fault) => {
-            let about = FaultSubject::Asking {
-                hall,
-                desk,
-                contact,
-            };
-            tell_asked(rt, faults, fault, about, contact, explains)
-        }
-    }
+    );
+    tell_asked(rt, faults, asked, &found, contact, explains)
 }

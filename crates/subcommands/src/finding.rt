@@ -3,11 +3,11 @@
 ghost use Rattle.std.specs.Prelude.{◌≡◌, ◌∷◌, List, Option, IfErr, IfOk, OnOk, string_bytes};
 ghost use Rattle.std.specs.Io.KnownBytes.{Keeps};
 ghost use Rattle.desk_choice.specs.Resolving.{Resolves, outside};
-ghost use Rattle.subcommands.specs.Places.{MissesDesk, NamesDesk, reach};
+ghost use Rattle.subcommands.specs.Places.{IsAsked, MissesDesk, NamesDesk, reach};
 
 use crate::telling::tell_missing;
 use arguments::Place;
-use batch::Dial;
+use batch::{Contact, Dial};
 use desk_choice::{DeskAddress, addressed};
 use std::io::Write;
 
@@ -31,5 +31,16 @@ pub(crate) fn found_at<D: Dial, F: Write>(
     match addressed(rt, dial, place, patience, faults) {
         Ok(found) => Ok(found),
         Err(fault) => Err(tell_missing(rt, faults, fault, explains)),
+    }
+}
+
+/// How a desk that was found is asked.
+pub(crate) fn contact_of(found: &DeskAddress, patience: u32) -> Contact<'_>
+    ensures { IsAsked found.now patience result }
+{
+    Contact {
+        address: found.address.as_str(),
+        patience,
+        key: found.key,
     }
 }

@@ -24,7 +24,7 @@ fn push_program<D: Dial>(
         patience: inquiry.patience.max(4),
         key: inquiry.key,
     };
-    let said = if knows_await(alloc, dial, contact, inquiry.hall, desk) {
+    let said = if knows_await(dial, contact, inquiry.hall, desk) {
         "its program is of this version"
     } else {
         "its program is of an earlier version, or does not answer"

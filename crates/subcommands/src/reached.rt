@@ -46,7 +46,7 @@ fn is_reached(rt: &HostRuntime, hall: &HallFile, key: Option<[u8; 32]>, desk: u8
     }
     let request = status_request(hall.hall, desk);
     matches!(
-        ask_over(rt.alloc(), &mut dial, contact, &request),
+        ask_over(&mut dial, contact, &request),
         Ok(FrameBody::Standing { .. })
     )
 }

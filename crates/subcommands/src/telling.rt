@@ -1,29 +1,41 @@
 //! What is said of a fault: its line, and after it why it came. Of a second line that can't be
 //! written, no more is said.
 
-ghost use Rattle.std.specs.Prelude.{◌≡◌};
+ghost use Rattle.std.specs.Prelude.{◌≡◌, OnOk};
 ghost use Rattle.desk_requests.specs.Statuses.{status_of};
+ghost use Rattle.subcommands.specs.Places.{EndsAs};
 
 use batch::Contact;
+use desk_choice::DeskAddress;
 use desk_requests::{DeskFault, tell, tell_asking, tell_serving};
 use fault_hints::{FaultSubject, explain, is_wanted};
 use hall_file::service::Service;
 use std::io::Write;
 
-/// Says of a fault of a desk that was asked why it came, and returns the exit status. A second line
-/// comes where it is asked for, and on a terminal.
+/// The exit status after a desk was asked. Of a fault it says why it came, with a second line where
+/// that is asked for and on a terminal.
 pub(crate) fn tell_asked<F: Write>(
     rt: &HostRuntime,
     faults: &mut F,
-    fault: DeskFault,
-    about: FaultSubject<'_>,
+    asked: Result<(), DeskFault>,
+    desk: &DeskAddress,
     contact: Contact<'_>,
     explains: bool,
 ) -> u8
-    ensures { result ≡ status_of fault }
+    ensures ends { EndsAs asked result }
+    ensures quiet { OnOk asked (F.contents faults.new ≡ F.contents faults.old) }
 {
+    let fault = match asked {
+        Ok(()) => return 0,
+        Err(fault) => fault,
+    };
     let status = tell_asking(faults, fault, contact);
     if is_wanted(rt, explains) {
+        let about = FaultSubject::Asking {
+            hall: desk.hall,
+            desk: desk.desk,
+            contact,
+        };
         let _ = explain(rt, faults, fault, about);
     }
     status

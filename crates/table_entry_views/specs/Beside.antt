@@ -14,9 +14,10 @@ use Rattle.round_words.specs.Words.{round_name, round_words}
 use Rattle.texts.specs.declared.command.RoundId.{RoundId}
 use Rattle.texts.specs.Spelling.{was_text}
 use Rattle.texts.specs.declared.command.Settings.{Settings}
-use Rattle.markup.specs.Pieces.{joined}
+use Rattle.markup.specs.Pieces.{fill}
 use Rattle.table_views.specs.People.{number_in}
 use Rattle.table_views.specs.Standing.{values_of}
+use Rattle.table_entry_views.specs.declared.beside.TheConstants.{COUNTS, NUMBER_LINK, SECTION_START}
 
 abbrev pub class_of : Progress → List ℕ
 class_of Absent = codes "absent"
@@ -27,9 +28,7 @@ abbrev pub field_in : List (List ℕ) → ℕ → List ℕ
 field_in fields place = get_or fields place []
 
 abbrev pub number_link : List ℕ → List ℕ
-number_link field = joined (
-    codes "?number=" ∷ escaped field ∷ codes "\">" ∷ escaped field ∷ codes "</a></td>" ∷ []
-    )
+number_link field = fill NUMBER_LINK.now (escaped field ∷ escaped field ∷ [])
 
 -- the entrant's number, with a link to the entrant's card
 abbrev pub number_cell : RoundId → List ℕ → List ℕ
@@ -60,11 +59,9 @@ line id format t fields =
     ++ flat_map cell (drop 2 fields) ++ codes "</tr>\n"
 
 abbrev pub count_line : Counts → List ℕ
-count_line counted = joined (
-    codes "<p class=\"count\">" ∷ decimal counted.done ∷ codes " of " ∷ decimal counted.entrants
-    ∷ codes " done, " ∷ decimal counted.begun ∷ codes " in the middle, " ∷ decimal counted.absent
-    ∷ codes " without an attempt</p>\n" ∷ []
-    )
+count_line counted =
+    fill COUNTS.now (decimal counted.done ∷ decimal counted.entrants ∷ decimal counted.begun
+    ∷ decimal counted.absent ∷ [])
 
 unfoldable pub caption_start : List ℕ
 caption_start =
@@ -79,15 +76,10 @@ table_text id format t [] = []
 table_text id format t (names ∷ entrants) =
     table_start names ++ flat_map (line id format t) entrants ++ codes "</tbody></table>\n"
 
-unfoldable pub section_start : List ℕ
-section_start =
-    codes "<div id=\"beside\"><p hidden><label>Filter by name "
-    ++ codes "<input id=\"filter\" type=\"search\"></label></p>\n<section id=\"round\"><h2>"
-
 -- the round, and how far its entrants have come
 abbrev pub section_head : RoundId → Settings → Table → List ℕ
 section_head id settings t =
-    section_start ++ round_words id settings.advance ++ codes "</h2>\n"
+    SECTION_START.now ++ round_words id settings.advance ++ codes "</h2>\n"
     ++ count_line (counts settings.format t)
 
 -- the section of a round

@@ -12,13 +12,16 @@ use Rattle.texts.specs.Spelling.{cutoff_text, limit_text, was_text}
 use Rattle.texts.specs.declared.command.Command.{Command}
 use Rattle.texts.specs.declared.command.RoundId.{RoundId}
 use Rattle.texts.specs.declared.command.Settings.{Settings}
-use Rattle.markup.specs.Pieces.{joined}
+use Rattle.markup.specs.Pieces.{fill}
 use Rattle.table_views.specs.Hidden.{hidden}
 use Rattle.table_entry_views.specs.declared.draft.Draft.{Draft}
 use Rattle.table_entry_views.specs.declared.notes.CardNote.{CardNote}
 use Rattle.table_entry_views.specs.Bounds.{floor_of}
 use Rattle.table_entry_views.specs.Fields.{fields, notes_of, number_field}
 use Rattle.table_entry_views.specs.Notes.{is_fault, note_at, note_word}
+use Rattle.table_entry_views.specs.declared.card.TheConstants.{BOUNDS, CLOSED_START}
+use Rattle.table_entry_views.specs.declared.card.TheConstants.{RULES_OF_FORM, SPARE, SURE_END}
+use Rattle.table_entry_views.specs.declared.card.TheConstants.{TOLD_FAULT}
 
 abbrev pub unit_name : Measure → List ℕ
 unit_name Time = codes "time"
@@ -27,26 +30,18 @@ unit_name Multi = codes "multi"
 
 -- the beginning of the form: what the script reads of the round's rules
 abbrev pub rules_of_form : Settings → Measure → List ℕ
-rules_of_form settings unit = joined (
-    codes "<form method=\"post\" action=\"/card\" autocomplete=\"off\" data-unit=\""
-    ∷ unit_name unit
-    ∷ codes "\" data-format=\"" ∷ format_name settings.format
-    ∷ codes "\" data-cutoff=\"" ∷ cutoff_text settings.cutoff
-    ∷ codes "\" data-limit=\"" ∷ limit_text settings.limit ∷ []
-    )
+rules_of_form settings unit =
+    fill RULES_OF_FORM.now (unit_name unit ∷ format_name settings.format
+    ∷ cutoff_text settings.cutoff ∷ limit_text settings.limit ∷ [])
 
 -- the times below which the script asks, in what the unit counts: the floor of the event, and the
 -- best single of the round; 0 where there is none
 abbrev pub bounds_of_form : ℕ → Option ℕ → List ℕ
-bounds_of_form floor best = joined (
-    codes "\" data-floor=\"" ∷ decimal floor
-    ∷ codes "\" data-best=\"" ∷ decimal (unwrap_or best 0)
-    ∷ codes "\" data-spare=\"" ∷ []
-    )
+bounds_of_form floor best = fill BOUNDS.now (decimal floor ∷ decimal (unwrap_or best 0) ∷ [])
 
 -- a spare id, after a space
 abbrev pub spare : ℕ → List ℕ
-spare id = joined (codes " " ∷ decimal id ∷ [])
+spare id = fill SPARE.now (decimal id ∷ [])
 
 -- the round of a form, unseen
 unfoldable pub round_value : RoundId → List ℕ
@@ -70,47 +65,25 @@ abbrev pub form_start : List ℕ → ℕ → List ℕ → RoundId → Settings �
 form_start token id spares round settings best values =
     form_tag spares round settings best ++ hidden token id ++ round_value round ++ was_value values
 
-unfoldable pub told_fault : List ℕ
-told_fault = codes "<p class=\"told\">Not entered yet: what is wrong is said below.</p>\n"
-
 -- the word of a note that is to be confirmed, after a space
 abbrev pub asked_word : CardNote → List ℕ
 asked_word note = codes " " ++ note_word note
 
-unfoldable pub sure_end : List ℕ
-sure_end = codes "\"><p class=\"told\">Not entered yet: Enter once more, if it is right.</p>\n"
-
 unfoldable pub told_sure : List CardNote → List ℕ
 told_sure notes =
-    codes "<input type=\"hidden\" name=\"sure\" value=\"" ++ flat_map asked_word notes ++ sure_end
+    codes "<input type=\"hidden\" name=\"sure\" value=\"" ++ flat_map asked_word notes
+    ++ SURE_END.now
 
 -- a card that is not entered yet is to be mended, or to be confirmed: then the form says which
 -- notes it answers
 abbrev pub told : List CardNote → List ℕ
 told [] = []
 told (note ∷ notes) =
-    if list_any is_fault (note ∷ notes) then told_fault else told_sure (note ∷ notes)
-
-unfoldable pub form_end : List ℕ
-form_end =
-    codes "<p class=\"results\"><output id=\"average\"></output>"
-    ++ codes "<output id=\"best\"></output></p>\n<button>Enter the card</button>\n</form>\n"
-    ++ codes "<p class=\"keys\"><kbd>d</kbd> or <kbd>/</kbd> DNF, <kbd>s</kbd> or <kbd>*</kbd> "
-    ++ codes "DNS (in fewest moves <kbd>/</kbd> and <kbd>*</kbd>), <kbd>+</kbd> after a time 2 "
-    ++ codes "seconds more</p>\n"
-    ++ codes "<p class=\"options\" hidden><label><input id=\"sound\" type=\"checkbox\"> sound"
-    ++ codes "</label>"
-    ++ codes " <label><input id=\"blind\" type=\"checkbox\"> second reading: what differs is listed"
-    ++ codes "</label></p>\n<p id=\"unsent\"></p>\n<ol id=\"back\"></ol></section>\n"
-
-unfoldable pub closed_start : List ℕ
-closed_start =
-    codes "<p class=\"told\">This round is closed: a card of it is refused. Until the next round "
-    ++ codes "is opened, it <a href=\"/rounds?round="
+    if list_any is_fault (note ∷ notes) then TOLD_FAULT.now else told_sure (note ∷ notes)
 
 unfoldable pub closed_words : RoundId → List ℕ
 closed_words id =
-    closed_start ++ round_name id ++ codes "\">can be opened again</a>.</p>\n"
+    CLOSED_START.now ++ round_name id ++ codes "\">can be opened again</a>.</p>\n"
 
 -- before anything is typed, a round that is closed is said to be so
 abbrev pub closed_line : RoundId → Bool → List ℕ

@@ -11,13 +11,14 @@ use Rattle.formats.specs.declared.events.Format.{Format}
 use Rattle.rounds.specs.Tables.{Table}
 use Rattle.round_counts.specs.Counts.{numbers_in}
 use Rattle.texts.specs.declared.command.Command.{Command}
-use Rattle.markup.specs.Pieces.{joined}
+use Rattle.markup.specs.Pieces.{fill}
 use Rattle.table_views.specs.People.{number_in, name_in}
 use Rattle.table_views.specs.Standing.{values_of}
 use Rattle.table_entry_views.specs.declared.draft.Draft.{Draft}
 use Rattle.table_entry_views.specs.declared.draft.Draft.TheVariants.{Empty, Number, Typed}
 use Rattle.table_entry_views.specs.declared.notes.CardNote.{CardNote}
 use Rattle.table_entry_views.specs.Notes.{field_end, said_at}
+use Rattle.table_entry_views.specs.declared.fields.TheConstants.{CARRIED, FIELD_START, NUMBER_START}
 
 -- ---- what a form is filled in with
 
@@ -85,17 +86,9 @@ filled (Typed form notes) unit values texts place = typed_filled form.now unit v
 -- the text that fills a field in, unseen, where it has its own
 abbrev pub carried : ℕ → List ℕ → List ℕ
 carried attempt [] = []
-carried attempt (b ∷ bs) = joined (
-    codes "<input type=\"hidden\" name=\"f" ∷ decimal attempt ∷ codes "\" value=\""
-    ∷ escaped (b ∷ bs) ∷ codes "\">" ∷ []
-    )
+carried attempt (b ∷ bs) = fill CARRIED.now (decimal attempt ∷ escaped (b ∷ bs) ∷ [])
 
 -- ---- the fields
-
-unfoldable pub number_start : List ℕ
-number_start =
-    codes "<div class=\"field\"><label for=\"number\">Competitor</label>"
-    ++ codes "<input id=\"number\" name=\"number\" autofocus value=\""
 
 -- the competitor's name, and where names that are found are listed
 unfoldable pub who : List Command → Option ℕ → List ℕ
@@ -106,15 +99,13 @@ who accepted number =
 -- the competitor's field, with the name and what is said of it
 unfoldable pub number_field : List Command → Draft → List ℕ
 number_field accepted draft =
-    number_start ++ number_text draft ++ field_end 0 (notes_of draft)
+    NUMBER_START.now ++ number_text draft ++ field_end 0 (notes_of draft)
     ++ who accepted (competitor_of draft) ++ said_at 0 (notes_of draft) ++ codes "</div>\n"
 
 abbrev pub field_start : ℕ → List ℕ
-field_start attempt = joined (
-    codes "<p class=\"field\"><label for=\"a" ∷ decimal attempt ∷ codes "\">" ∷ decimal attempt
-    ∷ codes "</label><input id=\"a" ∷ decimal attempt ∷ codes "\" name=\"a" ∷ decimal attempt
-    ∷ codes "\" value=\"" ∷ []
-    )
+field_start attempt =
+    fill FIELD_START.now (decimal attempt ∷ decimal attempt ∷ decimal attempt ∷ decimal attempt
+    ∷ [])
 
 unfoldable pub stands_start : List ℕ
 stands_start = codes "<output></output><span class=\"stands\">"

@@ -3,12 +3,13 @@ use Rattle.std.specs.Prelude.{ℕ, List, [], ◌∷◌, ◌++◌, codes, decimal
 use Rattle.acceptor.specs.declared.entry.Entry.{Entry}
 use Rattle.log_rows.specs.Rows.{rows}
 use Rattle.log_rows.specs.declared.writing.ShownEntries.TheVariants.{ChangesOf}
-use Rattle.markup.specs.Pieces.{joined}
+use Rattle.markup.specs.Pieces.{fill}
 use Rattle.markup.specs.board_page.Escaped.{escaped}
 use Rattle.round_words.specs.Words.{event_words}
 use Rattle.table_views.specs.declared.around.PageContext.{PageContext}
 use Rattle.table_views.specs.Frame.{top, bottom}
 use Rattle.texts.specs.declared.command.RoundId.{RoundId}
+use Rattle.table_entry_views.specs.declared.history.TheConstants.{SECTION}
 
 -- as `desk log --who` prints them
 abbrev pub changes_of : List Entry → RoundId → ℕ → List ℕ
@@ -16,11 +17,8 @@ changes_of log id number =
     rows 0 (ChangesOf record { event = id.event; round = id.round; number = number }) log
 
 abbrev pub changes_section : RoundId → ℕ → List ℕ → List ℕ
-changes_section id number text = joined (
-    codes "<section><h1>" ∷ event_words id.event ∷ codes ", Round " ∷ decimal id.round
-    ∷ codes ", number " ∷ decimal number ∷ codes "</h1>\n<pre dir=\"auto\">" ∷ escaped text
-    ∷ codes "</pre></section>\n" ∷ []
-    )
+changes_section id number text =
+    fill SECTION.now (event_words id.event ∷ decimal id.round ∷ decimal number ∷ escaped text ∷ [])
 
 unfoldable pub history_page : PageContext → RoundId → ℕ → List ℕ
 history_page around id number =

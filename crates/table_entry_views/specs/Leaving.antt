@@ -1,27 +1,22 @@
 -- Links to the history of a result, and to the page that withdraws a competitor (the project's
 -- own).
-use Rattle.std.specs.Prelude.{ℕ, if◌then◌else◌, List, [], ◌∷◌, ◌++◌, codes, decimal}
+use Rattle.std.specs.Prelude.{ℕ, if◌then◌else◌, List, [], ◌∷◌, ◌++◌, decimal}
 use Rattle.std.specs.Prelude.{Option, None, Some}
 use Rattle.formats.specs.Events.{event_name}
 use Rattle.rounds.specs.Tables.{Table}
-use Rattle.markup.specs.Pieces.{joined}
+use Rattle.markup.specs.Pieces.{fill}
 use Rattle.table_views.specs.Leaving.{may_leave}
 use Rattle.texts.specs.declared.command.RoundId.{RoundId}
 use Rattle.table_entry_views.specs.declared.draft.Draft.{Draft}
 use Rattle.table_entry_views.specs.Fields.{competitor_of}
+use Rattle.table_entry_views.specs.declared.leaving.TheConstants.{HISTORY, WORDS}
 
 abbrev pub history_words : RoundId → ℕ → List ℕ
-history_words id number = joined (
-    codes "<p class=\"origin\"><a href=\"/history/" ∷ event_name id.event ∷ codes "-"
-    ∷ decimal id.round ∷ codes "?number=" ∷ decimal number
-    ∷ codes "\">History of this result</a></p>\n" ∷ []
-    )
+history_words id number =
+    fill HISTORY.now (event_name id.event ∷ decimal id.round ∷ decimal number ∷ [])
 
 abbrev pub leaving_words : ℕ → List ℕ
-leaving_words number = joined (
-    codes "<p class=\"origin\"><a href=\"/person/" ∷ decimal number
-    ∷ codes "\">Withdraw competitor " ∷ decimal number ∷ codes "</a></p>\n" ∷ []
-    )
+leaving_words number = fill WORDS.now (decimal number ∷ decimal number ∷ [])
 
 abbrev pub leaving_if : Table → ℕ → List ℕ
 leaving_if t number = if may_leave t number then leaving_words number else []

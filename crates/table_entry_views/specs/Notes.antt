@@ -8,7 +8,7 @@ use Rattle.card_forms.specs.declared.faults.CardFault.{CardFault}
 use Rattle.card_forms.specs.declared.faults.CardFault.TheVariants as card
 use Rattle.scorecard.specs.declared.fault.ScorecardFault.{ScorecardFault as FieldFault}
 use Rattle.scorecard.specs.declared.fault.ScorecardFault.TheVariants as field
-use Rattle.markup.specs.Pieces.{joined}
+use Rattle.markup.specs.Pieces.{fill}
 use Rattle.table_entry_views.specs.declared.notes.CardNote.{CardNote}
 use Rattle.table_entry_views.specs.declared.notes.CardNote.TheVariants.{Number, Field, Card, Unlike}
 use Rattle.table_entry_views.specs.declared.notes.CardNote.TheVariants.{Changes}
@@ -18,6 +18,8 @@ use Rattle.texts.specs.declared.answer.Code.{Code}
 use Rattle.texts.specs.declared.answer.Code.TheVariants as code
 use Rattle.texts.specs.Codes.{code_number}
 use Rattle.texts.specs.meanings.Meanings.{meaning_of}
+use Rattle.table_entry_views.specs.declared.notes.TheConstants.{FIELD_END, GAP, HALF, MORE_SOLVED}
+use Rattle.table_entry_views.specs.declared.notes.TheConstants.{NUMBERED, SAID_START, UNSOLVED}
 
 -- ---- where it is: 0 is the competitor's number, 1 to 5 are the attempts, 6 is the card
 
@@ -59,7 +61,7 @@ is_fault (Changes attempt) = false
 -- ---- how it is confirmed
 
 abbrev pub numbered : List ℕ → ℕ → List ℕ
-numbered word number = joined (word ∷ decimal number ∷ [])
+numbered word number = fill NUMBERED.now (word ∷ decimal number ∷ [])
 
 -- the word by which a form says that a scoretaker has confirmed a note
 abbrev pub note_word : CardNote → List ℕ
@@ -89,7 +91,7 @@ field_words field.BadPenalty = codes "penalties are +2, +4 to +18"
 field_words field.NotAResult = codes "a result is like 11/13 58:20"
 field_words field.BadAttempted = codes "2 to 99 cubes are attempted"
 field_words (field.MoreSolved attempted) =
-    joined (codes "more solved than the " ∷ decimal attempted ∷ codes " attempted" ∷ [])
+    fill MORE_SOLVED.now (decimal attempted ∷ [])
 field_words field.NoSeconds = codes "a time is 0:01 to 99:59"
 field_words field.NotMoves =
     codes "write its moves, as R U' F2 Rw x: a number of moves alone is no solution"
@@ -97,7 +99,7 @@ field_words field.NoMemory = codes "memory ran out"
 
 abbrev pub card_words : CardFault → List ℕ
 card_words (card.Gap field) =
-    joined (codes "attempt " ∷ decimal field ∷ codes " is empty" ∷ [])
+    fill GAP.now (decimal field ∷ [])
 card_words card.Nothing = codes "nothing is typed"
 card_words card.TooLong = codes "too long for one command: enter one attempt after the other"
 
@@ -116,7 +118,7 @@ refused_words why =
 
 abbrev pub unsolved_words : ℕ → List ℕ
 unsolved_words attempt =
-    joined (codes "does not solve scramble " ∷ decimal attempt ∷ codes ": DNF?" ∷ [])
+    fill UNSOLVED.now (decimal attempt ∷ [])
 
 abbrev pub note_words : CardNote → List ℕ
 note_words (Number fault) = number_words fault
@@ -124,9 +126,7 @@ note_words (Field attempt fault) = field_words fault
 note_words (Card fault) = card_words fault
 note_words (Refused why) = refused_words why
 note_words (Fast attempt) = codes "nobody has ever been that fast: is it right?"
-note_words (Half attempt) =
-    codes "less than half of the best of this round, or of this competitor's in another: "
-    ++ codes "is it right?"
+note_words (Half attempt) = HALF.now
 note_words (Unlike attempt) =
     codes "more than twice or less than half of the others: is it right?"
 note_words (Unsolved attempt) = unsolved_words attempt
@@ -143,7 +143,7 @@ note_at place note = if place_of note == place then note_line note else []
 -- the notes of a field, at a place, under the id by which the field names what describes it
 unfoldable pub said_at : ℕ → List CardNote → List ℕ
 said_at place notes =
-    joined (codes "<span class=\"said\" id=\"said" ∷ decimal place ∷ codes "\">" ∷ [])
+    fill SAID_START.now (decimal place ∷ [])
     ++ flat_map (note_at place) notes ++ codes "</span>"
 
 -- a note is a fault of this place
@@ -157,5 +157,5 @@ invalid_if false = []
 -- the end of a field: what describes it, and whether it has a fault
 unfoldable pub field_end : ℕ → List CardNote → List ℕ
 field_end place notes =
-    joined (codes "\" aria-describedby=\"said" ∷ decimal place ∷ codes "\"" ∷ [])
+    fill FIELD_END.now (decimal place ∷ [])
     ++ invalid_if (list_any (is_wrong_at place) notes) ++ codes ">"

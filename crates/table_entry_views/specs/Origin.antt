@@ -2,9 +2,10 @@
 use Rattle.std.specs.Prelude.{ℕ, Bool, true, false, List, [], ◌∷◌, ◌++◌, codes, decimal}
 use Rattle.std.specs.Prelude.{Option, None, Some}
 use Rattle.std.specs.Option.{option_copied}
-use Rattle.markup.specs.Pieces.{joined}
+use Rattle.markup.specs.Pieces.{fill}
 use Rattle.markup.specs.board_page.Escaped.{escaped}
 use Rattle.table_entry_views.specs.declared.origin.Origin.{Origin}
+use Rattle.table_entry_views.specs.declared.origin.TheConstants.{ENTRY, REMARK}
 
 abbrev pub place_words : Bool → List ℕ
 place_words true = codes "entered at this table"
@@ -12,16 +13,12 @@ place_words false = codes "from no card of this table"
 
 -- which entry it is, and where it was entered
 abbrev pub entry_words : ℕ → Bool → List ℕ
-entry_words position here = joined (
-    codes "<p class=\"origin\">Result " ∷ decimal position ∷ codes ", " ∷ place_words here ∷ []
-    )
+entry_words position here = fill ENTRY.now (decimal position ∷ place_words here ∷ [])
 
 -- the remark of an entry, if it has one
 abbrev pub remark_words : Option (List ℕ) → List ℕ
 remark_words None = []
-remark_words (Some remark) = joined (
-    codes ", with the remark <q dir=\"auto\">" ∷ escaped remark ∷ codes "</q>" ∷ []
-    )
+remark_words (Some remark) = fill REMARK.now (escaped remark ∷ [])
 
 abbrev pub origin_words : Origin → List ℕ
 origin_words origin =

@@ -15,10 +15,11 @@ use Rattle.table_entry_views.specs.declared.draft.Draft.{Draft}
 use Rattle.table_entry_views.specs.declared.past.Past.{Past}
 use Rattle.table_entry_views.specs.Beside.{IsBeside}
 use Rattle.table_entry_views.specs.Bounds.{best_in}
-use Rattle.table_entry_views.specs.Card.{card_head, card_fields, closed_line, form_start, form_end, spare}
+use Rattle.table_entry_views.specs.Card.{card_head, card_fields, closed_line, form_start, spare}
 use Rattle.table_entry_views.specs.Fields.{standing_of}
 use Rattle.table_entry_views.specs.Leaving.{leaving_line}
 use Rattle.table_entry_views.specs.Origin.{origin_line}
+use Rattle.table_entry_views.specs.declared.card.TheConstants.{FORM_END}
 
 -- The form of the card carries the token, the first id, the other ids as spare ones, and the values
 -- that the page shows as counting. It says where these come from. It links to the history of the
@@ -30,7 +31,7 @@ card_form around id round draft past =
     (standing_of round.1 draft)
     ++ origin_line past.origin ++ leaving_line id round.1 draft
     ++ card_fields (accepted_in around.mirror.now) id round.0.format (standing_of round.1 draft)
-    past.filled.now draft ++ form_end
+    past.filled.now draft ++ FORM_END.now
 
 abbrev pub card_path : RoundId → List ℕ
 card_path id = codes "/card/" ++ round_name id

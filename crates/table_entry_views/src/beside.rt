@@ -13,8 +13,9 @@ use acceptor::NoMemory;
 use attempts::Value;
 use csv::ByteRecord;
 use formats::Format;
+use markup::Piece::{Number, Text};
 use markup::board_page::{field_at, push_cell, push_each_heading, records_of};
-use markup::{Piece, push_pieces};
+use markup::fill;
 use round_counts::{Counts, OpenedRound, Progress, counts_of, progress_of};
 use round_words::{push_round_name, push_round_words};
 use rounds::RoundTable;
@@ -37,19 +38,12 @@ fn class_of(progress: Progress) -> &'static [u8]
     }
 }
 
+const NUMBER_LINK: &[u8] = b"?number=$\">$</a></td>";
+
 fn push_number_link(out: &mut Vec<u8>, field: &[u8]) -> Result<(), NoMemory>
     ensures { OnOk result (out.new.items ≡ out.old.items ++ number_link field.now) }
 {
-    push_pieces(
-        out,
-        &[
-            Piece::Html(b"?number="),
-            Piece::Text(field),
-            Piece::Html(b"\">"),
-            Piece::Text(field),
-            Piece::Html(b"</a></td>"),
-        ],
-    )
+    fill(out, NUMBER_LINK, &[Text(field), Text(field)])
 }
 
 /// Adds the number of an entrant, with a link to the entrant's card.
@@ -142,21 +136,21 @@ fn push_lines(
     Ok(())
 }
 
+const COUNTS: &[u8] = b"\
+<p class=\"count\">$ of $ done, $ in the middle, $ without an attempt</p>
+";
+
 fn push_counts(out: &mut Vec<u8>, counts: Counts) -> Result<(), NoMemory>
     ensures { OnOk result (out.new.items ≡ out.old.items ++ count_line counts) }
 {
-    push_pieces(
+    fill(
         out,
+        COUNTS,
         &[
-            Piece::Html(b"<p class=\"count\">"),
-            Piece::Number(counts.done as u64),
-            Piece::Html(b" of "),
-            Piece::Number(counts.entrants as u64),
-            Piece::Html(b" done, "),
-            Piece::Number(counts.begun as u64),
-            Piece::Html(b" in the middle, "),
-            Piece::Number(counts.absent as u64),
-            Piece::Html(b" without an attempt</p>\n"),
+            Number(counts.done as u64),
+            Number(counts.entrants as u64),
+            Number(counts.begun as u64),
+            Number(counts.absent as u64),
         ],
     )
 }

@@ -2,8 +2,8 @@
 
 ghost use Rattle.std.specs.Prelude.{◌≡◌, ◌++◌, OnOk, drop, flat_map, get_or};
 ghost use Rattle.table_entry_views.specs.Card.{asked_word, bounds_of_form, card_fields, card_head};
-ghost use Rattle.table_entry_views.specs.Card.{closed_line, closed_words, form_end, form_start};
-ghost use Rattle.table_entry_views.specs.Card.{form_tag};
+ghost use Rattle.table_entry_views.specs.declared.card.TheConstants.{FORM_END};
+ghost use Rattle.table_entry_views.specs.Card.{closed_line, closed_words, form_start, form_tag};
 ghost use Rattle.table_entry_views.specs.Card.{round_value, rules_of_form, spare, told, told_sure};
 ghost use Rattle.table_entry_views.specs.Card.{unit_name, was_value};
 
@@ -16,7 +16,8 @@ use attempts::{Unit, Value};
 use card_forms::{FormId, TypedText};
 use commands::{Meet, print_cutoff, print_limit};
 use formats::{Format, unit_of};
-use markup::{Piece, push_pieces};
+use markup::Piece::{Html, Number};
+use markup::fill;
 use round_counts::numbers_in;
 use round_words::{push_round_name, push_round_words, push_settings};
 use table_views::push_hidden;
@@ -58,10 +59,12 @@ fn unit_name(unit: Unit) -> &'static [u8]
     }
 }
 
+const SPARE: &[u8] = b" $";
+
 fn push_spare(out: &mut Vec<u8>, id: FormId) -> Result<(), NoMemory>
     ensures { OnOk result (out.new.items ≡ out.old.items ++ spare id) }
 {
-    push_pieces(out, &[Piece::Html(b" "), Piece::Number(id.number())])
+    fill(out, SPARE, &[Number(id.number())])
 }
 
 /// Adds spare ids, a space before each.
@@ -74,42 +77,38 @@ fn push_spares(out: &mut Vec<u8>, ids: &[FormId]) -> Result<(), NoMemory>
     Ok(())
 }
 
+const RULES_OF_FORM: &[u8] = b"\
+<form method=\"post\" action=\"/card\" autocomplete=\"off\" data-unit=\"$\" data-format=\"$\" \
+data-cutoff=\"$\" data-limit=\"$";
+
 /// Adds the beginning of a form: what the script reads of a round's rules.
 fn push_rules_of_form(out: &mut Vec<u8>, settings: Settings, unit: Unit) -> Result<(), NoMemory>
     ensures { OnOk result (out.new.items ≡ out.old.items ++ rules_of_form settings unit) }
 {
     let cutoff = print_cutoff(*out.allocator(), settings.cutoff)?;
     let limit = print_limit(*out.allocator(), settings.limit)?;
-    push_pieces(
+    fill(
         out,
+        RULES_OF_FORM,
         &[
-            Piece::Html(
-                b"<form method=\"post\" action=\"/card\" autocomplete=\"off\" data-unit=\"",
-            ),
-            Piece::Html(unit_name(unit)),
-            Piece::Html(b"\" data-format=\""),
-            Piece::Html(settings.format.name().as_bytes()),
-            Piece::Html(b"\" data-cutoff=\""),
-            Piece::Html(&cutoff),
-            Piece::Html(b"\" data-limit=\""),
-            Piece::Html(&limit),
+            Html(unit_name(unit)),
+            Html(settings.format.name().as_bytes()),
+            Html(&cutoff),
+            Html(&limit),
         ],
     )
 }
+
+const BOUNDS: &[u8] = b"\" data-floor=\"$\" data-best=\"$\" data-spare=\"";
 
 /// Adds below which the script asks about a time.
 fn push_bounds(out: &mut Vec<u8>, floor: u32, best: Option<u32>) -> Result<(), NoMemory>
     ensures { OnOk result (out.new.items ≡ out.old.items ++ bounds_of_form floor best) }
 {
-    push_pieces(
+    fill(
         out,
-        &[
-            Piece::Html(b"\" data-floor=\""),
-            Piece::Number(floor as u64),
-            Piece::Html(b"\" data-best=\""),
-            Piece::Number(best.unwrap_or(0) as u64),
-            Piece::Html(b"\" data-spare=\""),
-        ],
+        BOUNDS,
+        &[Number(floor as u64), Number(best.unwrap_or(0) as u64)],
     )
 }
 
@@ -141,7 +140,6 @@ fn push_sure(out: &mut Vec<u8>, notes: &[CardNote]) -> Result<(), NoMemory>
 }
 
 /// Adds that a card which is not entered yet is to be mended or confirmed.
-#[tactic(auto, unfolding(crate::specs::Card::told_fault))]
 fn push_told(out: &mut Vec<u8>, notes: &[CardNote]) -> Result<(), NoMemory>
     ensures { OnOk result (out.new.items ≡ out.old.items ++ told notes.now) }
 {
@@ -274,9 +272,8 @@ pub(crate) fn push_card_fields(
 }
 
 /// Adds the end of the form.
-#[tactic(auto, unfolding(crate::specs::Card::form_end))]
 pub(crate) fn push_form_end(out: &mut Vec<u8>) -> Result<(), NoMemory>
-    ensures { OnOk result (out.new.items ≡ out.old.items ++ form_end) }
+    ensures { OnOk result (out.new.items ≡ out.old.items ++ FORM_END.now) }
 {
     out.extend_from_slice(FORM_END)
 }

@@ -1,7 +1,6 @@
 //! The fields of a card's form.
 
 ghost use Rattle.std.specs.Prelude.{◌≡◌, ◌++◌, OnOk, flat_map};
-ghost use Rattle.card_forms.specs.Readings.{shown_at};
 ghost use Rattle.table_entry_views.specs.Fields.{beside_field, carried, competitor_of, field};
 ghost use Rattle.table_entry_views.specs.Fields.{field_start, filled, inside, inside_by, name_if};
 ghost use Rattle.table_entry_views.specs.Fields.{notes_of, number_field, number_text, own_text};
@@ -10,14 +9,14 @@ ghost use Rattle.table_entry_views.specs.Fields.{standing_of, typed_filled, who}
 use crate::draft::Draft;
 use crate::notes::{CardNote, push_field_end, push_said};
 use acceptor::NoMemory;
-use attempts::{Unit, Value};
+use attempts::{Unit, Value, push_decimal};
 use card_forms::{CardForm, TypedText, is_untouched, text_at};
 use commands::Meet;
+use markup::Piece::{Number, Text};
 use markup::board_page::push_escaped;
-use markup::{Piece, push_pieces};
-use round_words::push_value;
+use markup::fill;
 use rounds::RoundTable;
-use table_views::{number_of, push_name, values_of};
+use table_views::{number_of, push_name, push_shown, values_of};
 
 const NUMBER_START: &[u8] = b"\
 <div class=\"field\"><label for=\"number\">Competitor</label>\
@@ -59,24 +58,8 @@ fn push_number_text(out: &mut Vec<u8>, draft: Draft<'_>) -> Result<(), NoMemory>
 {
     match draft {
         Draft::Empty => Ok(()),
-        Draft::Number(number) => push_pieces(out, &[Piece::Number(number as u64)]),
+        Draft::Number(number) => push_decimal(out, u32::from(number)),
         Draft::Typed { form, .. } => push_escaped(out, form.number.as_bytes()),
-    }
-}
-
-/// Adds a value that counts, if there is one at this place, counted from 0.
-fn push_standing(
-    out: &mut Vec<u8>,
-    values: &[Value],
-    place: usize,
-    unit: Unit,
-) -> Result<(), NoMemory>
-    ensures { OnOk result (out.new.items
-        ≡ out.old.items ++ shown_at unit values.now place) }
-{
-    match values.get(place) {
-        Some(value) => push_value(out, *value, unit),
-        None => Ok(()),
     }
 }
 
@@ -104,7 +87,7 @@ fn push_inside_by(
         ≡ out.old.items ++ inside_by unit values.now place text.now) }
 {
     if text.is_empty() {
-        push_standing(out, values, place, unit)
+        push_shown(out, unit, values, place)
     } else {
         push_escaped(out, text)
     }
@@ -175,6 +158,8 @@ fn push_filled(
     }
 }
 
+const CARRIED: &[u8] = b"<input type=\"hidden\" name=\"f$\" value=\"$\">";
+
 /// Adds the text that fills a field in, unseen, where it has its own.
 fn push_carried(out: &mut Vec<u8>, attempt: u8, text: &[u8]) -> Result<(), NoMemory>
     ensures { OnOk result (out.new.items ≡ out.old.items ++ carried attempt text.now) }
@@ -182,33 +167,23 @@ fn push_carried(out: &mut Vec<u8>, attempt: u8, text: &[u8]) -> Result<(), NoMem
     if text.is_empty() {
         return Ok(());
     }
-    push_pieces(
-        out,
-        &[
-            Piece::Html(b"<input type=\"hidden\" name=\"f"),
-            Piece::Number(attempt as u64),
-            Piece::Html(b"\" value=\""),
-            Piece::Text(text),
-            Piece::Html(b"\">"),
-        ],
-    )
+    fill(out, CARRIED, &[Number(attempt as u64), Text(text)])
 }
+
+const FIELD_START: &[u8] = b"\
+<p class=\"field\"><label for=\"a$\">$</label><input id=\"a$\" name=\"a$\" value=\"";
 
 fn push_field_start(out: &mut Vec<u8>, attempt: u8) -> Result<(), NoMemory>
     ensures { OnOk result (out.new.items ≡ out.old.items ++ field_start attempt) }
 {
-    push_pieces(
+    fill(
         out,
+        FIELD_START,
         &[
-            Piece::Html(b"<p class=\"field\"><label for=\"a"),
-            Piece::Number(attempt as u64),
-            Piece::Html(b"\">"),
-            Piece::Number(attempt as u64),
-            Piece::Html(b"</label><input id=\"a"),
-            Piece::Number(attempt as u64),
-            Piece::Html(b"\" name=\"a"),
-            Piece::Number(attempt as u64),
-            Piece::Html(b"\" value=\""),
+            Number(attempt as u64),
+            Number(attempt as u64),
+            Number(attempt as u64),
+            Number(attempt as u64),
         ],
     )
 }
@@ -226,7 +201,7 @@ fn push_beside(
 {
     let place = usize::from(attempt).saturating_sub(1);
     out.extend_from_slice(b"<output></output><span class=\"stands\">")?;
-    push_standing(out, values, place, unit)?;
+    push_shown(out, unit, values, place)?;
     out.extend_from_slice(b"</span>")?;
     push_said(out, attempt, notes_of(draft))?;
     out.extend_from_slice(b"</p>\n")?;

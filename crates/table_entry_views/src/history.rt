@@ -5,7 +5,8 @@ ghost use Rattle.table_entry_views.specs.History.{changes_of, changes_section, h
 
 use acceptor::NoMemory;
 use log_rows::{ResultOwner, ShownEntries, write_rows};
-use markup::{Piece, push_pieces};
+use markup::Piece::{Html, Number, Text};
+use markup::fill;
 use mirror::Mirror;
 use round_words::event_words;
 use std::alloc::{AllocError, Global};
@@ -34,23 +35,24 @@ fn changes_of(alloc: Global, mirror: &Mirror, id: RoundId, number: u16) -> Resul
     }
 }
 
+const SECTION: &[u8] = b"\
+<section><h1>$, Round $, number $</h1>
+<pre dir=\"auto\">$</pre></section>
+";
+
 /// Adds the section with these rows.
 fn push_section(out: &mut Vec<u8>, id: RoundId, number: u16, text: &[u8]) -> Result<(), NoMemory>
     ensures { OnOk result (out.new.items
         ≡ out.old.items ++ changes_section id number text.now) }
 {
-    push_pieces(
+    fill(
         out,
+        SECTION,
         &[
-            Piece::Html(b"<section><h1>"),
-            Piece::Html(event_words(id.event).as_bytes()),
-            Piece::Html(b", Round "),
-            Piece::Number(id.round as u64),
-            Piece::Html(b", number "),
-            Piece::Number(number as u64),
-            Piece::Html(b"</h1>\n<pre dir=\"auto\">"),
-            Piece::Text(text),
-            Piece::Html(b"</pre></section>\n"),
+            Html(event_words(id.event).as_bytes()),
+            Number(id.round as u64),
+            Number(number as u64),
+            Text(text),
         ],
     )
 }

@@ -7,41 +7,36 @@ ghost use Rattle.table_entry_views.specs.Leaving.{leaving_words};
 use crate::draft::Draft;
 use crate::fields::competitor_of;
 use acceptor::NoMemory;
-use markup::{Piece, push_pieces};
+use markup::Piece::{Html, Number};
+use markup::fill;
 use rounds::RoundTable;
 use table_views::may_leave;
 use texts::RoundId;
 
+const HISTORY: &[u8] = b"\
+<p class=\"origin\"><a href=\"/history/$-$?number=$\">History of this result</a></p>
+";
+
 fn push_history(out: &mut Vec<u8>, id: RoundId, number: u16) -> Result<(), NoMemory>
     ensures { OnOk result (out.new.items ≡ out.old.items ++ history_words id number) }
 {
-    push_pieces(
+    fill(
         out,
+        HISTORY,
         &[
-            Piece::Html(b"<p class=\"origin\"><a href=\"/history/"),
-            Piece::Html(id.event.name().as_bytes()),
-            Piece::Html(b"-"),
-            Piece::Number(id.round as u64),
-            Piece::Html(b"?number="),
-            Piece::Number(number as u64),
-            Piece::Html(b"\">History of this result</a></p>\n"),
+            Html(id.event.name().as_bytes()),
+            Number(id.round as u64),
+            Number(number as u64),
         ],
     )
 }
 
+const WORDS: &[u8] = b"<p class=\"origin\"><a href=\"/person/$\">Withdraw competitor $</a></p>\n";
+
 fn push_words(out: &mut Vec<u8>, number: u16) -> Result<(), NoMemory>
     ensures { OnOk result (out.new.items ≡ out.old.items ++ leaving_words number) }
 {
-    push_pieces(
-        out,
-        &[
-            Piece::Html(b"<p class=\"origin\"><a href=\"/person/"),
-            Piece::Number(number as u64),
-            Piece::Html(b"\">Withdraw competitor "),
-            Piece::Number(number as u64),
-            Piece::Html(b"</a></p>\n"),
-        ],
-    )
+    fill(out, WORDS, &[Number(number as u64), Number(number as u64)])
 }
 
 /// Adds the link for a competitor who can withdraw.

@@ -12,7 +12,8 @@ ghost use Rattle.table_entry_views.specs.Notes.{refused_words, said_at, unsolved
 
 use acceptor::NoMemory;
 use card_forms::{CardFault, NumberFault};
-use markup::{Piece, push_pieces};
+use markup::Piece::{Html, Number};
+use markup::fill;
 use std::alloc::Global;
 use texts::Code;
 use texts::meanings::meaning_of;
@@ -133,6 +134,8 @@ fn number_words(fault: NumberFault) -> &'static [u8]
     }
 }
 
+const MORE_SOLVED: &[u8] = b"more solved than the $ attempted";
+
 /// Adds what is wrong with a field, in words.
 fn push_field_words(out: &mut Vec<u8>, fault: scorecard::ScorecardFault) -> Result<(), NoMemory>
     ensures { OnOk result (out.new.items ≡ out.old.items ++ field_words fault) }
@@ -146,13 +149,10 @@ fn push_field_words(out: &mut Vec<u8>, fault: scorecard::ScorecardFault) -> Resu
         ScorecardFault::BadPenalty => out.extend_from_slice(b"penalties are +2, +4 to +18"),
         ScorecardFault::NotAResult => out.extend_from_slice(b"a result is like 11/13 58:20"),
         ScorecardFault::BadAttempted => out.extend_from_slice(b"2 to 99 cubes are attempted"),
-        ScorecardFault::MoreSolved { attempted } => push_pieces(
+        ScorecardFault::MoreSolved { attempted } => fill(
             out,
-            &[
-                Piece::Html(b"more solved than the "),
-                Piece::Number(attempted as u64),
-                Piece::Html(b" attempted"),
-            ],
+            MORE_SOLVED,
+            &[Number(attempted as u64)],
         ),
         ScorecardFault::NoSeconds => out.extend_from_slice(b"a time is 0:01 to 99:59"),
         ScorecardFault::NotMoves => out.extend_from_slice(
@@ -162,19 +162,14 @@ fn push_field_words(out: &mut Vec<u8>, fault: scorecard::ScorecardFault) -> Resu
     }
 }
 
+const GAP: &[u8] = b"attempt $ is empty";
+
 /// Adds why fields are no card.
 fn push_card_words(out: &mut Vec<u8>, fault: CardFault) -> Result<(), NoMemory>
     ensures { OnOk result (out.new.items ≡ out.old.items ++ card_words fault) }
 {
     match fault {
-        CardFault::Gap { field } => push_pieces(
-            out,
-            &[
-                Piece::Html(b"attempt "),
-                Piece::Number(field as u64),
-                Piece::Html(b" is empty"),
-            ],
-        ),
+        CardFault::Gap { field } => fill(out, GAP, &[Number(field as u64)]),
         CardFault::Nothing => out.extend_from_slice(b"nothing is typed"),
         CardFault::TooLong => out.extend_from_slice(
             b"too long for one command: enter one attempt after the other",
@@ -209,18 +204,13 @@ fn push_refused(out: &mut Vec<u8>, code: Code) -> Result<(), NoMemory>
     }
 }
 
+const UNSOLVED: &[u8] = b"does not solve scramble $: DNF?";
+
 /// Adds that a solution does not solve the scramble of its attempt.
 fn push_unsolved(out: &mut Vec<u8>, attempt: u8) -> Result<(), NoMemory>
     ensures { OnOk result (out.new.items ≡ out.old.items ++ unsolved_words attempt) }
 {
-    push_pieces(
-        out,
-        &[
-            Piece::Html(b"does not solve scramble "),
-            Piece::Number(attempt as u64),
-            Piece::Html(b": DNF?"),
-        ],
-    )
+    fill(out, UNSOLVED, &[Number(attempt as u64)])
 }
 
 /// Adds a note in words.
@@ -247,10 +237,12 @@ fn push_words(out: &mut Vec<u8>, note: CardNote) -> Result<(), NoMemory>
     }
 }
 
+const NUMBERED: &[u8] = b"$$";
+
 fn push_numbered<'a>(out: &mut Vec<u8>, word: &'a [u8], number: u8) -> Result<(), NoMemory>
     ensures { OnOk result (out.new.items ≡ out.old.items ++ numbered word.now number) }
 {
-    push_pieces(out, &[Piece::Html(word), Piece::Number(number as u64)])
+    fill(out, NUMBERED, &[Html(word), Number(number as u64)])
 }
 
 /// Adds the word by which a form says that a scoretaker has confirmed a note; for a fault, which
@@ -311,18 +303,13 @@ pub(crate) fn push_notes(out: &mut Vec<u8>, place: u8, notes: &[CardNote]) -> Re
     Ok(())
 }
 
+const SAID_START: &[u8] = b"<span class=\"said\" id=\"said$\">";
+
 /// Adds the notes of a field, at a place, under the id by which the field names what describes it.
 pub(crate) fn push_said(out: &mut Vec<u8>, place: u8, notes: &[CardNote]) -> Result<(), NoMemory>
     ensures { OnOk result (out.new.items ≡ out.old.items ++ said_at place notes.now) }
 {
-    push_pieces(
-        out,
-        &[
-            Piece::Html(b"<span class=\"said\" id=\"said"),
-            Piece::Number(place as u64),
-            Piece::Html(b"\">"),
-        ],
-    )?;
+    fill(out, SAID_START, &[Number(place as u64)])?;
     push_notes(out, place, notes)?;
     out.extend_from_slice(b"</span>")?;
     Ok(())
@@ -353,6 +340,8 @@ fn invalid_if(wrong: bool) -> &'static [u8]
     }
 }
 
+const FIELD_END: &[u8] = b"\" aria-describedby=\"said$\"";
+
 /// Adds the end of a field, at a place: what describes it, and whether it has a fault.
 pub(crate) fn push_field_end(
     out: &mut Vec<u8>,
@@ -361,14 +350,7 @@ pub(crate) fn push_field_end(
 ) -> Result<(), NoMemory>
     ensures { OnOk result (out.new.items ≡ out.old.items ++ field_end place notes.now) }
 {
-    push_pieces(
-        out,
-        &[
-            Piece::Html(b"\" aria-describedby=\"said"),
-            Piece::Number(place as u64),
-            Piece::Html(b"\""),
-        ],
-    )?;
+    fill(out, FIELD_END, &[Number(place as u64)])?;
     out.extend_from_slice(invalid_if(is_wrong(place, notes)))?;
     out.extend_from_slice(b">")?;
     Ok(())

@@ -7,7 +7,8 @@ ghost use Rattle.table_entry_views.specs.Origin.{place_words};
 ghost use Rattle.table_entry_views.specs.Origin.{remark_words};
 
 use acceptor::NoMemory;
-use markup::{Piece, push_pieces};
+use markup::Piece::{Html, Number, Text};
+use markup::fill;
 
 /// Which entry of the log said last what counts of a competitor's attempts.
 #[derive(Clone, Copy)]
@@ -32,20 +33,20 @@ fn place_words(here: bool) -> &'static [u8]
     }
 }
 
+const ENTRY: &[u8] = b"<p class=\"origin\">Result $, $";
+
 /// Adds which entry it is, and where it was entered.
 fn push_entry(out: &mut Vec<u8>, position: u32, here: bool) -> Result<(), NoMemory>
     ensures { OnOk result (out.new.items ≡ out.old.items ++ entry_words position here) }
 {
-    push_pieces(
+    fill(
         out,
-        &[
-            Piece::Html(b"<p class=\"origin\">Result "),
-            Piece::Number(position as u64),
-            Piece::Html(b", "),
-            Piece::Html(place_words(here)),
-        ],
+        ENTRY,
+        &[Number(position as u64), Html(place_words(here))],
     )
 }
+
+const REMARK: &[u8] = b", with the remark <q dir=\"auto\">$</q>";
 
 /// Adds the remark of an entry, if it has one.
 fn push_remark(out: &mut Vec<u8>, remark: Option<&[u8]>) -> Result<(), NoMemory>
@@ -53,14 +54,7 @@ fn push_remark(out: &mut Vec<u8>, remark: Option<&[u8]>) -> Result<(), NoMemory>
         ≡ out.old.items ++ remark_words (option_copied remark.entry)) }
 {
     match remark {
-        Some(remark) => push_pieces(
-            out,
-            &[
-                Piece::Html(b", with the remark <q dir=\"auto\">"),
-                Piece::Text(remark),
-                Piece::Html(b"</q>"),
-            ],
-        ),
+        Some(remark) => fill(out, REMARK, &[Text(remark)]),
         None => Ok(()),
     }
 }

@@ -16,6 +16,8 @@ use Rattle.table_hall_views.specs.Entrants.{with_progress}
 use Rattle.table_hall_views.specs.Forms.{path_of}
 use Rattle.table_hall_views.specs.Lines.{line, lines_form, looks}
 use Rattle.table_hall_views.specs.Proposal.{round_before}
+use Rattle.table_hall_views.specs.declared.absent.TheConstants.{EMPTYING_WORDS, FIRST_LEAVING}
+use Rattle.table_hall_views.specs.declared.absent.TheConstants.{LATER_LEAVING}
 
 -- the command that withdraws a competitor from a round
 abbrev pub leave_text : RoundId → ℕ → List ℕ
@@ -32,25 +34,8 @@ leave_lines id numbers = flat_map (leave_line id) numbers
 -- in a later one the place goes to the next of those who wait for one
 abbrev pub leaving_words : ℕ → List ℕ
 leaving_words round =
-    if nat_le round 1
-    then codes "<p>Who never came is withdrawn, and has no result in this round then. While the "
-    ++ codes "round is open it is taken back by entering the competitor once more, under "
-    ++ codes "<a href=\"/people\">competitors</a>. If one of these still comes, withdraw each of "
-    ++ codes "the others on the page of that competitor. The button enters nothing yet: it shows "
-    ++ codes "each command, with the name.</p>\n"
-    else codes "<p>Who never came is withdrawn, and has no result in this round then. It can't be "
-    ++ codes "taken back: the best of the round before who has a result, did not advance and has "
-    ++ codes "not taken a place yet takes the place, and is shown here until the first attempt. If "
-    ++ codes "one of these still comes, withdraw each of the others on the page of that "
-    ++ codes "competitor. The button enters nothing yet: it shows each command, with the name."
-    ++ codes "</p>\n"
-
--- what it means that those are withdrawn too who would take the places
-abbrev pub emptying_words : List ℕ
-emptying_words =
-    codes "<p>Where nobody is to come any more, all who would take a place are withdrawn too, one "
-    ++ codes "after the other, and the places stay empty. That can't be taken back either. This "
-    ++ codes "button enters nothing yet too.</p>\n"
+    if nat_le round 1 then FIRST_LEAVING.now
+    else LATER_LEAVING.now
 
 -- words, and a form that shows the commands that withdraw these competitors
 unfoldable pub leaving_form : List ℕ → ℕ → RoundId → List ℕ → List ℕ → List ℕ → List ℕ
@@ -69,7 +54,7 @@ to_come accepted id t = filter (is_outside t) (who_wait (round_by accepted (roun
 abbrev pub emptying : PageContext → RoundId → List ℕ → List ℕ → List ℕ
 emptying around id numbers [] = []
 emptying around id numbers (other ∷ others) =
-    leaving_form around.token.now (get_or around.ids.now 17 0) id emptying_words
+    leaving_form around.token.now (get_or around.ids.now 17 0) id EMPTYING_WORDS.now
     (codes "Withdraw these and all who wait") (numbers ++ other ∷ others)
 
 -- the form for those without an attempt, and the other one

@@ -11,16 +11,13 @@ use Rattle.table_views.specs.Logs.{accepted_in}
 use Rattle.table_views.specs.Editions.{is_latest}
 use Rattle.table_hall_views.specs.Forms.{button, form_start, path_of, round_value}
 use Rattle.table_hall_views.specs.Opening.{rule_fields}
-
-abbrev pub settings_head : List ℕ
-settings_head =
-    codes "<h2>Change format, cutoff and limit</h2>\n<p>The button sets these to what the fields "
-    ++ codes "say, until the first attempt.</p>\n"
+use Rattle.table_hall_views.specs.declared.changing.TheConstants.{EARLY_RULES, EARLY_SCRAMBLE}
+use Rattle.table_hall_views.specs.declared.changing.TheConstants.{SETTINGS_HEAD}
 
 -- what holds now is chosen beforehand
 unfoldable pub settings_form : List ℕ → ℕ → RoundId → Settings → List ℕ
 settings_form token form id settings =
-    settings_head ++ form_start token form (codes "SET") (path_of id) ++ round_value id
+    SETTINGS_HEAD.now ++ form_start token form (codes "SET") (path_of id) ++ round_value id
     ++ rule_fields id.event (Some settings.format) settings.cutoff settings.limit
     ++ button (codes "Change format, cutoff and limit")
 
@@ -31,13 +28,9 @@ settings_form_if false token form id settings = settings_form token form id sett
 
 -- what edition 4 would allow in an open round: of fewest moves a scramble can be changed too
 abbrev pub early_words : Event → Bool → List ℕ
-early_words FewestMoves attempted =
-    codes "<p>With <a href=\"/rounds\">edition 4</a> a scramble could be changed, and before the "
-    ++ codes "first attempt format and cutoff.</p>\n"
+early_words FewestMoves attempted = EARLY_SCRAMBLE.now
 early_words _ true = []
-early_words _ false =
-    codes "<p>With <a href=\"/rounds\">edition 4</a> format, cutoff and limit could be changed "
-    ++ codes "before the first attempt.</p>\n"
+early_words _ false = EARLY_RULES.now
 
 -- the form, in edition 4; before it, what edition 4 would allow
 abbrev pub changing : PageContext → RoundId → Settings × Table → List ℕ

@@ -13,7 +13,7 @@ use Rattle.texts.specs.declared.command.Command.{Command}
 use Rattle.texts.specs.declared.command.Command.TheVariants.{Close}
 use Rattle.texts.specs.declared.command.RoundId.{RoundId}
 use Rattle.texts.specs.declared.command.Settings.{Settings}
-use Rattle.markup.specs.Pieces.{joined}
+use Rattle.markup.specs.Pieces.{fill}
 use Rattle.table_views.specs.declared.around.PageContext.{PageContext}
 use Rattle.table_views.specs.Logs.{accepted_in}
 use Rattle.table_hall_views.specs.Absent.{never_came}
@@ -22,6 +22,9 @@ use Rattle.table_views.specs.Editions.{is_latest}
 use Rattle.table_hall_views.specs.Entrants.{entrant_line, unfinished}
 use Rattle.table_hall_views.specs.Forms.{button, form_start, path_of, round_value, unseen}
 use Rattle.table_hall_views.specs.Opening.{advance_fields}
+use Rattle.table_hall_views.specs.declared.closing.TheConstants.{CHANGE_HEAD, LIST_THROUGH}
+use Rattle.table_hall_views.specs.declared.closing.TheConstants.{TIED_LIST}
+use Rattle.table_hall_views.specs.declared.closing.TheConstants.{TOLD, UNTIED}
 
 -- the command that closes a round
 abbrev pub close_text : RoundId → List ℕ
@@ -51,11 +54,7 @@ sharing t [] = []
 sharing t (first ∷ others) = those_placed t (place_of t first) (first ∷ others)
 
 abbrev pub tied_head : ℕ → List ℕ
-tied_head most = joined (
-    codes "<p class=\"told\">" ∷ decimal most
-    ∷ codes " could advance, but these are tied at the border, so none of them does:</p>\n<ul>\n"
-    ∷ []
-    )
+tied_head most = fill TIED_LIST.now (decimal most ∷ [])
 
 -- these are tied
 unfoldable pub tied_list : List Command → RoundId → ℕ → List ℕ → List ℕ
@@ -63,10 +62,7 @@ tied_list accepted id most numbers =
     tied_head most ++ flat_map (entrant_line accepted id) numbers ++ codes "</ul>\n"
 
 abbrev pub untied : ℕ → List ℕ
-untied most = joined (
-    codes "<p class=\"told\">" ∷ decimal most
-    ∷ codes " could advance: the others have no result.</p>\n" ∷ []
-    )
+untied most = fill UNTIED.now (decimal most ∷ [])
 
 -- who is tied, or that nobody is
 abbrev pub tied : List Command → RoundId → ℕ → List ℕ → List ℕ
@@ -81,9 +77,7 @@ tie accepted id t advance most through =
 -- ---- who advances
 
 abbrev pub these_go_on : ℕ → List ℕ
-these_go_on count = joined (
-    codes "<h2>Who advances, as of now: " ∷ decimal count ∷ codes "</h2>\n<ol>\n" ∷ []
-    )
+these_go_on count = fill LIST_THROUGH.now (decimal count ∷ [])
 
 -- these advance, of this many who could
 unfoldable pub list_through : List Command → RoundId → Table → Advance → ℕ → List ℕ → List ℕ
@@ -104,15 +98,10 @@ through_by (Percent percent) accepted id t =
 abbrev pub through : List Command → RoundId → Settings × Table → List ℕ
 through accepted id round = through_by round.0.advance accepted id round.1
 
-abbrev pub change_head : List ℕ
-change_head =
-    codes "<h2>Change who advances</h2>\n<p>The button sets who advances to what is chosen here, "
-    ++ codes "and changes nothing else.</p>\n"
-
 -- who advances now is chosen beforehand
 unfoldable pub change : List ℕ → ℕ → RoundId → Advance → List ℕ → List ℕ
 change token form id advance back =
-    change_head ++ form_start token form (codes "ADV") back
+    CHANGE_HEAD.now ++ form_start token form (codes "ADV") back
     ++ round_value id ++ advance_fields advance ++ button (codes "Change who advances")
 
 -- from edition 4 on a closed round can be opened again
@@ -121,10 +110,7 @@ closing_words true = codes "It can be opened again until the next round is opene
 closing_words false = codes "Nothing in it changes afterwards."
 
 abbrev pub closing_line : Bool → List ℕ → List ℕ
-closing_line mends text = joined (
-    codes "<p>" ∷ closing_words mends ∷ codes " This is sent: <code>" ∷ escaped text
-    ∷ codes "</code></p>\n" ∷ []
-    )
+closing_line mends text = fill TOLD.now (closing_words mends ∷ escaped text ∷ [])
 
 -- the command is sent as it is shown
 abbrev pub closing_told : Bool → List ℕ → List ℕ

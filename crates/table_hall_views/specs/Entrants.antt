@@ -9,13 +9,12 @@ use Rattle.round_words.specs.Words.{round_name}
 use Rattle.texts.specs.declared.command.Command.{Command}
 use Rattle.texts.specs.declared.command.RoundId.{RoundId}
 use Rattle.texts.specs.declared.command.Settings.{Settings}
-use Rattle.markup.specs.Pieces.{joined}
+use Rattle.markup.specs.Pieces.{fill}
 use Rattle.table_views.specs.People.{name_in}
+use Rattle.table_hall_views.specs.declared.unfinished.TheConstants.{ENTRANT}
 
 abbrev pub link_middle : ℕ → List ℕ
-link_middle number = joined (
-    codes "?number=" ∷ decimal number ∷ codes "\"><b>" ∷ decimal number ∷ codes "</b> <bdi>" ∷ []
-    )
+link_middle number = fill ENTRANT.now (decimal number ∷ decimal number ∷ [])
 
 -- an entrant, with a link to the entrant's card
 unfoldable pub entrant_line : List Command → RoundId → ℕ → List ℕ

@@ -3,15 +3,15 @@ use Rattle.std.specs.Prelude.{ℕ, ◌==◌, if◌then◌else◌, List, [], ◌�
 use Rattle.markup.specs.board_page.Escaped.{escaped}
 use Rattle.round_words.specs.Words.{round_name}
 use Rattle.texts.specs.declared.command.RoundId.{RoundId}
-use Rattle.markup.specs.Pieces.{joined}
+use Rattle.markup.specs.Pieces.{fill}
 use Rattle.table_views.specs.Hidden.{hidden}
+use Rattle.table_hall_views.specs.declared.forms.TheConstants.{BUTTON, CHOICE, PERSON_PATH}
+use Rattle.table_hall_views.specs.declared.forms.TheConstants.{TEXT_FIELD}
+use Rattle.table_hall_views.specs.declared.forms.TheConstants.{UNIT_FIELD, UNSEEN}
 
 -- a value that a form carries unseen
 abbrev pub unseen : List ℕ → List ℕ → List ℕ
-unseen name value = joined (
-    codes "<input type=\"hidden\" name=\"" ∷ name ∷ codes "\" value=\"" ∷ escaped value
-    ∷ codes "\">\n" ∷ []
-    )
+unseen name value = fill UNSEEN.now (name ∷ escaped value ∷ [])
 
 -- a form carries its token and its id, the word of its command, and the page to go to after it
 unfoldable pub form_start : List ℕ → ℕ → List ℕ → List ℕ → List ℕ
@@ -24,21 +24,15 @@ round_value id =
     codes "<input type=\"hidden\" name=\"round\" value=\"" ++ round_name id ++ codes "\">\n"
 
 abbrev pub button : List ℕ → List ℕ
-button words = joined (codes "<button>" ∷ words ∷ codes "</button></form>\n" ∷ [])
+button words = fill BUTTON.now (words ∷ [])
 
 -- a field with a label
 abbrev pub text_field : List ℕ → List ℕ → List ℕ → List ℕ
-text_field name label value = joined (
-    codes "<label>" ∷ label ∷ codes " <input name=\"" ∷ name ∷ codes "\" value=\"" ∷ escaped value
-    ∷ codes "\"></label>\n" ∷ []
-    )
+text_field name label value = fill TEXT_FIELD.now (label ∷ name ∷ escaped value ∷ [])
 
 -- a field with a label, and with the unit in which a script reads what is in it
 abbrev pub unit_field : List ℕ → List ℕ → List ℕ → List ℕ → List ℕ
-unit_field name label unit value = joined (
-    codes "<label>" ∷ label ∷ codes " <input name=\"" ∷ name ∷ codes "\" data-unit=\"" ∷ unit
-    ∷ codes "\" value=\"" ∷ escaped value ∷ codes "\"></label>\n" ∷ []
-    )
+unit_field name label unit value = fill UNIT_FIELD.now (label ∷ name ∷ unit ∷ escaped value ∷ [])
 
 -- after a number of commands
 abbrev pub commands_word : ℕ → List ℕ
@@ -46,9 +40,7 @@ commands_word count = if count == 1 then codes " command" else codes " commands"
 
 -- one of the values that can be chosen
 abbrev pub choice : List ℕ → List ℕ → List ℕ
-choice value words = joined (
-    codes "<option value=\"" ∷ value ∷ codes "\">" ∷ words ∷ codes "</option>\n" ∷ []
-    )
+choice value words = fill CHOICE.now (value ∷ words ∷ [])
 
 -- the path of the page of a round's forms
 abbrev pub path_of : RoundId → List ℕ
@@ -56,4 +48,4 @@ path_of id = codes "/rounds?round=" ++ round_name id
 
 -- the path of the page of a competitor
 abbrev pub person_path : ℕ → List ℕ
-person_path number = joined (codes "/person/" ∷ decimal number ∷ [])
+person_path number = fill PERSON_PATH.now (decimal number ∷ [])

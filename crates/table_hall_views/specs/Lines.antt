@@ -2,8 +2,9 @@
 -- project's own).
 use Rattle.std.specs.Prelude.{ℕ, List, [], ◌∷◌, ◌++◌, codes}
 use Rattle.markup.specs.board_page.Escaped.{escaped}
-use Rattle.markup.specs.Pieces.{joined}
+use Rattle.markup.specs.Pieces.{fill}
 use Rattle.table_views.specs.Hidden.{hidden}
+use Rattle.table_hall_views.specs.declared.line_forms.TheConstants.{LINES_FORM}
 
 -- a command after a break. HTML leaves out a break with which a text area begins, so that what is
 -- sent of commands, each after a break, has a break between each two.
@@ -20,12 +21,7 @@ looks = codes "<form method=\"post\" action=\"/lines\" autocomplete=\"off\">\n"
 
 -- where to go after the form, the lines, folded, and the button
 abbrev pub lines_rest : List ℕ → List ℕ → List ℕ → List ℕ
-lines_rest back lines words = joined (
-    codes "<input type=\"hidden\" name=\"back\" value=\"" ∷ escaped back
-    ∷ codes "\">\n<details><summary>What is sent</summary>\n" ∷
-    codes "<textarea name=\"lines\" rows=\"12\" cols=\"60\" readonly>" ∷ escaped lines
-    ∷ codes "</textarea></details>\n<button>" ∷ words ∷ codes "</button></form>\n" ∷ []
-    )
+lines_rest back lines words = fill LINES_FORM.now (escaped back ∷ escaped lines ∷ words ∷ [])
 
 -- a form with these lines carries its token and its id
 unfoldable pub lines_form : List ℕ → List ℕ → ℕ → List ℕ → List ℕ → List ℕ → List ℕ

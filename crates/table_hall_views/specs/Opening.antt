@@ -12,10 +12,13 @@ use Rattle.formats.specs.declared.events.Format.TheVariants.{Ao5, Mo3, Bo1, Bo2,
 use Rattle.formats.specs.Events.{format_name, is_allowed, unit_of}
 use Rattle.round_words.specs.Words.{format_words}
 use Rattle.texts.specs.declared.command.RoundId.{RoundId}
-use Rattle.markup.specs.Pieces.{joined}
+use Rattle.markup.specs.Pieces.{fill}
 use Rattle.table_hall_views.specs.declared.proposal.Proposal.{Proposal}
 use Rattle.table_hall_views.specs.Forms.{button, form_start, path_of, round_value, text_field}
 use Rattle.table_hall_views.specs.Forms.{unit_field}
+use Rattle.table_hall_views.specs.declared.opening.TheConstants.{ADVANCE_OPTIONS, COME_HEAD}
+use Rattle.table_hall_views.specs.declared.opening.TheConstants.{CUTOFF_CHOICE, FORMAT_CHOICE}
+use Rattle.table_hall_views.specs.declared.opening.TheConstants.{OPENING_HEAD}
 
 abbrev pub plain : List ℕ
 plain = codes "\">"
@@ -40,10 +43,8 @@ format_mark (Some proposed) format = if same_format proposed format then chosen 
 abbrev pub format_choice : Event → Option Format → Format → List ℕ
 format_choice event proposed format =
     if is_allowed event format
-    then joined (
-    codes "<option value=\"" ∷ format_name format ∷ format_mark proposed format
-    ∷ format_words format ∷ codes "</option>\n" ∷ []
-    )
+    then fill FORMAT_CHOICE.now (format_name format ∷ format_mark proposed format
+    ∷ format_words format ∷ [])
     else []
 
 -- what follows the number in the option of a number of attempts; it is chosen beforehand if the
@@ -54,9 +55,8 @@ after_mark (Some cutoff) attempts =
     if cutoff.0 == attempts then codes " selected>" else codes ">"
 
 abbrev pub cutoff_choice : Option (ℕ × ℕ) → ℕ → List ℕ
-cutoff_choice cutoff attempts = joined (
-    codes "<option" ∷ after_mark cutoff attempts ∷ decimal attempts ∷ codes "</option>\n" ∷ []
-    )
+cutoff_choice cutoff attempts =
+    fill CUTOFF_CHOICE.now (after_mark cutoff attempts ∷ decimal attempts ∷ [])
 
 -- what one of the attempts has to be below, in the event's unit
 abbrev pub border_text : Measure → Option (ℕ × ℕ) → List ℕ
@@ -114,12 +114,7 @@ limit_field Multi proposed = []
 
 -- who can advance, each option with the rest of its tag
 abbrev pub advance_options : List ℕ → List ℕ → List ℕ → List ℕ
-advance_options final top percent = joined (
-    codes "<option value=\"final" ∷ final
-    ∷ codes "nobody: it is the final</option>\n<option value=\"top" ∷ top
-    ∷ codes "a number</option>\n<option value=\"pct" ∷ percent
-    ∷ codes "a percentage</option>\n" ∷ []
-    )
+advance_options final top percent = fill ADVANCE_OPTIONS.now (final ∷ top ∷ percent ∷ [])
 
 -- one of them is chosen beforehand
 abbrev pub advance_choices : Advance → List ℕ
@@ -156,17 +151,11 @@ abbrev pub come_word : ℕ → List ℕ
 come_word count = if count == 1 then codes " comes" else codes " come"
 
 abbrev pub come_head : ℕ → List ℕ
-come_head come = joined (
-    codes "<h2>Open the round</h2>\n<p>" ∷ decimal come ∷ come_word come
-    ∷ codes " into this round. What is chosen here is proposed: change what you like. The "
-    ∷ codes "button opens the round as the fields say.</p>\n" ∷ []
-    )
+come_head come = fill COME_HEAD.now (decimal come ∷ come_word come ∷ [])
 
 -- that it is proposed, how many come, and what the button does
 abbrev pub opening_head : Option ℕ → List ℕ
-opening_head None =
-    codes "<h2>Open the round</h2>\n<p>What is chosen here is proposed: change what you like. "
-    ++ codes "The button opens the round as the fields say.</p>\n"
+opening_head None = OPENING_HEAD.now
 opening_head (Some come) = come_head come
 
 -- the form that opens a round

@@ -12,14 +12,15 @@ use Rattle.round_words.specs.Words.{round_name, round_words}
 use Rattle.texts.specs.declared.command.Command.{Command}
 use Rattle.texts.specs.declared.command.RoundId.{RoundId}
 use Rattle.texts.specs.declared.command.Settings.{Settings}
-use Rattle.markup.specs.Pieces.{joined}
+use Rattle.markup.specs.Pieces.{fill}
 use Rattle.table_views.specs.declared.around.PageContext.{PageContext}
 use Rattle.table_views.specs.Frame.{top, bottom}
 use Rattle.table_views.specs.Logs.{accepted_in}
 use Rattle.table_views.specs.Recent.{recent_section}
+use Rattle.table_hall_views.specs.declared.all_rounds.TheConstants.{LINK, ROW, SECTION_HEAD}
 
 abbrev pub link_end : List ℕ → List ℕ
-link_end words = joined (codes "\">" ∷ words ∷ codes "</a></td>" ∷ [])
+link_end words = fill LINK.now (words ∷ [])
 
 -- a link to what there is of a round under a path
 unfoldable pub link_cell : List ℕ → RoundId → List ℕ → List ℕ
@@ -30,10 +31,8 @@ state_cell true = codes "<td>closed</td>"
 state_cell false = codes "<td>open</td>"
 
 abbrev pub count_cells : Counts → List ℕ
-count_cells counted = joined (
-    codes "<td>" ∷ decimal counted.done ∷ codes " of " ∷ decimal counted.entrants ∷ codes " done, "
-    ∷ decimal counted.begun ∷ codes " in the middle</td>" ∷ []
-    )
+count_cells counted =
+    fill ROW.now (decimal counted.done ∷ decimal counted.entrants ∷ decimal counted.begun ∷ [])
 
 -- a link to a round's cards
 unfoldable pub row_head : RoundId → Advance → List ℕ
@@ -63,14 +62,9 @@ round_in accepted event round =
 abbrev pub event_lines : List Command → Event → List ℕ
 event_lines accepted event = flat_map (round_in accepted event) (1 ∷ 2 ∷ 3 ∷ 4 ∷ [])
 
-abbrev pub section_head : List ℕ
-section_head =
-    codes "<section id=\"rounds\"><h1>Rounds</h1>\n<table><caption>How far each is</caption>"
-    ++ codes "<tbody>\n"
-
 unfoldable pub section : List Command → List ℕ
 section accepted =
-    section_head
+    SECTION_HEAD.now
     ++ flat_map (event_lines accepted) all_events
     ++ codes "</tbody></table>\n<p><a href=\"/rounds\">Open a round</a></p></section>\n"
 

@@ -10,12 +10,15 @@ use Rattle.formats.specs.Events.{all_events, event_name}
 use Rattle.rounds.specs.Tables.{Table, entrant}
 use Rattle.round_words.specs.Words.{event_words}
 use Rattle.texts.specs.declared.command.Command.{Command}
-use Rattle.markup.specs.Pieces.{joined}
+use Rattle.markup.specs.Pieces.{fill}
 use Rattle.table_views.specs.declared.around.PageContext.{PageContext}
 use Rattle.table_views.specs.Frame.{top, bottom}
 use Rattle.table_views.specs.Logs.{accepted_in}
 use Rattle.table_views.specs.Recent.{recent_section}
 use Rattle.table_hall_views.specs.Forms.{button, choice, form_start, text_field}
+use Rattle.table_hall_views.specs.declared.people.TheConstants.{COMPETITOR, ENTERED, ENTERING_HEAD}
+use Rattle.table_hall_views.specs.declared.people.TheConstants.{PEOPLE_HEAD, REGISTERING_HEAD}
+use Rattle.table_hall_views.specs.declared.people.TheConstants.{SECTION_START}
 
 -- the table of a round, where it was opened
 abbrev pub table_of : List Command → Event → ℕ → Option Table
@@ -24,7 +27,7 @@ table_of accepted event round = option_map (λ r. r.1) (round_of accepted event 
 -- ---- the events of a competitor
 
 abbrev pub event_word : Event → List ℕ
-event_word event = joined (codes " " ∷ event_name event ∷ [])
+event_word event = fill ENTERED.now (event_name event ∷ [])
 
 abbrev pub entered_if : ℕ → Event → Option Table → List ℕ
 entered_if number event None = []
@@ -38,10 +41,8 @@ entered_in accepted number event = entered_if number event (table_of accepted ev
 
 -- the name is a link to the page of the competitor
 abbrev pub competitor_start : ℕ → List ℕ → List ℕ
-competitor_start number name = joined (
-    codes "<tr><td>" ∷ decimal number ∷ codes "</td><td dir=\"auto\"><a href=\"/person/"
-    ∷ decimal number ∷ codes "\">" ∷ escaped name ∷ codes "</a></td><td>" ∷ []
-    )
+competitor_start number name =
+    fill COMPETITOR.now (decimal number ∷ decimal number ∷ escaped name ∷ [])
 
 abbrev pub competitor_line : List Command → ℕ → List ℕ → List ℕ
 competitor_line accepted number name =
@@ -67,25 +68,15 @@ open_if event (Some t) = if t.is_closed then [] else choice (event_name event) (
 abbrev pub open_choice : List Command → Event → List ℕ
 open_choice accepted event = open_if event (table_of accepted event 1)
 
-abbrev pub registering_head : List ℕ
-registering_head =
-    codes "<h2>Register a competitor</h2>\n<p>The button gives the number, which nobody may have "
-    ++ codes "yet, to this name.</p>\n"
-
 unfoldable pub registering : List ℕ → ℕ → ℕ → List ℕ
 registering token form number =
-    registering_head ++ form_start token form (codes "REG") (codes "/people")
+    REGISTERING_HEAD.now ++ form_start token form (codes "REG") (codes "/people")
     ++ text_field (codes "number") (codes "Number") (decimal number)
     ++ text_field (codes "name") (codes "Name") (codes "") ++ button (codes "Register")
 
-abbrev pub entering_head : List ℕ
-entering_head =
-    codes "<h2>Enter a competitor in an event</h2>\n<p>The button enters the competitor in the "
-    ++ codes "first round of the event.</p>\n"
-
 unfoldable pub entering : List Command → List ℕ → ℕ → List ℕ
 entering accepted token form =
-    entering_head ++ form_start token form (codes "ENT") (codes "/people")
+    ENTERING_HEAD.now ++ form_start token form (codes "ENT") (codes "/people")
     ++ codes "<label>Event <select name=\"event\">\n"
     ++ flat_map (open_choice accepted) all_events ++ codes "</select></label>\n"
     ++ text_field (codes "number") (codes "Number") (codes "") ++ button (codes "Enter")
@@ -98,22 +89,12 @@ pub record IsProposed (accepted : List Command) (number : ℕ) : Type 0 where
   pub after : (k : ℕ) → 1 ≤ k → suc k ≡ number → IsSome (name_of accepted k)
   pub free : (k : ℕ) → number ≤ k → k < 9999 → name_of accepted k ≡ None
 
-unfoldable pub section_start : List ℕ
-section_start =
-    codes "<section><h1>Competitors</h1>\n<p><a href=\"/import\">"
-    ++ codes "From a competition's file or from lines</a></p>\n"
-
-abbrev pub people_head : List ℕ
-people_head =
-    codes "<table><caption>Who is registered</caption>\n<thead><tr><th scope=\"col\">number</th>"
-    ++ codes "<th scope=\"col\">name</th><th scope=\"col\">events</th></tr></thead><tbody>\n"
-
 -- the forms, the first with a number proposed, and all competitors
 unfoldable pub section : PageContext → ℕ → List ℕ
 section around proposed =
-    section_start ++ registering around.token.now (get_or around.ids.now 0 0) proposed
+    SECTION_START.now ++ registering around.token.now (get_or around.ids.now 0 0) proposed
     ++ entering (accepted_in around.mirror.now) around.token.now (get_or around.ids.now 1 0)
-    ++ people_head
+    ++ PEOPLE_HEAD.now
     ++ competitors (accepted_in around.mirror.now) 9999
     ++ codes "</tbody></table></section>\n"
 

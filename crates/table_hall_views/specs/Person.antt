@@ -11,7 +11,7 @@ use Rattle.round_words.specs.Words.{round_name, round_words}
 use Rattle.texts.specs.declared.command.Command.{Command}
 use Rattle.texts.specs.declared.command.RoundId.{RoundId}
 use Rattle.texts.specs.declared.command.Settings.{Settings}
-use Rattle.markup.specs.Pieces.{joined}
+use Rattle.markup.specs.Pieces.{fill}
 use Rattle.table_views.specs.declared.around.PageContext.{PageContext}
 use Rattle.table_views.specs.Frame.{top, bottom}
 use Rattle.table_views.specs.Leaving.{may_leave}
@@ -20,6 +20,8 @@ use Rattle.table_views.specs.Recent.{recent_section}
 use Rattle.table_views.specs.Editions.{edition_form, is_latest}
 use Rattle.table_hall_views.specs.Forms.{button, form_start, person_path, text_field, unseen}
 use Rattle.table_hall_views.specs.Reopening.{round_numbered}
+use Rattle.table_hall_views.specs.declared.person.TheConstants.{RENAMING_HEAD, ROUND_LINK, SECTION}
+use Rattle.table_hall_views.specs.declared.person.TheConstants.{WITHDRAWING_HEAD}
 
 -- the beginning of a form for a competitor, whose number it carries unseen
 unfoldable pub person_form : List ℕ → ℕ → List ℕ → ℕ → List ℕ
@@ -27,21 +29,16 @@ person_form token form command number =
     form_start token form command (person_path number)
     ++ unseen (codes "number") (decimal number)
 
-abbrev pub renaming_head : List ℕ
-renaming_head =
-    codes "<h2>Change the name</h2>\n<p>The button gives this number the name in the field, "
-    ++ codes "everywhere.</p>\n"
-
 -- the present name is filled in
 unfoldable pub renaming : List ℕ → ℕ → ℕ → List ℕ → List ℕ
 renaming token form number name =
-    renaming_head ++ person_form token form (codes "REN") number
+    RENAMING_HEAD.now ++ person_form token form (codes "REN") number
     ++ text_field (codes "name") (codes "Name") name ++ button (codes "Change the name")
 
 -- ---- the rounds in which the competitor is
 
 abbrev pub number_part : ℕ → List ℕ
-number_part number = joined (codes "?number=" ∷ decimal number ∷ codes "\">" ∷ [])
+number_part number = fill ROUND_LINK.now (decimal number ∷ [])
 
 -- a link to the card
 unfoldable pub round_link : ℕ → RoundId → List ℕ
@@ -91,18 +88,11 @@ leave_event accepted number event =
 abbrev pub leave_buttons : List Command → ℕ → List ℕ
 leave_buttons accepted number = flat_map (leave_event accepted number) all_events
 
-abbrev pub withdrawing_head : List ℕ
-withdrawing_head =
-    codes "<h2>Withdraw</h2>\n<p>From a round that is open, before the first attempt in it. From a "
-    ++ codes "first round it is taken back by entering the competitor once more, under "
-    ++ codes "<a href=\"/people\">competitors</a>. From a later round it can't be taken back: the "
-    ++ codes "best of the round before who has a result, did not advance and has not taken a place "
-    ++ codes "yet takes the place.</p>\n"
-
 -- a form with these buttons, what becomes of it, and the rule of who takes the place
 unfoldable pub withdrawing : List ℕ → ℕ → ℕ → List ℕ → List ℕ
 withdrawing token form number buttons =
-    withdrawing_head ++ person_form token form (codes "WDR") number ++ buttons ++ codes "</form>\n"
+    WITHDRAWING_HEAD.now ++ person_form token form (codes "WDR") number ++ buttons
+    ++ codes "</form>\n"
 
 -- no form where there is no button
 abbrev pub withdrawing_if : List ℕ → ℕ → ℕ → List ℕ → List ℕ
@@ -125,10 +115,7 @@ mending_or_edition around number name =
     else edition_form around.token.now (get_or around.ids.now 0 0) (person_path number)
 
 abbrev pub person_head : ℕ → List ℕ → List ℕ
-person_head number name = joined (
-    codes "<section><h1 dir=\"auto\">" ∷ escaped name ∷ codes "</h1>\n<p>Number "
-    ∷ decimal number ∷ codes ", rounds:" ∷ []
-    )
+person_head number name = fill SECTION.now (escaped name ∷ decimal number ∷ [])
 
 -- name, number, the rounds in which the competitor is, and the forms
 unfoldable pub person_section : PageContext → ℕ → List ℕ → List ℕ

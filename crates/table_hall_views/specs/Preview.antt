@@ -12,7 +12,7 @@ use Rattle.texts.specs.declared.reading.CommandFault.{CommandFault}
 use Rattle.texts.specs.declared.answer.Answer.{Answer}
 use Rattle.texts.specs.declared.answer.Answer.TheVariants.{Done, Refused}
 use Rattle.texts.specs.declared.answer.Code.{Code}
-use Rattle.markup.specs.Pieces.{joined}
+use Rattle.markup.specs.Pieces.{fill}
 use Rattle.table_views.specs.declared.around.PageContext.{PageContext}
 use Rattle.table_views.specs.Frame.{top, bottom}
 use Rattle.table_views.specs.Logs.{accepted_in}
@@ -20,6 +20,9 @@ use Rattle.table_views.specs.People.{name_in}
 use Rattle.table_hall_views.specs.declared.preview.PreviewedCommand.{PreviewedCommand}
 use Rattle.table_hall_views.specs.Forms.{commands_word}
 use Rattle.table_hall_views.specs.Lines.{enters, line, lines_form}
+use Rattle.table_hall_views.specs.declared.preview.TheConstants.{BACK, ENTER_WORDS, REFUSED_ITEM}
+use Rattle.table_hall_views.specs.declared.preview.TheConstants.{TEXT}
+use Rattle.table_hall_views.specs.declared.preview.TheConstants.{TOLD}
 
 abbrev pub is_entered : Answer → Bool
 is_entered Done = true
@@ -31,10 +34,7 @@ would_enter tried = is_entered tried.answer
 -- ---- a command, and why it would be refused
 
 abbrev pub refused_item : List ℕ → Code → List ℕ
-refused_item text code = joined (
-    codes "<li><code>" ∷ escaped text ∷ codes "</code> <em>" ∷ meaning_of code
-    ∷ codes "</em></li>\n" ∷ []
-    )
+refused_item text code = fill REFUSED_ITEM.now (escaped text ∷ meaning_of code ∷ [])
 
 abbrev pub refused_if : List ℕ → Answer → List ℕ
 refused_if text Done = []
@@ -63,7 +63,7 @@ leaver_name accepted (Some number) =
     codes " <bdi>" ++ escaped (name_in accepted number) ++ codes "</bdi>"
 
 abbrev pub entered_text : List ℕ → List ℕ
-entered_text text = joined (codes "<li><code>" ∷ escaped text ∷ codes "</code>" ∷ [])
+entered_text text = fill TEXT.now (escaped text ∷ [])
 
 -- a command, with the name of whom it withdraws
 unfoldable pub entered_item : List Command → List ℕ → List ℕ
@@ -81,11 +81,8 @@ sent_line tried = if would_enter tried then line tried.text.now else []
 -- ---- the section
 
 abbrev pub told : ℕ → ℕ → List ℕ
-told entered refused = joined (
-    codes "<section><h1>What would be entered</h1>\n<p class=\"told\">" ∷ decimal entered
-    ∷ commands_word entered ∷ codes " would be entered, and " ∷ decimal refused
-    ∷ codes " would not.</p>\n" ∷ []
-    )
+told entered refused =
+    fill TOLD.now (decimal entered ∷ commands_word entered ∷ decimal refused ∷ [])
 
 -- those that would be refused, where there are any
 unfoldable pub refused_list : ℕ → List PreviewedCommand → List ℕ
@@ -95,7 +92,7 @@ refused_list refused tried =
     else []
 
 abbrev pub enter_words : ℕ → List ℕ
-enter_words count = joined (codes "Enter " ∷ decimal count ∷ commands_word count ∷ [])
+enter_words count = fill ENTER_WORDS.now (decimal count ∷ commands_word count ∷ [])
 
 unfoldable pub entered_all : PageContext → List ℕ → ℕ → List PreviewedCommand → List ℕ
 entered_all around back entered tried =
@@ -112,10 +109,7 @@ entered_list around back entered tried =
 
 -- a link to the page that the commands came from
 abbrev pub back_line : List ℕ → List ℕ
-back_line back = joined (
-    codes "<p><a href=\"" ∷ escaped back ∷ codes "\">Back, and enter nothing</a></p></section>\n"
-    ∷ []
-    )
+back_line back = fill BACK.now (escaped back ∷ [])
 
 unfoldable pub lists : PageContext → List ℕ → ℕ → ℕ → List PreviewedCommand → List ℕ
 lists around back entered refused tried =

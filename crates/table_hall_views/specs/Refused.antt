@@ -1,16 +1,14 @@
 -- The pages of a form that asks for no command (the project's own).
 use Rattle.std.specs.Prelude.{ℕ, List, [], ◌∷◌, ◌++◌, codes}
 use Rattle.markup.specs.board_page.Escaped.{escaped}
-use Rattle.markup.specs.Pieces.{joined}
+use Rattle.markup.specs.Pieces.{fill}
 use Rattle.table_views.specs.declared.around.PageContext.{PageContext}
 use Rattle.table_views.specs.Frame.{top, bottom}
+use Rattle.table_hall_views.specs.declared.refused.TheConstants.{WHY}
 
 -- what stands before the reason and after it, with a link back to the page of the form
 abbrev pub why_section : List ℕ → List ℕ → List ℕ → List ℕ → List ℕ
-why_section start end back why = joined (
-    start ∷ escaped why ∷ end ∷ codes "<p><a href=\"" ∷ escaped back
-    ∷ codes "\">Back to the form</a></p></section>\n" ∷ []
-    )
+why_section start end back why = fill WHY.now (start ∷ escaped why ∷ end ∷ escaped back ∷ [])
 
 abbrev pub why_page : List ℕ → List ℕ → List ℕ → PageContext → List ℕ → List ℕ → List ℕ
 why_page title start end around back why =

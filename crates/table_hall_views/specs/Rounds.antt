@@ -12,7 +12,7 @@ use Rattle.round_words.specs.Words.{event_words, round_name, round_words, settin
 use Rattle.texts.specs.declared.command.Command.{Command}
 use Rattle.texts.specs.declared.command.RoundId.{RoundId}
 use Rattle.texts.specs.declared.command.Settings.{Settings}
-use Rattle.markup.specs.Pieces.{joined}
+use Rattle.markup.specs.Pieces.{fill}
 use Rattle.table_views.specs.declared.around.PageContext.{PageContext}
 use Rattle.table_views.specs.Frame.{top, bottom}
 use Rattle.table_views.specs.Logs.{accepted_in}
@@ -25,6 +25,7 @@ use Rattle.table_hall_views.specs.Opening.{opening}
 use Rattle.table_hall_views.specs.Proposal.{proposed}
 use Rattle.table_hall_views.specs.Reopening.{again, round_numbered}
 use Rattle.table_hall_views.specs.Scrambles.{scrambles}
+use Rattle.table_hall_views.specs.declared.round_forms.TheConstants.{CALLED, LINK, ROW}
 
 -- ---- which rounds have forms
 
@@ -52,9 +53,7 @@ state_words ToOpen = codes "to open"
 -- ---- the rounds of all events
 
 abbrev pub link_rest : ℕ → List ℕ → List ℕ
-link_rest round words = joined (
-    codes "\">Round " ∷ decimal round ∷ codes "</a>: " ∷ words ∷ codes "</td>" ∷ []
-    )
+link_rest round words = fill LINK.now (decimal round ∷ words ∷ [])
 
 unfoldable pub link : RoundId → List ℕ → List ℕ
 link id words = codes "<td><a href=\"/rounds?round=" ++ round_name id ++ link_rest id.round words
@@ -71,9 +70,7 @@ abbrev pub link_in : List Command → Event → ℕ → List ℕ
 link_in accepted event round = round_link accepted (round_numbered event round)
 
 abbrev pub event_head : Event → List ℕ
-event_head event = joined (
-    codes "<tr><th scope=\"row\">" ∷ event_words event ∷ codes "</th>" ∷ []
-    )
+event_head event = fill ROW.now (event_words event ∷ [])
 
 unfoldable pub row_of : List Command → Event → List ℕ
 row_of accepted event =
@@ -156,7 +153,7 @@ forms_if around id (Some round) = opened_forms around id round
 forms_if around id None = unopened_forms around id
 
 abbrev pub numbered : RoundId → List ℕ
-numbered id = joined (event_words id.event ∷ codes ", Round " ∷ decimal id.round ∷ [])
+numbered id = fill CALLED.now (event_words id.event ∷ decimal id.round ∷ [])
 
 -- a round is called by its number, until it is opened
 abbrev pub called : RoundId → Option (Settings × Table) → List ℕ

@@ -9,17 +9,15 @@ use Rattle.formats.specs.declared.events.Event.TheVariants.{FewestMoves}
 use Rattle.cube.specs.notation.Notation.{spelling}
 use Rattle.texts.specs.declared.command.Command.{Command}
 use Rattle.texts.specs.declared.command.RoundId.{RoundId}
-use Rattle.markup.specs.Pieces.{joined}
+use Rattle.markup.specs.Pieces.{fill}
 use Rattle.table_views.specs.declared.around.PageContext.{PageContext}
 use Rattle.table_views.specs.Logs.{accepted_in}
 use Rattle.table_views.specs.Editions.{is_latest}
 use Rattle.table_hall_views.specs.Forms.{button, form_start, path_of, round_value, text_field}
+use Rattle.table_hall_views.specs.declared.scrambles.TheConstants.{NO_SCRAMBLES, STANDING}
 
 abbrev pub scramble_shown : ℕ → List ℕ → List ℕ
-scramble_shown attempt text = joined (
-    codes "<p>Scramble " ∷ decimal attempt ∷ codes ": <code>" ∷ escaped text
-    ∷ codes "</code></p>\n" ∷ []
-    )
+scramble_shown attempt text = fill STANDING.now (decimal attempt ∷ escaped text ∷ [])
 
 -- a form with the scramble of an attempt: the word of its command, what its field is filled in
 -- with, and what its button says
@@ -62,15 +60,10 @@ scramble_if around form id count attempt =
     if nat_le attempt count
     then scramble_at (accepted_in around.mirror.now) around.token.now form id attempt else []
 
-abbrev pub scrambles_head : List ℕ
-scrambles_head =
-    codes "<h2>Scrambles</h2>\n<p>Each button sets the scramble of its attempt to the moves in its "
-    ++ codes "field.</p>\n"
-
 -- a round of fewest moves has at most three attempts
 unfoldable pub all_scrambles : PageContext → RoundId → ℕ → List ℕ
 all_scrambles around id count =
-    scrambles_head ++ scramble_if around (get_or around.ids.now 2 0) id count 1
+    NO_SCRAMBLES.now ++ scramble_if around (get_or around.ids.now 2 0) id count 1
     ++ scramble_if around (get_or around.ids.now 3 0) id count 2
     ++ scramble_if around (get_or around.ids.now 4 0) id count 3
 

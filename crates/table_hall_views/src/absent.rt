@@ -2,7 +2,7 @@
 
 ghost use Rattle.std.specs.Prelude.{◌≡◌, ◌++◌, IfOk, OnOk, filter};
 ghost use Rattle.commands.specs.Accepted.{round_by, who_wait};
-ghost use Rattle.table_hall_views.specs.Absent.{emptying, emptying_words, is_outside, leave_lines};
+ghost use Rattle.table_hall_views.specs.Absent.{emptying, is_outside, leave_lines};
 ghost use Rattle.table_hall_views.specs.Absent.{leaving, leaving_form, leaving_or_told};
 ghost use Rattle.table_hall_views.specs.Absent.{leaving_words};
 ghost use Rattle.table_hall_views.specs.Absent.{never_came, to_come};
@@ -36,33 +36,38 @@ fn leave_lines(alloc: Global, id: RoundId, numbers: &[u16]) -> Result<Vec<u8>, N
     Ok(lines)
 }
 
+const LATER_LEAVING: &[u8] = b"\
+<p>Who never came is withdrawn, and has no result in this round then. It can't be taken back: the \
+best of the round before who has a result, did not advance and has not taken a place yet takes the \
+place, and is shown here until the first attempt. If one of these still comes, withdraw each of \
+the others on the page of that competitor. The button enters nothing yet: it shows each command, \
+with the name.</p>
+";
+
+const FIRST_LEAVING: &[u8] = b"\
+<p>Who never came is withdrawn, and has no result in this round then. While the round is open it \
+is taken back by entering the competitor once more, under <a href=\"/people\">competitors</a>. If \
+one of these still comes, withdraw each of the others on the page of that competitor. The button \
+enters nothing yet: it shows each command, with the name.</p>
+";
+
 /// What withdrawing from this round of an event means.
 fn leaving_words(round: u8) -> &'static [u8]
     ensures { result.now ≡ leaving_words round }
 {
     if round <= 1 {
-        b"<p>Who never came is withdrawn, and has no result in this round then. While the round \
-is open it is taken back by entering the competitor once more, under \
-<a href=\"/people\">competitors</a>. If one of these still comes, withdraw each of the others on \
-the page of that competitor. The button enters nothing yet: it shows each command, with the \
-name.</p>\n"
+        FIRST_LEAVING
     } else {
-        b"<p>Who never came is withdrawn, and has no result in this round then. It can't be taken \
-back: the best of the round before who has a result, did not advance and has not taken a place yet \
-takes the place, and is shown here until the first attempt. If one of these still comes, withdraw \
-each of the others on the page of that competitor. The button enters nothing yet: it shows each \
-command, with the name.</p>\n"
+        LATER_LEAVING
     }
 }
 
 /// What it means that those are withdrawn too who would take the places.
-fn emptying_words() -> &'static [u8]
-    ensures { result.now ≡ emptying_words }
-{
-    b"<p>Where nobody is to come any more, all who would take a place are withdrawn too, one after \
-the other, and the places stay empty. That can't be taken back either. This button enters nothing \
-yet too.</p>\n"
-}
+const EMPTYING_WORDS: &[u8] = b"\
+<p>Where nobody is to come any more, all who would take a place are withdrawn too, one after the \
+other, and the places stay empty. That can't be taken back either. This button enters nothing yet \
+too.</p>
+";
 
 /// Adds words, and the form that shows the commands that withdraw these competitors.
 fn push_leaving_form(
@@ -153,7 +158,7 @@ fn push_emptying(
         around.token,
         id_at(around.ids, 17),
         id,
-        emptying_words(),
+        EMPTYING_WORDS,
         b"Withdraw these and all who wait",
         &all,
     )

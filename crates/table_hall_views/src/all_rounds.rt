@@ -9,7 +9,8 @@ use crate::pages::{push_end, start_page};
 use acceptor::NoMemory;
 use commands::Meet;
 use formats::Event;
-use markup::{Piece, push_pieces};
+use markup::Piece::{Html, Number};
+use markup::fill;
 use round_counts::{OpenedRound, counts_of, round_opened};
 use round_words::{push_round_name, push_round_words};
 use std::alloc::Global;
@@ -19,6 +20,8 @@ use texts::RoundId;
 /// The rounds that an event can have.
 const ROUNDS: [u8; 4] = [1, 2, 3, 4];
 
+const LINK: &[u8] = b"\">$</a></td>";
+
 /// Adds a link to what there is of a round under a path.
 fn push_link(out: &mut Vec<u8>, path: &[u8], id: RoundId, words: &[u8]) -> Result<(), NoMemory>
     ensures { OnOk result (out.new.items
@@ -27,14 +30,7 @@ fn push_link(out: &mut Vec<u8>, path: &[u8], id: RoundId, words: &[u8]) -> Resul
     out.extend_from_slice(b"<td><a href=\"")?;
     out.extend_from_slice(path)?;
     push_round_name(out, id)?;
-    push_pieces(
-        out,
-        &[
-            Piece::Html(b"\">"),
-            Piece::Html(words),
-            Piece::Html(b"</a></td>"),
-        ],
-    )
+    fill(out, LINK, &[Html(words)])
 }
 
 /// Adds whether a round is closed.
@@ -48,6 +44,8 @@ fn push_state(out: &mut Vec<u8>, closed: bool) -> Result<(), NoMemory>
     }
 }
 
+const ROW: &[u8] = b"<td>$ of $ done, $ in the middle</td>";
+
 /// Adds the line of a round that was opened.
 fn push_row(out: &mut Vec<u8>, id: RoundId, round: OpenedRound<'_>) -> Result<(), NoMemory>
     ensures { OnOk result (out.new.items ≡ out.old.items ++ round_line id
@@ -60,16 +58,13 @@ fn push_row(out: &mut Vec<u8>, id: RoundId, round: OpenedRound<'_>) -> Result<()
     push_round_words(out, id, round.settings.advance)?;
     out.extend_from_slice(b"</a></th>")?;
     push_state(out, round.table.is_closed())?;
-    push_pieces(
+    fill(
         out,
+        ROW,
         &[
-            Piece::Html(b"<td>"),
-            Piece::Number(counts.done as u64),
-            Piece::Html(b" of "),
-            Piece::Number(counts.entrants as u64),
-            Piece::Html(b" done, "),
-            Piece::Number(counts.begun as u64),
-            Piece::Html(b" in the middle</td>"),
+            Number(counts.done as u64),
+            Number(counts.entrants as u64),
+            Number(counts.begun as u64),
         ],
     )?;
     push_link(out, b"/rounds?round=", id, b"open and close")?;
@@ -105,14 +100,16 @@ fn push_events(out: &mut Vec<u8>, meet: &Meet, events: &[Event]) -> Result<(), N
     Ok(())
 }
 
+const SECTION_HEAD: &[u8] = b"\
+<section id=\"rounds\"><h1>Rounds</h1>
+<table><caption>How far each is</caption><tbody>
+";
+
 /// Adds the section of all rounds.
 fn push_section(out: &mut Vec<u8>, meet: &Meet) -> Result<(), NoMemory>
     ensures { OnOk result (out.new.items ≡ out.old.items ++ section meet.now.accepted) }
 {
-    out.extend_from_slice(
-        b"<section id=\"rounds\"><h1>Rounds</h1>\n<table><caption>How far each is</caption>\
-<tbody>\n",
-    )?;
+    out.extend_from_slice(SECTION_HEAD)?;
     push_events(out, meet, &Event::ALL)?;
     out.extend_from_slice(
         b"</tbody></table>\n<p><a href=\"/rounds\">Open a round</a></p></section>\n",

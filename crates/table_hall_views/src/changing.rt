@@ -12,6 +12,11 @@ use round_counts::OpenedRound;
 use table_views::{PageContext, is_latest};
 use texts::{RoundId, Settings};
 
+const SETTINGS_HEAD: &[u8] = b"\
+<h2>Change format, cutoff and limit</h2>
+<p>The button sets these to what the fields say, until the first attempt.</p>
+";
+
 /// Adds the form that changes format, cutoff and limit, with what holds now chosen beforehand.
 fn push_settings_form(
     out: &mut Vec<u8>,
@@ -24,10 +29,7 @@ fn push_settings_form(
         ≡ out.old.items ++ settings_form token.now form id settings) }
 {
     let back = path_of(*out.allocator(), id)?;
-    out.extend_from_slice(
-        b"<h2>Change format, cutoff and limit</h2>\n<p>The button sets these to what the fields \
-say, until the first attempt.</p>\n",
-    )?;
+    out.extend_from_slice(SETTINGS_HEAD)?;
     push_form(out, token, form, b"SET", &back)?;
     push_round_value(out, id)?;
     push_rule_fields(
@@ -40,20 +42,24 @@ say, until the first attempt.</p>\n",
     push_button(out, b"Change format, cutoff and limit")
 }
 
+const EARLY_RULES: &[u8] = b"\
+<p>With <a href=\"/rounds\">edition 4</a> format, cutoff and limit could be changed before the \
+first attempt.</p>
+";
+
+const EARLY_SCRAMBLE: &[u8] = b"\
+<p>With <a href=\"/rounds\">edition 4</a> a scramble could be changed, and before the first \
+attempt format and cutoff.</p>
+";
+
 /// What edition 4 would allow in an open round.
 fn early_words(event: Event, attempted: bool) -> &'static [u8]
     ensures { result.now ≡ early_words event attempted }
 {
     match event {
-        Event::FewestMoves => {
-            b"<p>With <a href=\"/rounds\">edition 4</a> a scramble could be changed, and before \
-the first attempt format and cutoff.</p>\n"
-        }
+        Event::FewestMoves => { EARLY_SCRAMBLE }
         _ if attempted => b"",
-        _ => {
-            b"<p>With <a href=\"/rounds\">edition 4</a> format, cutoff and limit could be changed \
-before the first attempt.</p>\n"
-        }
+        _ => { EARLY_RULES }
     }
 }
 

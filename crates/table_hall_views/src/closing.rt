@@ -20,7 +20,8 @@ use advancement::{advancing, quota, waiting};
 use card_forms::FormId;
 use commands::Meet;
 use formats::Advance;
-use markup::{Piece, push_pieces};
+use markup::Piece::{Html, Number, Text};
+use markup::fill;
 use round_counts::OpenedRound;
 use rounds::RoundTable;
 use std::alloc::Global;
@@ -66,6 +67,11 @@ fn sharing(alloc: Global, table: &RoundTable, numbers: &[u16]) -> Result<Vec<u16
     }
 }
 
+const TIED_LIST: &[u8] = b"\
+<p class=\"told\">$ could advance, but these are tied at the border, so none of them does:</p>
+<ul>
+";
+
 /// Adds that these are tied at the border where this many could advance.
 fn push_tied_list(
     out: &mut Vec<u8>,
@@ -77,33 +83,18 @@ fn push_tied_list(
     ensures { OnOk result (out.new.items
         ≡ out.old.items ++ tied_list meet.now.accepted id most numbers.now) }
 {
-    push_pieces(
-        out,
-        &[
-            Piece::Html(b"<p class=\"told\">"),
-            Piece::Number(most as u64),
-            Piece::Html(
-                b" could advance, but these are tied at the border, so none of them does:</p>\n\
-<ul>\n",
-            ),
-        ],
-    )?;
+    fill(out, TIED_LIST, &[Number(most as u64)])?;
     push_entrants(out, meet, id, numbers)?;
     out.extend_from_slice(b"</ul>\n")
 }
+
+const UNTIED: &[u8] = b"<p class=\"told\">$ could advance: the others have no result.</p>\n";
 
 /// Adds that nobody is tied where this many could advance.
 fn push_untied(out: &mut Vec<u8>, most: u16) -> Result<(), NoMemory>
     ensures { OnOk result (out.new.items ≡ out.old.items ++ untied most) }
 {
-    push_pieces(
-        out,
-        &[
-            Piece::Html(b"<p class=\"told\">"),
-            Piece::Number(most as u64),
-            Piece::Html(b" could advance: the others have no result.</p>\n"),
-        ],
-    )
+    fill(out, UNTIED, &[Number(most as u64)])
 }
 
 /// Adds who is tied at the border where this many could advance, or that nobody is.
@@ -160,6 +151,8 @@ fn push_tie(
     push_tied_by(out, meet, id, table, advance, most)
 }
 
+const LIST_THROUGH: &[u8] = b"<h2>Who advances, as of now: $</h2>\n<ol>\n";
+
 /// Adds these as those who advance by a rule, of this many who could.
 fn push_list_through(
     out: &mut Vec<u8>,
@@ -173,14 +166,7 @@ fn push_list_through(
     ensures { OnOk result (out.new.items
         ≡ out.old.items ++ list_through meet.now.accepted id table.now advance most numbers.now) }
 {
-    push_pieces(
-        out,
-        &[
-            Piece::Html(b"<h2>Who advances, as of now: "),
-            Piece::Number(numbers.len() as u64),
-            Piece::Html(b"</h2>\n<ol>\n"),
-        ],
-    )?;
+    fill(out, LIST_THROUGH, &[Number(numbers.len() as u64)])?;
     push_entrants(out, meet, id, numbers)?;
     out.extend_from_slice(b"</ol>\n")?;
     push_tie(out, meet, id, table, advance, most, numbers.len())
@@ -221,6 +207,11 @@ pub(crate) fn push_through(
     }
 }
 
+const CHANGE_HEAD: &[u8] = b"\
+<h2>Change who advances</h2>
+<p>The button sets who advances to what is chosen here, and changes nothing else.</p>
+";
+
 /// Adds the form that changes who advances, with who does now chosen beforehand.
 fn push_change(
     out: &mut Vec<u8>,
@@ -233,10 +224,7 @@ fn push_change(
     ensures { OnOk result (out.new.items
         ≡ out.old.items ++ change token.now form id advance back.now) }
 {
-    out.extend_from_slice(
-        b"<h2>Change who advances</h2>\n<p>The button sets who advances to what is chosen here, \
-and changes nothing else.</p>\n",
-    )?;
+    out.extend_from_slice(CHANGE_HEAD)?;
     push_form(out, token, form, b"ADV", back)?;
     push_round_value(out, id)?;
     push_advance(out, advance)?;
@@ -254,21 +242,14 @@ fn closing_words(mends: bool) -> &'static [u8]
     }
 }
 
+const TOLD: &[u8] = b"<p>$ This is sent: <code>$</code></p>\n";
+
 /// Adds the command that closes the round, which is sent as it is shown.
 fn push_told(out: &mut Vec<u8>, mends: bool, text: &[u8]) -> Result<(), NoMemory>
     ensures { OnOk result (out.new.items ≡ out.old.items ++ closing_told mends text.now) }
 {
     push_unseen(out, b"text", text)?;
-    push_pieces(
-        out,
-        &[
-            Piece::Html(b"<p>"),
-            Piece::Html(closing_words(mends)),
-            Piece::Html(b" This is sent: <code>"),
-            Piece::Text(text),
-            Piece::Html(b"</code></p>\n"),
-        ],
-    )
+    fill(out, TOLD, &[Html(closing_words(mends)), Text(text)])
 }
 
 /// Adds the form that closes the round.

@@ -8,7 +8,8 @@ ghost use Rattle.table_hall_views.specs.Forms.{unseen};
 use acceptor::NoMemory;
 use attempts::push_decimal;
 use card_forms::FormId;
-use markup::{Piece, push_pieces};
+use markup::Piece::{Html, Number, Text};
+use markup::fill;
 use round_words::push_round_name;
 use std::alloc::Global;
 use table_views::push_hidden;
@@ -22,6 +23,8 @@ pub(crate) fn id_at(ids: &[FormId; 32], place: usize) -> FormId
     ids[place]
 }
 
+const UNSEEN: &[u8] = b"<input type=\"hidden\" name=\"$\" value=\"$\">\n";
+
 /// Adds a value that a form carries unseen.
 pub(crate) fn push_unseen<'a>(
     out: &mut Vec<u8>,
@@ -30,16 +33,7 @@ pub(crate) fn push_unseen<'a>(
 ) -> Result<(), NoMemory>
     ensures { OnOk result (out.new.items ≡ out.old.items ++ unseen name.now value.now) }
 {
-    push_pieces(
-        out,
-        &[
-            Piece::Html(b"<input type=\"hidden\" name=\""),
-            Piece::Html(name),
-            Piece::Html(b"\" value=\""),
-            Piece::Text(value),
-            Piece::Html(b"\">\n"),
-        ],
-    )
+    fill(out, UNSEEN, &[Html(name), Text(value)])
 }
 
 /// Adds the beginning of a form for a command of this word. After it the browser goes to the path
@@ -70,19 +64,16 @@ pub(crate) fn push_round_value(out: &mut Vec<u8>, id: RoundId) -> Result<(), NoM
     out.extend_from_slice(b"\">\n")
 }
 
+const BUTTON: &[u8] = b"<button>$</button></form>\n";
+
 /// Adds the end of a form, with what its button says.
 pub(crate) fn push_button(out: &mut Vec<u8>, words: &[u8]) -> Result<(), NoMemory>
     ensures { OnOk result (out.new.items ≡ out.old.items ++ button words.now) }
 {
-    push_pieces(
-        out,
-        &[
-            Piece::Html(b"<button>"),
-            Piece::Html(words),
-            Piece::Html(b"</button></form>\n"),
-        ],
-    )
+    fill(out, BUTTON, &[Html(words)])
 }
+
+const TEXT_FIELD: &[u8] = b"<label>$ <input name=\"$\" value=\"$\"></label>\n";
 
 /// Adds a field with a label.
 pub(crate) fn push_text_field<'a>(
@@ -94,19 +85,10 @@ pub(crate) fn push_text_field<'a>(
     ensures { OnOk result (out.new.items
         ≡ out.old.items ++ text_field name.now label.now value.now) }
 {
-    push_pieces(
-        out,
-        &[
-            Piece::Html(b"<label>"),
-            Piece::Html(label),
-            Piece::Html(b" <input name=\""),
-            Piece::Html(name),
-            Piece::Html(b"\" value=\""),
-            Piece::Text(value),
-            Piece::Html(b"\"></label>\n"),
-        ],
-    )
+    fill(out, TEXT_FIELD, &[Html(label), Html(name), Text(value)])
 }
+
+const UNIT_FIELD: &[u8] = b"<label>$ <input name=\"$\" data-unit=\"$\" value=\"$\"></label>\n";
 
 /// Adds a field with a label, and with the unit in which a script reads what is in it.
 pub(crate) fn push_unit_field<'a>(
@@ -119,19 +101,10 @@ pub(crate) fn push_unit_field<'a>(
     ensures { OnOk result (out.new.items
         ≡ out.old.items ++ unit_field name.now label.now unit.now value.now) }
 {
-    push_pieces(
+    fill(
         out,
-        &[
-            Piece::Html(b"<label>"),
-            Piece::Html(label),
-            Piece::Html(b" <input name=\""),
-            Piece::Html(name),
-            Piece::Html(b"\" data-unit=\""),
-            Piece::Html(unit),
-            Piece::Html(b"\" value=\""),
-            Piece::Text(value),
-            Piece::Html(b"\"></label>\n"),
-        ],
+        UNIT_FIELD,
+        &[Html(label), Html(name), Html(unit), Text(value)],
     )
 }
 
@@ -146,6 +119,8 @@ pub(crate) fn commands_word(count: usize) -> &'static [u8]
     }
 }
 
+const CHOICE: &[u8] = b"<option value=\"$\">$</option>\n";
+
 /// Adds one of the values that can be chosen.
 pub(crate) fn push_choice<'a>(
     out: &mut Vec<u8>,
@@ -154,16 +129,7 @@ pub(crate) fn push_choice<'a>(
 ) -> Result<(), NoMemory>
     ensures { OnOk result (out.new.items ≡ out.old.items ++ choice value.now words.now) }
 {
-    push_pieces(
-        out,
-        &[
-            Piece::Html(b"<option value=\""),
-            Piece::Html(value),
-            Piece::Html(b"\">"),
-            Piece::Html(words),
-            Piece::Html(b"</option>\n"),
-        ],
-    )
+    fill(out, CHOICE, &[Html(value), Html(words)])
 }
 
 /// The path of the page of a round's forms.
@@ -176,15 +142,14 @@ pub(crate) fn path_of(alloc: Global, id: RoundId) -> Result<Vec<u8>, NoMemory>
     Ok(path)
 }
 
+const PERSON_PATH: &[u8] = b"/person/$";
+
 /// The path of the page of a competitor.
 pub(crate) fn person_path(alloc: Global, number: u16) -> Result<Vec<u8>, NoMemory>
     ensures { IfOk result (λ path. path.items ≡ person_path number) }
 {
     let mut path = Vec::new(alloc);
-    push_pieces(
-        &mut path,
-        &[Piece::Html(b"/person/"), Piece::Number(number as u64)],
-    )?;
+    fill(&mut path, PERSON_PATH, &[Number(number as u64)])?;
     Ok(path)
 }
 

@@ -5,7 +5,8 @@ ghost use Rattle.table_hall_views.specs.Lines.{line, lines_form};
 
 use acceptor::NoMemory;
 use card_forms::FormId;
-use markup::{Piece, push_pieces};
+use markup::Piece::{Html, Text};
+use markup::fill;
 use table_views::push_hidden;
 
 /// The beginning of a form that enters its lines.
@@ -23,6 +24,13 @@ pub(crate) fn push_line(out: &mut Vec<u8>, text: &[u8]) -> Result<(), NoMemory>
     out.extend_from_slice(text)
 }
 
+const LINES_FORM: &[u8] = b"\
+<input type=\"hidden\" name=\"back\" value=\"$\">
+<details><summary>What is sent</summary>
+<textarea name=\"lines\" rows=\"12\" cols=\"60\" readonly>$</textarea></details>
+<button>$</button></form>
+";
+
 /// Adds a form with this beginning that shows these lines of commands, each after a break, and
 /// sends them. After it the browser goes to the path `back`; its button says these words.
 pub(crate) fn push_lines_form<'a>(
@@ -39,17 +47,5 @@ pub(crate) fn push_lines_form<'a>(
 {
     out.extend_from_slice(start)?;
     push_hidden(out, token, id)?;
-    push_pieces(
-        out,
-        &[
-            Piece::Html(b"<input type=\"hidden\" name=\"back\" value=\""),
-            Piece::Text(back),
-            Piece::Html(b"\">\n<details><summary>What is sent</summary>\n"),
-            Piece::Html(b"<textarea name=\"lines\" rows=\"12\" cols=\"60\" readonly>"),
-            Piece::Text(lines),
-            Piece::Html(b"</textarea></details>\n<button>"),
-            Piece::Html(words),
-            Piece::Html(b"</button></form>\n"),
-        ],
-    )
+    fill(out, LINES_FORM, &[Text(back), Text(lines), Html(words)])
 }

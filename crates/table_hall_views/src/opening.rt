@@ -19,7 +19,8 @@ use acceptor::NoMemory;
 use attempts::{Unit, Value, print_value};
 use card_forms::FormId;
 use formats::{Advance, Event, Format, allowed, unit_of};
-use markup::{Piece, push_pieces};
+use markup::Piece::{Html, Number};
+use markup::fill;
 use round_words::format_words;
 use std::alloc::Global;
 use texts::RoundId;
@@ -43,6 +44,8 @@ fn format_mark(proposed: Option<Format>, format: Format) -> &'static [u8]
     }
 }
 
+const FORMAT_CHOICE: &[u8] = b"<option value=\"$$$</option>\n";
+
 /// Adds a format, where the event may have it.
 fn push_format(
     out: &mut Vec<u8>,
@@ -56,14 +59,13 @@ fn push_format(
     if !allowed(event, format) {
         return Ok(());
     }
-    push_pieces(
+    fill(
         out,
+        FORMAT_CHOICE,
         &[
-            Piece::Html(b"<option value=\""),
-            Piece::Html(format.name().as_bytes()),
-            Piece::Html(format_mark(proposed, format)),
-            Piece::Html(format_words(format).as_bytes()),
-            Piece::Html(b"</option>\n"),
+            Html(format.name().as_bytes()),
+            Html(format_mark(proposed, format)),
+            Html(format_words(format).as_bytes()),
         ],
     )
 }
@@ -94,6 +96,8 @@ fn after_mark(cutoff: Option<(u8, u32)>, attempts: u8) -> &'static [u8]
     }
 }
 
+const CUTOFF_CHOICE: &[u8] = b"<option$$</option>\n";
+
 fn push_each_after(
     out: &mut Vec<u8>,
     cutoff: Option<(u8, u32)>,
@@ -103,14 +107,10 @@ fn push_each_after(
         ≡ out.old.items ++ flat_map (cutoff_choice cutoff) attempts.now) }
 {
     for number in attempts {
-        push_pieces(
+        fill(
             out,
-            &[
-                Piece::Html(b"<option"),
-                Piece::Html(after_mark(cutoff, *number)),
-                Piece::Number(*number as u64),
-                Piece::Html(b"</option>\n"),
-            ],
+            CUTOFF_CHOICE,
+            &[Html(after_mark(cutoff, *number)), Number(*number as u64)],
         )?;
     }
     Ok(())
@@ -215,6 +215,12 @@ fn push_limit(out: &mut Vec<u8>, event: Event, proposed: Option<u32>) -> Result<
     }
 }
 
+const ADVANCE_OPTIONS: &[u8] = b"\
+<option value=\"final$nobody: it is the final</option>
+<option value=\"top$a number</option>
+<option value=\"pct$a percentage</option>
+";
+
 /// Adds who can advance, each option with the rest of its tag.
 fn push_advance_options(
     out: &mut Vec<u8>,
@@ -225,17 +231,10 @@ fn push_advance_options(
     ensures { OnOk result (out.new.items
         ≡ out.old.items ++ advance_options last.now top.now percent.now) }
 {
-    push_pieces(
+    fill(
         out,
-        &[
-            Piece::Html(b"<option value=\"final"),
-            Piece::Html(last),
-            Piece::Html(b"nobody: it is the final</option>\n<option value=\"top"),
-            Piece::Html(top),
-            Piece::Html(b"a number</option>\n<option value=\"pct"),
-            Piece::Html(percent),
-            Piece::Html(b"a percentage</option>\n"),
-        ],
+        ADVANCE_OPTIONS,
+        &[Html(last), Html(top), Html(percent)],
     )
 }
 
@@ -298,23 +297,28 @@ fn come_word(count: u16) -> &'static [u8]
     if count == 1 { b" comes" } else { b" come" }
 }
 
+const COME_HEAD: &[u8] = b"\
+<h2>Open the round</h2>
+<p>$$ into this round. What is chosen here is proposed: change what you like. The button opens \
+the round as the fields say.</p>
+";
+
 /// Adds how many come into the round, that what the form has is proposed, and what its button does.
 fn push_come(out: &mut Vec<u8>, come: u16) -> Result<(), NoMemory>
     ensures { OnOk result (out.new.items ≡ out.old.items ++ come_head come) }
 {
-    push_pieces(
+    fill(
         out,
-        &[
-            Piece::Html(b"<h2>Open the round</h2>\n<p>"),
-            Piece::Number(come as u64),
-            Piece::Html(come_word(come)),
-            Piece::Html(
-                b" into this round. What is chosen here is proposed: change what you like. The ",
-            ),
-            Piece::Html(b"button opens the round as the fields say.</p>\n"),
-        ],
+        COME_HEAD,
+        &[Number(come as u64), Html(come_word(come))],
     )
 }
+
+const OPENING_HEAD: &[u8] = b"\
+<h2>Open the round</h2>
+<p>What is chosen here is proposed: change what you like. The button opens the round as the \
+fields say.</p>
+";
 
 /// Adds that what the form has is proposed, how many come into the round, and what the button does.
 fn push_head(out: &mut Vec<u8>, come: Option<u16>) -> Result<(), NoMemory>
@@ -322,10 +326,7 @@ fn push_head(out: &mut Vec<u8>, come: Option<u16>) -> Result<(), NoMemory>
 {
     match come {
         Some(come) => push_come(out, come),
-        None => out.extend_from_slice(
-            b"<h2>Open the round</h2>\n<p>What is chosen here is proposed: change what you like. \
-The button opens the round as the fields say.</p>\n",
-        ),
+        None => out.extend_from_slice(OPENING_HEAD),
     }
 }
 

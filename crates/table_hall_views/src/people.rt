@@ -15,7 +15,8 @@ use acceptor::NoMemory;
 use card_forms::FormId;
 use commands::Meet;
 use formats::Event;
-use markup::{Piece, push_pieces};
+use markup::Piece::{Html, Number, Text};
+use markup::fill;
 use round_words::event_words;
 use rounds::RoundTable;
 use std::alloc::Global;
@@ -38,6 +39,8 @@ fn free_number(meet: &Meet) -> u16
     1
 }
 
+const ENTERED: &[u8] = b" $";
+
 /// Adds the events in whose first round a competitor is.
 fn push_entered(
     out: &mut Vec<u8>,
@@ -51,9 +54,10 @@ fn push_entered(
     for event in events {
         let first = meet.round(*event, 1);
         match first {
-            Some(table) if table.place(number).is_some() => push_pieces(
+            Some(table) if table.place(number).is_some() => fill(
                 out,
-                &[Piece::Html(b" "), Piece::Html(event.name().as_bytes())],
+                ENTERED,
+                &[Html(event.name().as_bytes())],
             )?,
             _ => {}
         }
@@ -61,21 +65,16 @@ fn push_entered(
     Ok(())
 }
 
+const COMPETITOR: &[u8] = b"<tr><td>$</td><td dir=\"auto\"><a href=\"/person/$\">$</a></td><td>";
+
 fn push_competitor(out: &mut Vec<u8>, meet: &Meet, number: u16, name: &[u8]) -> Result<(), NoMemory>
     ensures { OnOk result (out.new.items
         ≡ out.old.items ++ competitor_line meet.now.accepted number name.now) }
 {
-    push_pieces(
+    fill(
         out,
-        &[
-            Piece::Html(b"<tr><td>"),
-            Piece::Number(number as u64),
-            Piece::Html(b"</td><td dir=\"auto\"><a href=\"/person/"),
-            Piece::Number(number as u64),
-            Piece::Html(b"\">"),
-            Piece::Text(name),
-            Piece::Html(b"</a></td><td>"),
-        ],
+        COMPETITOR,
+        &[Number(number as u64), Number(number as u64), Text(name)],
     )?;
     push_entered(out, meet, number, &Event::ALL)?;
     out.extend_from_slice(b"</td></tr>\n")
@@ -137,6 +136,11 @@ fn push_open_events(out: &mut Vec<u8>, meet: &Meet, events: &[Event]) -> Result<
     Ok(())
 }
 
+const REGISTERING_HEAD: &[u8] = b"\
+<h2>Register a competitor</h2>
+<p>The button gives the number, which nobody may have yet, to this name.</p>
+";
+
 /// Adds the form that registers a competitor, with a number proposed.
 fn push_registering(
     out: &mut Vec<u8>,
@@ -148,25 +152,24 @@ fn push_registering(
         ≡ out.old.items ++ registering token.now form number) }
 {
     let digits = digits_of(*out.allocator(), number as u32)?;
-    out.extend_from_slice(
-        b"<h2>Register a competitor</h2>\n<p>The button gives the number, which nobody may have \
-yet, to this name.</p>\n",
-    )?;
+    out.extend_from_slice(REGISTERING_HEAD)?;
     push_form(out, token, form, b"REG", b"/people")?;
     push_text_field(out, b"number", b"Number", &digits)?;
     push_text_field(out, b"name", b"Name", b"")?;
     push_button(out, b"Register")
 }
 
+const ENTERING_HEAD: &[u8] = b"\
+<h2>Enter a competitor in an event</h2>
+<p>The button enters the competitor in the first round of the event.</p>
+";
+
 /// Adds the form that enters a competitor in an event.
 fn push_entering(out: &mut Vec<u8>, meet: &Meet, token: &[u8], form: FormId) -> Result<(), NoMemory>
     ensures { OnOk result (out.new.items
         ≡ out.old.items ++ entering meet.now.accepted token.now form) }
 {
-    out.extend_from_slice(
-        b"<h2>Enter a competitor in an event</h2>\n<p>The button enters the competitor in the \
-first round of the event.</p>\n",
-    )?;
+    out.extend_from_slice(ENTERING_HEAD)?;
     push_form(out, token, form, b"ENT", b"/people")?;
     out.extend_from_slice(b"<label>Event <select name=\"event\">\n")?;
     push_open_events(out, meet, &Event::ALL)?;
@@ -175,21 +178,26 @@ first round of the event.</p>\n",
     push_button(out, b"Enter")
 }
 
+const PEOPLE_HEAD: &[u8] = b"\
+<table><caption>Who is registered</caption>
+<thead><tr><th scope=\"col\">number</th><th scope=\"col\">name</th><th \
+scope=\"col\">events</th></tr></thead><tbody>
+";
+
+const SECTION_START: &[u8] = b"\
+<section><h1>Competitors</h1>
+<p><a href=\"/import\">From a competition's file or from lines</a></p>
+";
+
 /// Adds the section of competitors.
 fn push_section(out: &mut Vec<u8>, around: &PageContext<'_>) -> Result<(), NoMemory>
     ensures { OnOk result (Adds out.old.items out.new.items (IsSection around.entry.now)) }
 {
     let meet = around.mirror.meet();
-    out.extend_from_slice(
-        b"<section><h1>Competitors</h1>\n<p><a href=\"/import\">\
-From a competition's file or from lines</a></p>\n",
-    )?;
+    out.extend_from_slice(SECTION_START)?;
     push_registering(out, around.token, id_at(around.ids, 0), free_number(meet))?;
     push_entering(out, meet, around.token, id_at(around.ids, 1))?;
-    out.extend_from_slice(
-        b"<table><caption>Who is registered</caption>\n<thead><tr><th scope=\"col\">number</th>\
-<th scope=\"col\">name</th><th scope=\"col\">events</th></tr></thead><tbody>\n",
-    )?;
+    out.extend_from_slice(PEOPLE_HEAD)?;
     push_competitors(out, meet, LAST_NUMBER)?;
     out.extend_from_slice(b"</tbody></table></section>\n")
 }

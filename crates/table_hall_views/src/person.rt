@@ -18,7 +18,8 @@ use acceptor::NoMemory;
 use card_forms::FormId;
 use commands::Meet;
 use formats::{Advance, Event};
-use markup::{Piece, push_pieces};
+use markup::Piece::{Number, Text};
+use markup::fill;
 use round_counts::round_opened;
 use round_words::{push_round_name, push_round_words};
 use std::alloc::Global;
@@ -42,6 +43,11 @@ fn push_person_form(
     push_unseen(out, b"number", &digits)
 }
 
+const RENAMING_HEAD: &[u8] = b"\
+<h2>Change the name</h2>
+<p>The button gives this number the name in the field, everywhere.</p>
+";
+
 /// Adds the form that gives a competitor another name, with the present one filled in.
 fn push_renaming(
     out: &mut Vec<u8>,
@@ -53,14 +59,13 @@ fn push_renaming(
     ensures { OnOk result (out.new.items
         ≡ out.old.items ++ renaming token.now form number name.now) }
 {
-    out.extend_from_slice(
-        b"<h2>Change the name</h2>\n<p>The button gives this number the name in the field, \
-everywhere.</p>\n",
-    )?;
+    out.extend_from_slice(RENAMING_HEAD)?;
     push_person_form(out, token, form, b"REN", number)?;
     push_text_field(out, b"name", b"Name", name)?;
     push_button(out, b"Change the name")
 }
+
+const ROUND_LINK: &[u8] = b"?number=$\">";
 
 /// Adds a round, with a link to the competitor's card in it.
 fn push_round_link(out: &mut Vec<u8>, id: RoundId, number: u16) -> Result<(), NoMemory>
@@ -68,14 +73,7 @@ fn push_round_link(out: &mut Vec<u8>, id: RoundId, number: u16) -> Result<(), No
 {
     out.extend_from_slice(b" <a href=\"/card/")?;
     push_round_name(out, id)?;
-    push_pieces(
-        out,
-        &[
-            Piece::Html(b"?number="),
-            Piece::Number(number as u64),
-            Piece::Html(b"\">"),
-        ],
-    )?;
+    fill(out, ROUND_LINK, &[Number(number as u64)])?;
     push_round_name(out, id)?;
     out.extend_from_slice(b"</a>")
 }
@@ -176,6 +174,14 @@ fn leave_buttons(
     Ok(buttons)
 }
 
+const WITHDRAWING_HEAD: &[u8] = b"\
+<h2>Withdraw</h2>
+<p>From a round that is open, before the first attempt in it. From a first round it is taken back \
+by entering the competitor once more, under <a href=\"/people\">competitors</a>. From a later \
+round it can't be taken back: the best of the round before who has a result, did not advance and \
+has not taken a place yet takes the place.</p>
+";
+
 /// Adds the form that withdraws a competitor from a round, with these buttons.
 fn push_withdrawing(
     out: &mut Vec<u8>,
@@ -187,13 +193,7 @@ fn push_withdrawing(
     ensures { OnOk result (out.new.items
         ≡ out.old.items ++ withdrawing token.now form number buttons.now) }
 {
-    out.extend_from_slice(
-        b"<h2>Withdraw</h2>\n<p>From a round that is open, before the first attempt in it. From a \
-first round it is taken back by entering the competitor once more, under \
-<a href=\"/people\">competitors</a>. From a later round it can't be taken back: the best of \
-the round before who has a result, did not advance and has not taken a place yet takes the \
-place.</p>\n",
-    )?;
+    out.extend_from_slice(WITHDRAWING_HEAD)?;
     push_person_form(out, token, form, b"WDR", number)?;
     out.extend_from_slice(buttons)?;
     out.extend_from_slice(b"</form>\n")
@@ -258,6 +258,8 @@ fn push_mending_or_edition(
     }
 }
 
+const SECTION: &[u8] = b"<section><h1 dir=\"auto\">$</h1>\n<p>Number $, rounds:";
+
 /// Adds the section of a competitor.
 fn push_section(
     out: &mut Vec<u8>,
@@ -268,16 +270,7 @@ fn push_section(
     ensures { OnOk result (out.new.items
         ≡ out.old.items ++ person_section around.entry.now number name.now) }
 {
-    push_pieces(
-        out,
-        &[
-            Piece::Html(b"<section><h1 dir=\"auto\">"),
-            Piece::Text(name),
-            Piece::Html(b"</h1>\n<p>Number "),
-            Piece::Number(number as u64),
-            Piece::Html(b", rounds:"),
-        ],
-    )?;
+    fill(out, SECTION, &[Text(name), Number(number as u64)])?;
     push_rounds(out, around.mirror.meet(), number, &Event::ALL)?;
     out.extend_from_slice(b"</p>\n")?;
     push_mending_or_edition(out, around, number, name)?;

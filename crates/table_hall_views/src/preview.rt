@@ -14,7 +14,8 @@ use crate::line_forms::{ENTERS, push_line, push_lines_form};
 use crate::pages::start_page;
 use acceptor::NoMemory;
 use commands::Meet;
-use markup::{Piece, push_pieces};
+use markup::Piece::{Html, Number, Text};
+use markup::fill;
 use std::alloc::{AllocError, Global};
 use table_views::{PageContext, push_bottom, push_name};
 use texts::meanings::meaning_of;
@@ -45,19 +46,16 @@ fn count_entered(tried: &[PreviewedCommand<'_>]) -> usize
     tried.iter().filter(|one| is_entered(one.answer)).count()
 }
 
+const REFUSED_ITEM: &[u8] = b"<li><code>$</code> <em>$</em></li>\n";
+
 /// Adds a command that would be refused, and why.
 fn push_refused_item<'a>(out: &mut Vec<u8>, text: &'a [u8], code: Code) -> Result<(), NoMemory>
     ensures { OnOk result (out.new.items ≡ out.old.items ++ refused_item text.now code) }
 {
-    push_pieces(
+    fill(
         out,
-        &[
-            Piece::Html(b"<li><code>"),
-            Piece::Text(text),
-            Piece::Html(b"</code> <em>"),
-            Piece::Html(meaning_of(code).as_bytes()),
-            Piece::Html(b"</em></li>\n"),
-        ],
+        REFUSED_ITEM,
+        &[Text(text), Html(meaning_of(code).as_bytes())],
     )
 }
 
@@ -125,17 +123,12 @@ fn push_leaver(out: &mut Vec<u8>, meet: &Meet, number: Option<u16>) -> Result<()
     out.extend_from_slice(b"</bdi>")
 }
 
+const TEXT: &[u8] = b"<li><code>$</code>";
+
 fn push_text(out: &mut Vec<u8>, text: &[u8]) -> Result<(), NoMemory>
     ensures { OnOk result (out.new.items ≡ out.old.items ++ entered_text text.now) }
 {
-    push_pieces(
-        out,
-        &[
-            Piece::Html(b"<li><code>"),
-            Piece::Text(text),
-            Piece::Html(b"</code>"),
-        ],
-    )
+    fill(out, TEXT, &[Text(text)])
 }
 
 /// Adds a command that would be entered, with the name of whom it withdraws.
@@ -179,18 +172,17 @@ fn sent_lines(alloc: Global, tried: &[PreviewedCommand<'_>]) -> Result<Vec<u8>, 
     Ok(lines)
 }
 
+const ENTER_WORDS: &[u8] = b"Enter $$";
+
 /// What the button of the form says.
 fn enter_words(alloc: Global, count: usize) -> Result<Vec<u8>, NoMemory>
     ensures { IfOk result (λ words. words.items ≡ enter_words count) }
 {
     let mut words = Vec::new(alloc);
-    push_pieces(
+    fill(
         &mut words,
-        &[
-            Piece::Html(b"Enter "),
-            Piece::Number(count as u64),
-            Piece::Html(commands_word(count)),
-        ],
+        ENTER_WORDS,
+        &[Number(count as u64), Html(commands_word(count))],
     )?;
     Ok(words)
 }
@@ -233,33 +225,31 @@ fn push_entered(
     }
 }
 
+const BACK: &[u8] = b"<p><a href=\"$\">Back, and enter nothing</a></p></section>\n";
+
 /// Adds a link to the page that the commands came from.
 fn push_back<'a>(out: &mut Vec<u8>, back: &'a [u8]) -> Result<(), NoMemory>
     ensures { OnOk result (out.new.items ≡ out.old.items ++ back_line back.now) }
 {
-    push_pieces(
-        out,
-        &[
-            Piece::Html(b"<p><a href=\""),
-            Piece::Text(back),
-            Piece::Html(b"\">Back, and enter nothing</a></p></section>\n"),
-        ],
-    )
+    fill(out, BACK, &[Text(back)])
 }
+
+const TOLD: &[u8] = b"\
+<section><h1>What would be entered</h1>
+<p class=\"told\">$$ would be entered, and $ would not.</p>
+";
 
 /// Adds how many of the commands would be entered, and how many refused.
 fn push_told(out: &mut Vec<u8>, entered: usize, refused: usize) -> Result<(), NoMemory>
     ensures { OnOk result (out.new.items ≡ out.old.items ++ told entered refused) }
 {
-    push_pieces(
+    fill(
         out,
+        TOLD,
         &[
-            Piece::Html(b"<section><h1>What would be entered</h1>\n<p class=\"told\">"),
-            Piece::Number(entered as u64),
-            Piece::Html(commands_word(entered)),
-            Piece::Html(b" would be entered, and "),
-            Piece::Number(refused as u64),
-            Piece::Html(b" would not.</p>\n"),
+            Number(entered as u64),
+            Html(commands_word(entered)),
+            Number(refused as u64),
         ],
     )
 }

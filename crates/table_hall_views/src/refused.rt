@@ -5,9 +5,12 @@ ghost use Rattle.table_hall_views.specs.Refused.{faults_page, refused_page, why_
 
 use crate::pages::start_page;
 use acceptor::NoMemory;
-use markup::{Piece, push_pieces};
+use markup::Piece::{Html, Text};
+use markup::fill;
 use std::alloc::Global;
 use table_views::{PageContext, push_bottom};
+
+const WHY: &[u8] = b"$$$<p><a href=\"$\">Back to the form</a></p></section>\n";
 
 /// Adds why, between these, with a link back.
 fn push_why<'a>(
@@ -20,17 +23,7 @@ fn push_why<'a>(
     ensures { OnOk result (out.new.items
         ≡ out.old.items ++ why_section start.now end.now back.now why.now) }
 {
-    push_pieces(
-        out,
-        &[
-            Piece::Html(start),
-            Piece::Text(why),
-            Piece::Html(end),
-            Piece::Html(b"<p><a href=\""),
-            Piece::Text(back),
-            Piece::Html(b"\">Back to the form</a></p></section>\n"),
-        ],
-    )
+    fill(out, WHY, &[Html(start), Text(why), Html(end), Text(back)])
 }
 
 /// A page of this title that says why, between these, with a link back.

@@ -21,7 +21,8 @@ use crate::scrambles::push_scrambles;
 use acceptor::NoMemory;
 use commands::Meet;
 use formats::{Advance, Event, LAST_ROUND};
-use markup::{Piece, push_pieces};
+use markup::Piece::{Html, Number};
+use markup::fill;
 use round_counts::{OpenedRound, round_opened};
 use round_words::{event_words, push_round_name, push_round_words, push_settings};
 use std::alloc::Global;
@@ -91,22 +92,15 @@ fn state_words(state: RoundState) -> &'static [u8]
     }
 }
 
+const LINK: &[u8] = b"\">Round $</a>: $</td>";
+
 /// Adds a link to the forms of a round that is so far.
 fn push_link(out: &mut Vec<u8>, id: RoundId, words: &[u8]) -> Result<(), NoMemory>
     ensures { OnOk result (out.new.items ≡ out.old.items ++ link id words.now) }
 {
     out.extend_from_slice(b"<td><a href=\"/rounds?round=")?;
     push_round_name(out, id)?;
-    push_pieces(
-        out,
-        &[
-            Piece::Html(b"\">Round "),
-            Piece::Number(id.round as u64),
-            Piece::Html(b"</a>: "),
-            Piece::Html(words),
-            Piece::Html(b"</td>"),
-        ],
-    )
+    fill(out, LINK, &[Number(id.round as u64), Html(words)])
 }
 
 /// Adds links to the forms of these rounds of an event.
@@ -126,18 +120,13 @@ fn push_links(out: &mut Vec<u8>, meet: &Meet, event: Event, rounds: &[u8]) -> Re
     Ok(())
 }
 
+const ROW: &[u8] = b"<tr><th scope=\"row\">$</th>";
+
 /// Adds the row of an event.
 fn push_row(out: &mut Vec<u8>, meet: &Meet, event: Event) -> Result<(), NoMemory>
     ensures { OnOk result (out.new.items ≡ out.old.items ++ row_of meet.now.accepted event) }
 {
-    push_pieces(
-        out,
-        &[
-            Piece::Html(b"<tr><th scope=\"row\">"),
-            Piece::Html(event_words(event).as_bytes()),
-            Piece::Html(b"</th>"),
-        ],
-    )?;
+    fill(out, ROW, &[Html(event_words(event).as_bytes())])?;
     push_links(out, meet, event, &ROUNDS)?;
     out.extend_from_slice(b"</tr>\n")
 }
@@ -309,6 +298,8 @@ fn push_forms(out: &mut Vec<u8>, around: &PageContext<'_>, id: RoundId) -> Resul
     }
 }
 
+const CALLED: &[u8] = b"$, Round $";
+
 /// Adds what a round is called: by its number, until it is opened.
 fn push_called(
     out: &mut Vec<u8>,
@@ -320,12 +311,12 @@ fn push_called(
 {
     match round {
         Some(round) => push_round_words(out, id, round.settings.advance),
-        None => push_pieces(
+        None => fill(
             out,
+            CALLED,
             &[
-                Piece::Html(event_words(id.event).as_bytes()),
-                Piece::Html(b", Round "),
-                Piece::Number(id.round as u64),
+                Html(event_words(id.event).as_bytes()),
+                Number(id.round as u64),
             ],
         ),
     }

@@ -14,7 +14,8 @@ use card_forms::FormId;
 use commands::Meet;
 use cube::Move;
 use formats::{Event, Format, attempts_of};
-use markup::{Piece, push_pieces};
+use markup::Piece::{Number, Text};
+use markup::fill;
 use table_views::{PageContext, is_latest};
 use texts::RoundId;
 
@@ -75,6 +76,8 @@ fn push_rescrambling(
     push_scramble_form(out, wording, token, form, id, attempt)
 }
 
+const STANDING: &[u8] = b"<p>Scramble $: <code>$</code></p>\n";
+
 /// Adds the scramble that an attempt has, and the form that changes it.
 fn push_standing(
     out: &mut Vec<u8>,
@@ -89,16 +92,7 @@ fn push_standing(
         ≡ out.old.items ++ standing_scramble mends moves.now token.now form id attempt) }
 {
     let text = cube::notation::print(*out.allocator(), moves)?;
-    push_pieces(
-        out,
-        &[
-            Piece::Html(b"<p>Scramble "),
-            Piece::Number(attempt as u64),
-            Piece::Html(b": <code>"),
-            Piece::Text(&text),
-            Piece::Html(b"</code></p>\n"),
-        ],
-    )?;
+    fill(out, STANDING, &[Number(attempt as u64), Text(&text)])?;
     push_rescrambling(out, mends, &text, token, form, id, attempt)
 }
 
@@ -148,6 +142,11 @@ fn push_scramble_if(
     }
 }
 
+const NO_SCRAMBLES: &[u8] = b"\
+<h2>Scrambles</h2>
+<p>Each button sets the scramble of its attempt to the moves in its field.</p>
+";
+
 /// Adds the scrambles of a round of this many attempts, at most three.
 fn push_all(
     out: &mut Vec<u8>,
@@ -158,10 +157,7 @@ fn push_all(
     ensures { OnOk result (out.new.items
         ≡ out.old.items ++ all_scrambles around.entry.now id count) }
 {
-    out.extend_from_slice(
-        b"<h2>Scrambles</h2>\n<p>Each button sets the scramble of its attempt to the moves in its \
-field.</p>\n",
-    )?;
+    out.extend_from_slice(NO_SCRAMBLES)?;
     push_scramble_if(out, around, id_at(around.ids, 2), id, count, 1)?;
     push_scramble_if(out, around, id_at(around.ids, 3), id, count, 2)?;
     push_scramble_if(out, around, id_at(around.ids, 4), id, count, 3)

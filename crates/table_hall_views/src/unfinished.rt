@@ -5,11 +5,14 @@ ghost use Rattle.table_hall_views.specs.Entrants.{entrant_line, list_of, unfinis
 
 use acceptor::NoMemory;
 use commands::Meet;
-use markup::{Piece, push_pieces};
+use markup::Piece::Number;
+use markup::fill;
 use round_counts::{OpenedRound, Progress, numbers_with};
 use round_words::push_round_name;
 use table_views::push_name;
 use texts::RoundId;
+
+const ENTRANT: &[u8] = b"?number=$\"><b>$</b> <bdi>";
 
 /// Adds an entrant, with a link to the entrant's card.
 fn push_entrant(out: &mut Vec<u8>, meet: &Meet, id: RoundId, number: u16) -> Result<(), NoMemory>
@@ -18,15 +21,10 @@ fn push_entrant(out: &mut Vec<u8>, meet: &Meet, id: RoundId, number: u16) -> Res
 {
     out.extend_from_slice(b"<li><a href=\"/card/")?;
     push_round_name(out, id)?;
-    push_pieces(
+    fill(
         out,
-        &[
-            Piece::Html(b"?number="),
-            Piece::Number(number as u64),
-            Piece::Html(b"\"><b>"),
-            Piece::Number(number as u64),
-            Piece::Html(b"</b> <bdi>"),
-        ],
+        ENTRANT,
+        &[Number(number as u64), Number(number as u64)],
     )?;
     push_name(out, meet, number)?;
     out.extend_from_slice(b"</bdi></a></li>\n")

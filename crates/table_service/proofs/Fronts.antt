@@ -1,24 +1,13 @@
 -- The front of a file's bytes that has its whole lines.
-use Rattle.std.proofs.Common.{◌≡◌, ◌∙◌, ◌++◌, ◌+◌, ◌<◌, ◌∷◌, ◌==◌, [], ℕ, Bool, true, false, List}
+use Rattle.std.proofs.Common.{◌≡◌, ◌∙◌, ◌++◌, ◌+◌, ◌∷◌, ◌==◌, [], ℕ, Bool, true, false, List}
 use Rattle.std.proofs.Common.{ap, arith, cond, length, length-append, refl, subst, sym, take}
 use Rattle.std.specs.List.{join_with_byte, onto_first}
 use Rattle.std.proofs.Math.Seq.{take-length}
 use Rattle.std.proofs.lemmas.List.{take-append-le}
-use Rattle.std.proofs.lemmas.List.Splits.{join_with_byte-slice_split, length-slice_split}
+use Rattle.std.proofs.lemmas.List.Splits.{join_with_byte-slice_split}
 use Rattle.outbox.specs.Histories.{IsCutFrom}
 use Rattle.outbox.specs.Lines.{all_but_last, cut_line, last_of, parts}
-
-some_parts : (bytes : List ℕ) → 0 < length (parts bytes)
-some_parts bytes = omega (arith, length-slice_split (λ b. b == 10) bytes)
-
-first_whole : (x : List ℕ) (xs : List (List ℕ)) → 0 < length xs
-    → all_but_last (x ∷ xs) ≡ x ∷ all_but_last xs
-first_whole x [] some = absurd (omega arith)
-first_whole x (y ∷ xs) some = refl
-
-first_other : (x : List ℕ) (xs : List (List ℕ)) → 0 < length xs → last_of (x ∷ xs) ≡ last_of xs
-first_other x [] some = absurd (omega arith)
-first_other x (y ∷ xs) some = refl
+use Rattle.outbox.proofs.Pieces.{first_other, first_whole, some_parts}
 
 -- bytes with these parts are whole lines and the last part
 record FrontOf (bytes : List ℕ) (ps : List (List ℕ)) : Type 0 where

@@ -21,4 +21,3 @@ pub mod SentOnes
 pub mod Running
 pub mod Fronts
 pub mod OverFiles
-pub mod FoundOnes

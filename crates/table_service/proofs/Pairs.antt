@@ -2,7 +2,7 @@
 use Rattle.std.proofs.Common.{◌≡◌, ◌∙◌, ◌++◌, ◌∷◌, [], ◌+◌, ℕ, suc, List, ap, refl, length}
 use Rattle.acceptor.specs.declared.entry.Entry.{Entry}
 use Rattle.card_forms.specs.Entries.{command_entries}
-use Rattle.mirror.specs.Answered.{answers_after}
+use Rattle.answers.specs.Transcripts.{answers_after}
 use Rattle.table_service.specs.Lists.{answered}
 
 entries_count : (id : ℕ) (texts : List (List ℕ)) → length (command_entries id texts) ≡ length texts

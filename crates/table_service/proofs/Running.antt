@@ -17,6 +17,7 @@ use Rattle.outbox.specs.Items.{ItemsOf, item_in, taken_back}
 use Rattle.outbox.specs.Laws.{Fixed, StaysInTheJournal}
 use Rattle.outbox.specs.Lines.{HallOf}
 use Rattle.outbox.specs.Outboxes.{DialogueLeads, OutboxOf}
+use Rattle.outbox.proofs.Lists.{found_front}
 use Rattle.table_service.specs.Disks.{DiskOf, IsSynced, IsSyncedIn, JournalOf, lines_in}
 use Rattle.table_service.specs.Laws.{IsSentIn}
 use Rattle.table_service.specs.Runs.{Asked, IsReached, KeptUp, Restarted}
@@ -26,7 +27,6 @@ use Rattle.table_service.specs.Services.{IsKept, ServiceOf}
 use Rattle.table_service.specs.Steps.{Aims, Awaits, Hurries, Looks, Mirrors, Step}
 use Rattle.table_service.specs.Steps.{StepLeads, Submits, Tells}
 use Rattle.table_service.specs.Taking.{sent_as}
-use Rattle.table_service.proofs.FoundOnes.{found_front}
 use Rattle.table_service.proofs.Called.{IsCalled, all_called, nothing_called, single}
 use Rattle.table_service.proofs.Served.{same_back}
 

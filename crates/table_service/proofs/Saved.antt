@@ -1,20 +1,19 @@
 -- A card that is reported as saved is in the log as it was typed, over what its page showed.
-use Rattle.std.proofs.Common.{◌≡◌, ◌∙◌, ◌+◌, ◌==◌, ◌&&◌, ◌++◌, ◌∷◌, [], Bool, true, false, ℕ, List}
-use Rattle.std.proofs.Common.{ap, cond, eq-eqb, eqb-true, find, map, Option, None, Some, option_map}
+use Rattle.std.proofs.Common.{◌≡◌, ◌∙◌, ◌+◌, ◌==◌, ◌++◌, ◌∷◌, [], Bool, true, false, ℕ, List}
+use Rattle.std.proofs.Common.{ap, cond, eq-eqb, find, map, Option, None, Some, option_map}
 use Rattle.std.proofs.Common.{refl, subst, sym, take, Result, Ok, Err}
 use Rattle.std.specs.Prelude.{slice_get, unwrap_or}
-use Rattle.std.proofs.lemmas.Bool.{false≢true}
 use Rattle.std.proofs.lemmas.List.{take_more}
 use Rattle.std.proofs.lemmas.Option.{get_or_from_slice_get, slice_get_within}
 use Rattle.acceptor.specs.declared.entry.Entry.{Entry}
 use Rattle.attempts.specs.declared.Value.{Value}
-use Rattle.attempts.specs.declared.Value.TheVariants as value
 use Rattle.card_forms.specs.Entries.{card_in, card_told}
 use Rattle.card_forms.proofs.SameCards.{card_is_of}
-use Rattle.commands.specs.Accepted.{are_values, card_values, counts_in, is_of, is_value, round_by}
-use Rattle.commands.specs.Accepted.{round_of, scramble_of, values_now}
+use Rattle.commands.specs.Accepted.{are_values, card_values, counts_in, is_of, round_by, round_of}
+use Rattle.commands.specs.Accepted.{scramble_of, values_now}
 use Rattle.commands.specs.model.Cards.{scrambles_of, with_outcomes}
 use Rattle.commands.proofs.CardRounds.{card_is, round_dealt}
+use Rattle.commands.proofs.CardSteps.{same_values}
 use Rattle.formats.specs.Events.{event_number, same_event}
 use Rattle.outbox.specs.Cards.{AreSeen, SavedCardIsOverWhatWasSeen, SavedIsEntered, Says}
 use Rattle.outbox.specs.Laws.{IsSo, NeverByGuess}
@@ -33,38 +32,6 @@ use Rattle.texts.specs.declared.command.RoundId.{RoundId}
 use Rattle.texts.specs.declared.command.Settings.{Settings}
 use Rattle.texts.specs.declared.reading.CommandFault.{CommandFault}
 use Rattle.table_service.specs.Laws.{IsSavedCard, SavedIsTheCard, StandsAt}
-
--- ---- the same values
-
-value_equal : (v w : Value) → is_value v w ≡ true → v ≡ w
-value_equal (value.Number n) (value.Number m) h = ap value.Number (eqb-true n m h)
-value_equal (value.Number n) value.Dnf h = absurd (false≢true h)
-value_equal (value.Number n) value.Dns h = absurd (false≢true h)
-value_equal value.Dnf (value.Number m) h = absurd (false≢true h)
-value_equal value.Dnf value.Dnf h = refl
-value_equal value.Dnf value.Dns h = absurd (false≢true h)
-value_equal value.Dns (value.Number m) h = absurd (false≢true h)
-value_equal value.Dns value.Dnf h = absurd (false≢true h)
-value_equal value.Dns value.Dns h = refl
-
-both_first : (a b : Bool) → (a && b) ≡ true → a ≡ true
-both_first true b h = refl
-both_first false b h = h
-
-both_second : (a b : Bool) → (a && b) ≡ true → b ≡ true
-both_second true b h = h
-both_second false b h = absurd (false≢true h)
-
-values_equal : (vs ws : List Value) → are_values vs ws ≡ true → vs ≡ ws
-values_equal [] [] h = refl
-values_equal [] (w ∷ ws) h = absurd (false≢true h)
-values_equal (v ∷ vs) [] h = absurd (false≢true h)
-values_equal (v ∷ vs) (w ∷ ws) h =
-    rw (
-      value_equal v w (both_first (is_value v w) (are_values vs ws) h),
-      values_equal vs ws (both_second (is_value v w) (are_values vs ws) h),
-    )
-    refl
 
 -- ---- what a card leaves
 
@@ -131,7 +98,7 @@ module _ (before : List Command) (card : CardEntry) (seen : AreSeen before card)
       (found_values card.number change seen.round.1.entrants)
       ∙ ap
       (λ (o : Option Entrant). unwrap_or (option_map (λ e. change e.values) o) []) seen.held
-      ∙ ap change (sym (values_equal card.was seen.one.values seen.seen))
+      ∙ ap change (sym (same_values card.was seen.one.values seen.seen))
 
   saved_over : IsSavedCard before card
   saved_over = record {

@@ -11,7 +11,7 @@ use Rattle.outbox.specs.declared.item.Item.{Item}
 use Rattle.outbox.specs.declared.item.QueueOutcome.{QueueOutcome}
 use Rattle.outbox.specs.declared.item.QueueOutcome.TheVariants as taken
 use Rattle.outbox.specs.Items.{ItemsOf, TakesBy, item_in, queued, taken_at}
-use Rattle.table_service.proofs.FoundOnes.{found_front, found_last}
+use Rattle.outbox.proofs.Lists.{found_front, found_last}
 use Rattle.table_service.specs.Laws.{IsSentIn}
 use Rattle.table_service.specs.Services.{TakesAll, TakesAs, is_new}
 use Rattle.table_service.specs.Taking.{sent_as}

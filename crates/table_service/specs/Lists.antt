@@ -13,7 +13,7 @@ use Rattle.command_lists.specs.Answered.{first_refusal, is_done}
 use Rattle.command_lists.specs.Lists.{AreUnfit, texts_in}
 use Rattle.table_hall_views.specs.declared.preview.PreviewedCommand.{PreviewedCommand}
 use Rattle.table_hall_views.specs.Preview.{preview_page}
-use Rattle.mirror.specs.Answered.{answers_after}
+use Rattle.answers.specs.Transcripts.{answers_after}
 use Rattle.outbox.specs.Items.{ItemsOf, item_in}
 use Rattle.table_views.specs.declared.around.PageContext.{PageContext}
 use Rattle.table_service.specs.declared.plan.RequestPlan.{RequestPlan}

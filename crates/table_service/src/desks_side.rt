@@ -7,11 +7,10 @@ ghost use Rattle.table_service.specs.Steps.{HandsOut, IsKeptUp, has_all};
 use crate::disk::Disk;
 use crate::service::TableService;
 use desk_sockets::{DeskStream, DialogueChange};
-use hall_survey::{AskedDesks, Hall, count_desks, lent_stream};
+use hall_survey::{AskedDesks, Hall, asked_desks, count_desks, lent_stream};
 use kept_mirror::FollowStage;
 use outbox::{ItemState, state_of};
-use page_sockets::BrowserSockets;
-use pages::Browsers;
+use pages::TcpBrowsers;
 use std::alloc::Global;
 use std::io;
 use std::io::Write;
@@ -39,7 +38,7 @@ const MOST_ITEMS: u32 = 65_536;
 
 /// What is kept up with the desks of the hall, beside the mirror and what was entered.
 #[derive(Drop)]
-pub(crate) struct DesksSide<'a, R> {
+pub(crate) struct DesksSide<'a, R: Net + RandomSource> {
     alloc: Global,
     /// The connection of the mirror, and the one over which items are submitted.
     stream: &'a mut DeskStream<'a, R>,
@@ -113,11 +112,10 @@ fn keep_asked<R: Net + RandomSource, F: Write>(
     now: u64,
     faults: &mut F,
 ) {
-    for place in 0..asked.streams.len() {
-        if let Some(one) = asked.streams.get_mut(place) {
-            asked.desks.keep(place, &mut one.stream, now);
-            one.tell(faults, PROGRAM);
-        }
+    let streams = asked.streams.as_mut_slice();
+    for place in 0..streams.len() {
+        asked.desks.keep(place, streams[place].stream, now);
+        streams[place].tell(faults, PROGRAM);
     }
 }
 
@@ -158,14 +156,14 @@ impl<'a, R: Net + RandomSource + Clock + Drop> DesksSide<'a, R> {
     pub(crate) fn new(
         runtime: &'a R,
         alloc: Global,
-        browsers: &Browsers<BrowserSockets<'a, R>>,
+        browsers: &TcpBrowsers<'a, R>,
         hall: Hall<'_>,
     ) -> io::Result<DesksSide<'a, R>> {
         Ok(DesksSide {
             alloc,
             stream: lent_stream(runtime, alloc, browsers, 0, hall)?,
             submits: lent_stream(runtime, alloc, browsers, 1, hall)?,
-            asked: AskedDesks::new(runtime, alloc, browsers, hall)?,
+            asked: asked_desks(runtime, alloc, browsers, hall)?,
             desks: count_desks(hall.addresses),
             caught_up: false,
             answered_at: 0,

@@ -10,8 +10,7 @@ use crate::setup::Setup;
 use hall_survey::{Hall, count_desks};
 use kept_mirror::Mirroring;
 use outbox::HallName;
-use page_sockets::{BrowserSockets, address_of, round, say_where};
-use pages::Browsers;
+use pages::{TcpBrowsers, say_where};
 use std::alloc::{AllocError, Global};
 use std::io;
 use std::io::Write;
@@ -40,13 +39,13 @@ fn clock_of<R: Clock>(runtime: &R) -> Option<u64> {
 /// as they use them up.
 fn serve_on<D: Disk, R: Net + RandomSource + Clock + Drop, W: Write, F: Write>(
     runtime: &R,
-    browsers: &mut Browsers<BrowserSockets<'_, R>>,
+    browsers: &mut TcpBrowsers<'_, R>,
     service: &mut TableService<D>,
     side: &mut DesksSide<'_, R>,
     writer: &mut W,
     faults: &mut F,
 ) -> io::Result<ScoreTableEnd> {
-    say_where(address_of(browsers)?, PROGRAM, writer)?;
+    say_where(browsers.sockets().address()?, PROGRAM, writer)?;
     let mut now = 0;
     for _round in 0..u64::MAX {
         for _set in 0..service.wants() {
@@ -55,7 +54,7 @@ fn serve_on<D: Disk, R: Net + RandomSource + Clock + Drop, W: Write, F: Write>(
         }
         service.set_clock(clock_of(runtime));
         let wait = side.wait(service, now);
-        let Some(after) = round(browsers, service, wait) else {
+        let Some(after) = browsers.round(service, wait) else {
             return Ok(ScoreTableEnd::Failed);
         };
         now = after;
@@ -113,7 +112,7 @@ fn side_of<'a, R: Net + RandomSource + Clock + Drop>(
     runtime: &'a R,
     alloc: Global,
     hall: Hall<'_>,
-    browsers: &Browsers<BrowserSockets<'a, R>>,
+    browsers: &TcpBrowsers<'a, R>,
 ) -> io::Result<&'a mut DesksSide<'a, R>> {
     let side = DesksSide::new(runtime, alloc, browsers, hall)?;
     let kept = Box::new(alloc, side)?;
@@ -132,11 +131,11 @@ pub fn serve<'a, R: Net + RandomSource + Clock + Drop, W: Write, F: Write>(
     name: String,
     proposals: Vec<u8>,
     opened: OpenedJournal<SystemFile>,
-    browsers: &mut Browsers<BrowserSockets<'a, R>>,
+    browsers: &mut TcpBrowsers<'a, R>,
     writer: &mut W,
     faults: &mut F,
 ) -> io::Result<ScoreTableEnd> {
-    let address = address_of(browsers)?;
+    let address = browsers.sockets().address()?;
     let service = service_of(
         runtime, alloc, hall, address, title, name, proposals, opened,
     )?;

@@ -1,7 +1,7 @@
 -- The bar of every page: how the desks are doing (the project's own).
 use Rattle.std.specs.Prelude.{ℕ, ◌/◌, Bool, true, false, List, [], ◌∷◌, ◌++◌, codes, decimal}
 use Rattle.std.specs.Prelude.{flat_map, length, Option, None, Some, nat_le, if◌then◌else◌}
-use Rattle.markup.specs.Pieces.{joined}
+use Rattle.markup.specs.Pieces.{fill}
 use Rattle.sealed.specs.declared.ends.trouble.CallTrouble.{CallTrouble}
 use Rattle.sealed.specs.declared.ends.trouble.CallTrouble.TheVariants as trouble
 use Rattle.wire.specs.declared.standing.Difference.{Difference}
@@ -13,6 +13,10 @@ use Rattle.table_views.specs.declared.bar.DesksHealth.TheVariants as doing
 use Rattle.table_views.specs.declared.desks.HallStatus.{HallStatus}
 use Rattle.table_views.specs.Counts.{are_away, number_start, number_word}
 use Rattle.table_views.specs.Desks.{is_everywhere, too_few}
+use Rattle.table_views.specs.declared.bar.TheConstants.{AND_MACHINE, AWAY, BAR_END, BAR_START}
+use Rattle.table_views.specs.declared.bar.TheConstants.{LOOK_AT, OTHER_ENTRY, OTHER_HALL, SHORTER}
+use Rattle.table_views.specs.declared.bar.TheConstants.{SILENT}
+use Rattle.table_views.specs.declared.bar.TheConstants.{STOP, UNDECIDED, WELL}
 
 -- ---- how they are doing
 
@@ -96,22 +100,19 @@ key_words trouble.NoKey =
     codes "This table cannot enter: it has a key, and the desks have none. Start them with the key."
 
 abbrev pub other_hall_words : ℕ → List ℕ
-other_hall_words desk = joined (
-    codes "This table cannot enter: machine " ∷ decimal desk
-    ∷ codes " is of another hall. Start this table with the file of that hall." ∷ []
-    )
+other_hall_words desk = fill OTHER_HALL.now (decimal desk ∷ [])
 
 -- how many machines are away
 abbrev pub away_words : List ℕ → List ℕ
 away_words away =
-    joined (number_start (length away) ∷ are_away (length away) ∷ codes "." ∷ [])
+    fill AWAY.now (number_start (length away) ∷ are_away (length away) ∷ [])
 
 abbrev pub and_machine : ℕ → List ℕ
-and_machine desk = joined (codes " and machine " ∷ decimal desk ∷ [])
+and_machine desk = fill AND_MACHINE.now (decimal desk ∷ [])
 
 unfoldable pub look_at : ℕ → List ℕ → List ℕ
 look_at desk others =
-    joined (codes " Look after machine " ∷ decimal desk ∷ []) ++ flat_map and_machine others
+    fill LOOK_AT.now (decimal desk ∷ []) ++ flat_map and_machine others
     ++ codes "."
 
 -- which machines somebody has to look after
@@ -126,35 +127,19 @@ few_words away =
     ++ look_words away
 
 abbrev pub silent_words : ℕ → ℕ → List ℕ
-silent_words desk milliseconds = joined (
-    codes "The machine that this table asks has not answered for " ∷ decimal (milliseconds / 1000)
-    ∷ codes " s. Continue: cards are kept here, and sent once one answers."
-    ∷ codes " Look after machine " ∷ decimal desk ∷ codes "." ∷ []
-    )
+silent_words desk milliseconds = fill SILENT.now (decimal (milliseconds / 1000) ∷ decimal desk ∷ [])
 
 abbrev pub undecided_words : ℕ → List ℕ
-undecided_words milliseconds = joined (
-    codes "The machines have decided nothing for " ∷ decimal (milliseconds / 1000)
-    ∷ codes " s. Continue: cards are kept here, and sent again." ∷ []
-    )
+undecided_words milliseconds = fill UNDECIDED.now (decimal (milliseconds / 1000) ∷ [])
 
 abbrev pub well_words : ℕ → List ℕ
 well_words machines =
-    joined (codes "All " ∷ number_word machines ∷ codes " machines answer." ∷ [])
-
--- what is to be done where machines differ
-abbrev pub stop_words : List ℕ
-stop_words = codes ". Enter nothing more, keep the cards, and fetch the person in charge."
+    fill WELL.now (number_word machines ∷ [])
 
 abbrev pub differs_words : Difference → List ℕ
-differs_words (OtherEntry desk position) = joined (
-    codes "Machine " ∷ decimal desk ∷ codes " has another command at " ∷ decimal position
-    ∷ stop_words ∷ []
-    )
-differs_words (Shorter desk len) = joined (
-    codes "Machine " ∷ decimal desk ∷ codes " has " ∷ decimal len
-    ∷ codes " commands and had more" ∷ stop_words ∷ []
-    )
+differs_words (OtherEntry desk position) =
+    fill OTHER_ENTRY.now (decimal desk ∷ decimal position ∷ STOP.now ∷ [])
+differs_words (Shorter desk len) = fill SHORTER.now (decimal desk ∷ decimal len ∷ STOP.now ∷ [])
 
 abbrev pub words_of : HallStatus → DesksHealth → List ℕ
 words_of desks (doing.Locked wrong) = key_words wrong
@@ -170,13 +155,11 @@ words_of desks doing.Well = well_words (length desks.lengths.items)
 -- ---- the bar
 
 abbrev pub bar_start : DesksHealth → List ℕ
-bar_start doing = joined (
-    codes "<p id=\"bar\" class=\"" ∷ class_of doing ∷ codes "\"><span role=\"status\">" ∷ []
-    )
+bar_start doing = fill BAR_START.now (class_of doing ∷ [])
 
 abbrev pub bar_end : ℕ → List ℕ
 bar_end position =
-    joined (codes "</span> <small>result " ∷ decimal position ∷ codes "</small></p>\n" ∷ [])
+    fill BAR_END.now (decimal position ∷ [])
 
 unfoldable pub bar_of : HallStatus → DesksHealth → ℕ → List ℕ
 bar_of desks doing position = bar_start doing ++ words_of desks doing ++ bar_end position

@@ -7,7 +7,7 @@ use Rattle.attempts.specs.declared.Unit.{Unit as Measure}
 use Rattle.attempts.specs.declared.Value.{Value}
 use Rattle.formats.specs.Events.{unit_of}
 use Rattle.markup.specs.board_page.Escaped.{escaped}
-use Rattle.markup.specs.Pieces.{joined}
+use Rattle.markup.specs.Pieces.{fill}
 use Rattle.card_forms.specs.Entries.{card_in}
 use Rattle.outbox.specs.declared.state.ItemState.{ItemState}
 use Rattle.outbox.specs.declared.state.ItemState.TheVariants as state
@@ -28,15 +28,15 @@ use Rattle.table_views.specs.People.{name_in}
 use Rattle.table_views.specs.Reasons.{why_words}
 use Rattle.table_views.specs.Standing.{standing}
 use Rattle.table_views.specs.Typed.{typed_from}
+use Rattle.table_views.specs.declared.recent.TheConstants.{BY, COMMAND, COMPETITOR, EVERYWHERE}
+use Rattle.table_views.specs.declared.recent.TheConstants.{LINE_START, SAVED_BUT, UNDO, WAITS}
 
 -- ---- what was sent
 
 -- the number and the name of a competitor, to which a link leads
 abbrev pub competitor : List Command → ℕ → List ℕ
-competitor accepted number = joined (
-    codes "?number=" ∷ decimal number ∷ codes "\"><b>" ∷ decimal number ∷ codes "</b> <bdi>"
-    ∷ escaped (name_in accepted number) ∷ codes "</bdi></a>" ∷ []
-    )
+competitor accepted number =
+    fill COMPETITOR.now (decimal number ∷ decimal number ∷ escaped (name_in accepted number) ∷ [])
 
 -- a link that opens the card again, to what counts of the competitor
 abbrev pub card_link : List Command → CardEntry → List ℕ
@@ -51,7 +51,7 @@ card_line accepted card =
     ++ typed_from (unit_of card.id.event) card.was 0 card.now ++ codes "</span>"
 
 abbrev pub command_line : List ℕ → List ℕ
-command_line text = joined (codes "<code>" ∷ escaped text ∷ codes "</code>" ∷ [])
+command_line text = fill COMMAND.now (escaped text ∷ [])
 
 abbrev pub item_line : List Command → List ℕ → Option CardEntry → List ℕ
 item_line accepted text None = command_line text
@@ -68,17 +68,17 @@ class_of (state.OtherText position) = codes "refused"
 
 abbrev pub waits_words : ℕ → List ℕ
 waits_words milliseconds =
-    joined (codes "waiting, " ∷ decimal (milliseconds / 1000) ∷ codes " s" ∷ [])
+    fill WAITS.now (decimal (milliseconds / 1000) ∷ [])
 
 -- saved, while this many machines are away
 abbrev pub saved_but : ℕ → List ℕ
 saved_but zero = codes "saved"
 saved_but (suc count) =
-    joined (codes "saved; " ∷ number_word (suc count) ∷ are_away (suc count) ∷ [])
+    fill SAVED_BUT.now (number_word (suc count) ∷ are_away (suc count) ∷ [])
 
 abbrev pub saved_everywhere : ℕ → List ℕ
 saved_everywhere machines =
-    joined (codes "saved on all " ∷ number_word machines ∷ codes " machines" ∷ [])
+    fill EVERYWHERE.now (number_word machines ∷ [])
 
 -- where the entry at a position is: on all machines, if they are known to have it
 abbrev pub saved_words : HallStatus → ℕ → List ℕ
@@ -107,7 +107,7 @@ stands_words accepted (Some card) =
 -- by which entry of the log
 abbrev pub by_words : Option ℕ → List ℕ
 by_words None = []
-by_words (Some position) = joined (codes ", by result " ∷ decimal (position + 1) ∷ [])
+by_words (Some position) = fill BY.now (decimal (position + 1) ∷ [])
 
 -- what became of an item of this card, if it is one
 abbrev pub state_words : PageContext → Recent → Option CardEntry → ItemState → List ℕ
@@ -171,8 +171,7 @@ newest_saved (recent ∷ others) =
 abbrev pub undo_form : List ℕ → ℕ → List ℕ
 undo_form token id =
     codes "<form method=\"post\" action=\"/undo\">" ++ hidden token id
-    ++ joined (codes "<input type=\"hidden\" name=\"of\" value=\"" ∷ decimal id
-    ∷ codes "\"><button>Take back</button></form>\n" ∷ [])
+    ++ fill UNDO.now (decimal id ∷ [])
 
 abbrev pub undo_of : List ℕ → Option ℕ → ℕ → List ℕ
 undo_of token None id = []
@@ -190,7 +189,7 @@ forms_of around newest id card (state.OtherText position) = leave_form around.to
 -- ---- the section
 
 abbrev pub line_start : ItemState → List ℕ
-line_start became = joined (codes "<li class=\"" ∷ class_of became ∷ codes "\">" ∷ [])
+line_start became = fill LINE_START.now (class_of became ∷ [])
 
 abbrev pub line_of : PageContext → Option ℕ → Recent → Option CardEntry → List ℕ
 line_of around newest recent card =

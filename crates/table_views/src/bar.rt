@@ -11,7 +11,8 @@ ghost use Rattle.table_views.specs.Bar.{well_words, words_of};
 use crate::counts::{are_away, number_start, number_word};
 use crate::desks::HallStatus;
 use acceptor::NoMemory;
-use markup::{Piece, push_pieces};
+use markup::Piece::{Html, Number};
+use markup::fill;
 use sealed::ends::CallTrouble;
 use wire::{ClientRefusal, Difference};
 
@@ -156,41 +157,36 @@ fn key_words(trouble: CallTrouble) -> &'static [u8]
     }
 }
 
+const OTHER_HALL: &[u8] = b"\
+This table cannot enter: machine $ is of another hall. Start this table with the file of that \
+hall.";
+
 /// Adds which machine is of another hall, and what is to be done.
 fn push_other_hall(out: &mut Vec<u8>, desk: u8) -> Result<(), NoMemory>
     ensures { OnOk result (out.new.items ≡ out.old.items ++ other_hall_words desk) }
 {
-    push_pieces(
-        out,
-        &[
-            Piece::Html(b"This table cannot enter: machine "),
-            Piece::Number(desk as u64),
-            Piece::Html(b" is of another hall. Start this table with the file of that hall."),
-        ],
-    )
+    fill(out, OTHER_HALL, &[Number(desk as u64)])
 }
+
+const AWAY: &[u8] = b"$$.";
 
 /// Adds how many machines are away.
 fn push_away(out: &mut Vec<u8>, away: &[u8]) -> Result<(), NoMemory>
     ensures { OnOk result (out.new.items ≡ out.old.items ++ away_words away.now) }
 {
-    push_pieces(
+    fill(
         out,
-        &[
-            Piece::Html(number_start(away.len())),
-            Piece::Html(are_away(away.len())),
-            Piece::Html(b"."),
-        ],
+        AWAY,
+        &[Html(number_start(away.len())), Html(are_away(away.len()))],
     )
 }
+
+const AND_MACHINE: &[u8] = b" and machine $";
 
 fn push_and(out: &mut Vec<u8>, desk: u8) -> Result<(), NoMemory>
     ensures { OnOk result (out.new.items ≡ out.old.items ++ and_machine desk) }
 {
-    push_pieces(
-        out,
-        &[Piece::Html(b" and machine "), Piece::Number(desk as u64)],
-    )
+    fill(out, AND_MACHINE, &[Number(desk as u64)])
 }
 
 fn push_others(out: &mut Vec<u8>, desks: &[u8]) -> Result<(), NoMemory>
@@ -202,17 +198,13 @@ fn push_others(out: &mut Vec<u8>, desks: &[u8]) -> Result<(), NoMemory>
     Ok(())
 }
 
+const LOOK_AT: &[u8] = b" Look after machine $";
+
 /// Adds that somebody has to look after these machines.
 fn push_look_at(out: &mut Vec<u8>, desk: u8, others: &[u8]) -> Result<(), NoMemory>
     ensures { OnOk result (out.new.items ≡ out.old.items ++ look_at desk others.now) }
 {
-    push_pieces(
-        out,
-        &[
-            Piece::Html(b" Look after machine "),
-            Piece::Number(desk as u64),
-        ],
-    )?;
+    fill(out, LOOK_AT, &[Number(desk as u64)])?;
     push_others(out, others)?;
     out.extend_from_slice(b".")
 }
@@ -237,73 +229,55 @@ fn push_few(out: &mut Vec<u8>, away: &[u8]) -> Result<(), NoMemory>
     push_look(out, away)
 }
 
+const SILENT: &[u8] = b"\
+The machine that this table asks has not answered for $ s. Continue: cards are kept here, and \
+sent once one answers. Look after machine $.";
+
 fn push_silent(out: &mut Vec<u8>, desk: u8, milliseconds: u64) -> Result<(), NoMemory>
     ensures { OnOk result (out.new.items ≡ out.old.items ++ silent_words desk milliseconds) }
 {
-    push_pieces(
+    fill(
         out,
-        &[
-            Piece::Html(b"The machine that this table asks has not answered for "),
-            Piece::Number(milliseconds / 1_000),
-            Piece::Html(b" s. Continue: cards are kept here, and sent once one answers."),
-            Piece::Html(b" Look after machine "),
-            Piece::Number(desk as u64),
-            Piece::Html(b"."),
-        ],
+        SILENT,
+        &[Number(milliseconds / 1_000), Number(desk as u64)],
     )
 }
+
+const UNDECIDED: &[u8] = b"\
+The machines have decided nothing for $ s. Continue: cards are kept here, and sent again.";
 
 fn push_undecided(out: &mut Vec<u8>, milliseconds: u64) -> Result<(), NoMemory>
     ensures { OnOk result (out.new.items ≡ out.old.items ++ undecided_words milliseconds) }
 {
-    push_pieces(
-        out,
-        &[
-            Piece::Html(b"The machines have decided nothing for "),
-            Piece::Number(milliseconds / 1_000),
-            Piece::Html(b" s. Continue: cards are kept here, and sent again."),
-        ],
-    )
+    fill(out, UNDECIDED, &[Number(milliseconds / 1_000)])
 }
+
+const WELL: &[u8] = b"All $ machines answer.";
 
 fn push_well(out: &mut Vec<u8>, machines: usize) -> Result<(), NoMemory>
     ensures { OnOk result (out.new.items ≡ out.old.items ++ well_words machines) }
 {
-    push_pieces(
-        out,
-        &[
-            Piece::Html(b"All "),
-            Piece::Html(number_word(machines)),
-            Piece::Html(b" machines answer."),
-        ],
-    )
+    fill(out, WELL, &[Html(number_word(machines))])
 }
+
+const OTHER_ENTRY: &[u8] = b"Machine $ has another command at $$";
+
+const SHORTER: &[u8] = b"Machine $ has $ commands and had more$";
 
 /// Adds which machine differs, and what is to be done.
 fn push_differs(out: &mut Vec<u8>, difference: Difference) -> Result<(), NoMemory>
     ensures { OnOk result (out.new.items ≡ out.old.items ++ differs_words difference) }
 {
     match difference {
-        Difference::OtherEntry { desk, position } => push_pieces(
+        Difference::OtherEntry { desk, position } => fill(
             out,
-            &[
-                Piece::Html(b"Machine "),
-                Piece::Number(desk as u64),
-                Piece::Html(b" has another command at "),
-                Piece::Number(position as u64),
-                Piece::Html(STOP),
-            ],
+            OTHER_ENTRY,
+            &[Number(desk as u64), Number(position as u64), Html(STOP)],
         ),
-        Difference::Shorter { desk, length } => push_pieces(
+        Difference::Shorter { desk, length } => fill(
             out,
-            &[
-                Piece::Html(b"Machine "),
-                Piece::Number(desk as u64),
-                Piece::Html(b" has "),
-                Piece::Number(length as u64),
-                Piece::Html(b" commands and had more"),
-                Piece::Html(STOP),
-            ],
+            SHORTER,
+            &[Number(desk as u64), Number(length as u64), Html(STOP)],
         ),
     }
 }
@@ -330,30 +304,20 @@ fn push_words(out: &mut Vec<u8>, desks: &HallStatus, doing: DesksHealth) -> Resu
 
 // ---- the bar
 
+const BAR_START: &[u8] = b"<p id=\"bar\" class=\"$\"><span role=\"status\">";
+
 fn push_bar_start(out: &mut Vec<u8>, doing: DesksHealth) -> Result<(), NoMemory>
     ensures { OnOk result (out.new.items ≡ out.old.items ++ bar_start doing) }
 {
-    push_pieces(
-        out,
-        &[
-            Piece::Html(b"<p id=\"bar\" class=\""),
-            Piece::Html(class_of(doing)),
-            Piece::Html(b"\"><span role=\"status\">"),
-        ],
-    )
+    fill(out, BAR_START, &[Html(class_of(doing))])
 }
+
+const BAR_END: &[u8] = b"</span> <small>result $</small></p>\n";
 
 fn push_bar_end(out: &mut Vec<u8>, position: u32) -> Result<(), NoMemory>
     ensures { OnOk result (out.new.items ≡ out.old.items ++ bar_end position) }
 {
-    push_pieces(
-        out,
-        &[
-            Piece::Html(b"</span> <small>result "),
-            Piece::Number(position as u64),
-            Piece::Html(b"</small></p>\n"),
-        ],
-    )
+    fill(out, BAR_END, &[Number(position as u64)])
 }
 
 /// Adds the bar of desks that are doing so.

@@ -7,7 +7,8 @@ use crate::hidden::push_hidden;
 use acceptor::NoMemory;
 use card_forms::FormId;
 use commands::Meet;
-use markup::{Piece, push_pieces};
+use markup::Piece::Text;
+use markup::fill;
 
 const EDITION_START: &[u8] = b"\
 <h2>Edition 4</h2>
@@ -26,23 +27,20 @@ pub fn is_latest(meet: &Meet) -> bool
     meet.edition() >= 4
 }
 
+const EDITION_REST: &[u8] = b"\
+<input type=\"hidden\" name=\"command\" value=\"EDITION\">
+<input type=\"hidden\" name=\"back\" value=\"$\">
+<input type=\"hidden\" name=\"text\" value=\"EDITION 4\">
+<button>Change to edition 4</button></form>
+";
+
 fn push_edition_rest(out: &mut Vec<u8>, back: &[u8]) -> Result<(), NoMemory>
     ensures { OnOk result (out.new.items ≡ out.old.items ++ edition_rest back.now) }
 {
-    push_pieces(
-        out,
-        &[
-            Piece::Html(b"<input type=\"hidden\" name=\"command\" value=\"EDITION\">\n"),
-            Piece::Html(b"<input type=\"hidden\" name=\"back\" value=\""),
-            Piece::Text(back),
-            Piece::Html(b"\">\n<input type=\"hidden\" name=\"text\" value=\"EDITION 4\">\n"),
-            Piece::Html(b"<button>Change to edition 4</button></form>\n"),
-        ],
-    )
+    fill(out, EDITION_REST, &[Text(back)])
 }
 
 /// Adds the form that moves to edition 4. After it the browser goes to the path `back`.
-#[tactic(auto, unfolding(crate::specs::Editions::edition_start))]
 pub fn push_edition_form(
     out: &mut Vec<u8>,
     token: &[u8],

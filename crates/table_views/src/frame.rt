@@ -6,17 +6,17 @@ ghost use Rattle.table_views.specs.Frame.{bottom, head, refresh, top};
 use crate::around::PageContext;
 use crate::bar::push_bar;
 use acceptor::NoMemory;
-use markup::{Piece, push_pieces};
+use markup::Piece::{Html, Text};
+use markup::fill;
 
 const HEAD: &[u8] = b"\
 <!DOCTYPE html>
 <html lang=\"en\"><head><meta charset=\"utf-8\">
 <meta name=\"viewport\" content=\"width=device-width, initial-scale=1\">
-<title>";
-
-const HEAD_END: &[u8] = b"\
-</title><link rel=\"stylesheet\" href=\"/table.css\">
-<script src=\"/table.js\" defer></script>";
+<title>$</title><link rel=\"stylesheet\" href=\"/table.css\">
+<script src=\"/table.js\" defer></script>$</head>
+<body class=\"$\">
+";
 
 /// Without scripts the page asks for itself again after a second.
 const REFRESH: &[u8] = b"<noscript><meta http-equiv=\"refresh\" content=\"1\"></noscript>";
@@ -37,7 +37,6 @@ fn refresh(waits: bool) -> &'static [u8]
     if waits { REFRESH } else { b"" }
 }
 
-#[tactic(auto, unfolding(crate::specs::Frame::head_start, crate::specs::Frame::head_end))]
 fn push_head<'a>(
     out: &mut Vec<u8>,
     class: &'a [u8],
@@ -46,23 +45,11 @@ fn push_head<'a>(
 ) -> Result<(), NoMemory>
     ensures { OnOk result (out.new.items ≡ out.old.items ++ head class.now title.now waits) }
 {
-    push_pieces(
-        out,
-        &[
-            Piece::Html(HEAD),
-            Piece::Text(title),
-            Piece::Html(HEAD_END),
-            Piece::Html(refresh(waits)),
-            Piece::Html(b"</head>\n<body class=\""),
-            Piece::Html(class),
-            Piece::Html(b"\">\n"),
-        ],
-    )
+    fill(out, HEAD, &[Text(title), Html(refresh(waits)), Html(class)])
 }
 
 /// Adds what is before the sections of a page: its head with this title, the links, and how the
 /// desks are doing. The class is one of the style.
-#[tactic(auto, unfolding(crate::specs::Frame::links))]
 pub fn push_top<'a>(
     out: &mut Vec<u8>,
     around: &PageContext<'_>,

@@ -5,7 +5,12 @@ ghost use Rattle.table_views.specs.Hidden.{hidden};
 
 use acceptor::NoMemory;
 use card_forms::FormId;
-use markup::{Piece, push_pieces};
+use markup::Piece::{Number, Text};
+use markup::fill;
+
+const HIDDEN_NUMBER: &[u8] = b"\
+<input type=\"hidden\" name=\"token\" value=\"$\"><input type=\"hidden\" name=\"id\" value=\"$\">
+";
 
 /// Adds the token of a form, and a number as its id.
 pub(crate) fn push_hidden_number(
@@ -15,16 +20,7 @@ pub(crate) fn push_hidden_number(
 ) -> Result<(), NoMemory>
     ensures { OnOk result (out.new.items ≡ out.old.items ++ hidden token.now number) }
 {
-    push_pieces(
-        out,
-        &[
-            Piece::Html(b"<input type=\"hidden\" name=\"token\" value=\""),
-            Piece::Text(token),
-            Piece::Html(b"\"><input type=\"hidden\" name=\"id\" value=\""),
-            Piece::Number(number),
-            Piece::Html(b"\">\n"),
-        ],
-    )
+    fill(out, HIDDEN_NUMBER, &[Text(token), Number(number)])
 }
 
 /// Adds the token and the id of a form.

@@ -26,5 +26,5 @@ pub use leaving::may_leave;
 pub use looks::{script, style};
 pub use people::{number_of, push_name};
 pub use recent::push_recent;
-pub use typed::push_entered;
+pub use typed::{push_entered, push_shown};
 pub use values::{standing, values_of};

@@ -25,7 +25,8 @@ use attempts::{Unit, Value};
 use card_forms::card_in;
 use commands::Meet;
 use formats::unit_of;
-use markup::{Piece, push_pieces};
+use markup::Piece::{Html, Number, Text};
+use markup::fill;
 use outbox::ItemState;
 use round_words::{push_round_name, push_value};
 use std::alloc::Global;
@@ -46,21 +47,20 @@ fn class_of(state: ItemState) -> &'static [u8]
 
 // ---- what was sent
 
+const COMPETITOR: &[u8] = b"?number=$\"><b>$</b> <bdi>$</bdi></a>";
+
 /// Adds the number and the name of a competitor, to which a link leads.
 fn push_competitor(out: &mut Vec<u8>, meet: &Meet, number: u16) -> Result<(), NoMemory>
     ensures { OnOk result (out.new.items ≡ out.old.items
         ++ competitor meet.now.accepted number) }
 {
-    push_pieces(
+    fill(
         out,
+        COMPETITOR,
         &[
-            Piece::Html(b"?number="),
-            Piece::Number(number as u64),
-            Piece::Html(b"\"><b>"),
-            Piece::Number(number as u64),
-            Piece::Html(b"</b> <bdi>"),
-            Piece::Text(name_of(meet, number)),
-            Piece::Html(b"</bdi></a>"),
+            Number(number as u64),
+            Number(number as u64),
+            Text(name_of(meet, number)),
         ],
     )
 }
@@ -88,17 +88,12 @@ fn push_card(out: &mut Vec<u8>, meet: &Meet, card: &CardEntry) -> Result<(), NoM
     out.extend_from_slice(b"</span>")
 }
 
+const COMMAND: &[u8] = b"<code>$</code>";
+
 fn push_command(out: &mut Vec<u8>, text: &[u8]) -> Result<(), NoMemory>
     ensures { OnOk result (out.new.items ≡ out.old.items ++ command_line text.now) }
 {
-    push_pieces(
-        out,
-        &[
-            Piece::Html(b"<code>"),
-            Piece::Text(text),
-            Piece::Html(b"</code>"),
-        ],
-    )
+    fill(out, COMMAND, &[Text(text)])
 }
 
 /// Adds what was sent: a card as it was typed, or a command as it is.
@@ -119,18 +114,15 @@ fn push_item(
 
 // ---- what became of it
 
+const WAITS: &[u8] = b"waiting, $ s";
+
 fn push_waits(out: &mut Vec<u8>, milliseconds: u64) -> Result<(), NoMemory>
     ensures { OnOk result (out.new.items ≡ out.old.items ++ waits_words milliseconds) }
 {
-    push_pieces(
-        out,
-        &[
-            Piece::Html(b"waiting, "),
-            Piece::Number(milliseconds / 1_000),
-            Piece::Html(b" s"),
-        ],
-    )
+    fill(out, WAITS, &[Number(milliseconds / 1_000)])
 }
+
+const SAVED_BUT: &[u8] = b"saved; $$";
 
 /// Adds that an item is saved, while this many machines are away.
 fn push_saved_but(out: &mut Vec<u8>, away: usize) -> Result<(), NoMemory>
@@ -139,28 +131,20 @@ fn push_saved_but(out: &mut Vec<u8>, away: usize) -> Result<(), NoMemory>
     if away == 0 {
         return out.extend_from_slice(b"saved");
     }
-    push_pieces(
+    fill(
         out,
-        &[
-            Piece::Html(b"saved; "),
-            Piece::Html(number_word(away)),
-            Piece::Html(are_away(away)),
-        ],
+        SAVED_BUT,
+        &[Html(number_word(away)), Html(are_away(away))],
     )
 }
+
+const EVERYWHERE: &[u8] = b"saved on all $ machines";
 
 /// Adds that an item is saved on all machines, this many.
 fn push_everywhere(out: &mut Vec<u8>, machines: usize) -> Result<(), NoMemory>
     ensures { OnOk result (out.new.items ≡ out.old.items ++ saved_everywhere machines) }
 {
-    push_pieces(
-        out,
-        &[
-            Piece::Html(b"saved on all "),
-            Piece::Html(number_word(machines)),
-            Piece::Html(b" machines"),
-        ],
-    )
+    fill(out, EVERYWHERE, &[Html(number_word(machines))])
 }
 
 /// Adds that an item is saved whose entry is at this position: on all machines, where all are known
@@ -219,18 +203,14 @@ fn push_stands(out: &mut Vec<u8>, meet: &Meet, card: Option<&CardEntry>) -> Resu
     )
 }
 
+const BY: &[u8] = b", by result $";
+
 /// Adds by which entry of the log it is so.
 fn push_by(out: &mut Vec<u8>, by: Option<u32>) -> Result<(), NoMemory>
     ensures { OnOk result (out.new.items ≡ out.old.items ++ by_words by) }
 {
     match by {
-        Some(position) => push_pieces(
-            out,
-            &[
-                Piece::Html(b", by result "),
-                Piece::Number(position as u64 + 1),
-            ],
-        ),
+        Some(position) => fill(out, BY, &[Number(position as u64 + 1)]),
         None => Ok(()),
     }
 }
@@ -346,20 +326,17 @@ fn newest_saved(alloc: Global, recents: &[Recent<'_>]) -> Result<Option<u64>, No
     Ok(None)
 }
 
+const UNDO: &[u8] = b"\
+<input type=\"hidden\" name=\"of\" value=\"$\"><button>Take back</button></form>
+";
+
 /// Adds the form that takes the card of an id back.
 fn push_undo(out: &mut Vec<u8>, token: &[u8], id: u64) -> Result<(), NoMemory>
     ensures { OnOk result (out.new.items ≡ out.old.items ++ undo_form token.now id) }
 {
     out.extend_from_slice(b"<form method=\"post\" action=\"/undo\">")?;
     push_hidden_number(out, token, id)?;
-    push_pieces(
-        out,
-        &[
-            Piece::Html(b"<input type=\"hidden\" name=\"of\" value=\""),
-            Piece::Number(id),
-            Piece::Html(b"\"><button>Take back</button></form>\n"),
-        ],
-    )
+    fill(out, UNDO, &[Number(id)])
 }
 
 /// Adds that form where the item is the newest card that is saved.
@@ -407,17 +384,12 @@ fn push_forms(
 
 // ---- the section
 
+const LINE_START: &[u8] = b"<li class=\"$\">";
+
 fn push_line_start(out: &mut Vec<u8>, state: ItemState) -> Result<(), NoMemory>
     ensures { OnOk result (out.new.items ≡ out.old.items ++ line_start state) }
 {
-    push_pieces(
-        out,
-        &[
-            Piece::Html(b"<li class=\""),
-            Piece::Html(class_of(state)),
-            Piece::Html(b"\">"),
-        ],
-    )
+    fill(out, LINE_START, &[Html(class_of(state))])
 }
 
 /// Adds the line of an item, which is this card, if it is one.

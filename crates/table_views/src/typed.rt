@@ -10,21 +10,22 @@ ghost use Rattle.table_views.specs.Typed.{outcome_span, outcome_typed, span_star
 use acceptor::NoMemory;
 use attempts::{Unit, Value, push_two_digits};
 use cube::Move;
-use markup::{Piece, push_pieces};
+use markup::Piece::Number;
+use markup::fill;
 use round_words::push_value;
 use texts::Entered;
 
+const PENALTIES: &[u8] = b"+$";
+
 /// Adds the seconds that penalties add, after a plus; nothing where there is none.
+#[tactic(auto, unfolding(markup::specs::Pieces::fill))]
 fn push_penalties(out: &mut Vec<u8>, penalties: u8) -> Result<(), NoMemory>
     ensures { OnOk result (out.new.items ≡ out.old.items ++ penalty_text penalties) }
 {
     if penalties == 0 {
         return Ok(());
     }
-    push_pieces(
-        out,
-        &[Piece::Html(b"+"), Piece::Number(2 * penalties as u64)],
-    )
+    fill(out, PENALTIES, &[Number(2 * penalties as u64)])
 }
 
 /// Adds hundredths of a second, as they are typed.
@@ -42,20 +43,21 @@ fn push_moves(out: &mut Vec<u8>, moves: &[Move]) -> Result<(), NoMemory>
     out.extend_from_slice(&text)
 }
 
+const MULTI: &[u8] = b"$/$ $:";
+
 /// Adds a result of multi-blind.
+#[tactic(auto, unfolding(markup::specs::Pieces::fill))]
 fn push_multi(out: &mut Vec<u8>, solved: u8, attempted: u8, seconds: u16) -> Result<(), NoMemory>
     ensures { OnOk result (out.new.items
         ≡ out.old.items ++ multi_text solved attempted seconds) }
 {
-    push_pieces(
+    fill(
         out,
+        MULTI,
         &[
-            Piece::Number(solved as u64),
-            Piece::Html(b"/"),
-            Piece::Number(attempted as u64),
-            Piece::Html(b" "),
-            Piece::Number(seconds as u64 / 60),
-            Piece::Html(b":"),
+            Number(solved as u64),
+            Number(attempted as u64),
+            Number(seconds as u64 / 60),
         ],
     )?;
     push_two_digits(out, seconds as u32 % 60)
@@ -84,8 +86,8 @@ pub fn push_entered(out: &mut Vec<u8>, entered: &Entered) -> Result<(), NoMemory
     }
 }
 
-/// Adds what is at a place, counted from 0, if anything is.
-pub(crate) fn push_shown(
+/// Adds the value at a place, counted from 0, if there is one.
+pub fn push_shown(
     out: &mut Vec<u8>,
     unit: Unit,
     was: &[Value],

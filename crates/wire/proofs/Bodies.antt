@@ -23,8 +23,8 @@ use Rattle.wire.specs.declared.values.CommandState.{CommandState}
 use Rattle.wire.specs.declared.values.CommandState.TheVariants.{Unknown, Pending, Done}
 use Rattle.wire.specs.declared.values.DeskRole.{DeskRole}
 use Rattle.wire.specs.declared.values.DeskRole.TheVariants.{Idle, Gathering, Proposing, Leading}
-use Rattle.wire.specs.declared.values.SheetStyle.{SheetStyle}
-use Rattle.wire.specs.declared.values.SheetStyle.TheVariants.{Text, Table}
+use Rattle.formats.specs.declared.styles.SheetStyle.{SheetStyle}
+use Rattle.formats.specs.declared.styles.SheetStyle.TheVariants.{Text, Table}
 use Rattle.wire.specs.Fields.{byte_at, number_at, two, numbered}
 use Rattle.wire.specs.declared.values.Version.{Version}
 use Rattle.wire.specs.Numbers.{last_event, answers, answer_number, refusals, refusal_number, styles}

@@ -8,7 +8,7 @@ use Rattle.acceptor.specs.declared.message.Report.{Report}
 use Rattle.formats.specs.declared.events.Event.{Event}
 use Rattle.formats.specs.Events.{event_number}
 use Rattle.wire.specs.declared.values.CommandState.{CommandState}
-use Rattle.wire.specs.declared.values.SheetStyle.{SheetStyle}
+use Rattle.formats.specs.declared.styles.SheetStyle.{SheetStyle}
 use Rattle.wire.specs.declared.values.Version.{Version}
 use Rattle.wire.specs.declared.frame.FrameBody.{FrameBody}
 use Rattle.wire.specs.declared.frame.FrameBody.TheVariants as variant

@@ -11,8 +11,8 @@ use Rattle.wire.specs.declared.values.CommandState.{CommandState}
 use Rattle.wire.specs.declared.values.CommandState.TheVariants as state
 use Rattle.wire.specs.declared.values.DeskRole.{DeskRole}
 use Rattle.wire.specs.declared.values.DeskRole.TheVariants.{Idle, Gathering, Proposing, Leading}
-use Rattle.wire.specs.declared.values.SheetStyle.{SheetStyle}
-use Rattle.wire.specs.declared.values.SheetStyle.TheVariants.{Text, Table}
+use Rattle.formats.specs.declared.styles.SheetStyle.{SheetStyle}
+use Rattle.formats.specs.declared.styles.SheetStyle.TheVariants.{Text, Table}
 use Rattle.wire.specs.declared.values.Version.{Version}
 use Rattle.wire.specs.declared.standing.DeskStatus.{DeskStatus}
 use Rattle.wire.specs.declared.values.Version.TheVariants.{One, Two, Three, Four, Five}

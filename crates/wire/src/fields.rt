@@ -17,12 +17,12 @@ ghost use Rattle.wire.specs.model.Parts.{part_entry, part_report, IsPart};
 
 use crate::fault::WireFault;
 use crate::standing::{Difference, Lengths};
-use crate::values::{ClientRefusal, CommandState, DeskRole, SheetStyle, Version, number_of};
+use crate::values::{ClientRefusal, CommandState, DeskRole, Version, number_of, style_numbered};
 use acceptor::MOST_ENTRIES;
 use acceptor::ballot::Ballot;
 use acceptor::entry::{Entry, EntryFault};
 use acceptor::message::Report;
-use formats::Event;
+use formats::{Event, SheetStyle};
 use std::alloc::Global;
 use texts::{Answer, Code};
 
@@ -364,7 +364,7 @@ pub(crate) fn style_of(bytes: &[u8]) -> Result<(SheetStyle, &[u8]), WireFault>
     ensures { GivesField (λ x. (x.0, x.1.now)) result (member_at style_number styles bytes.now) }
 {
     let (number, rest) = byte_of(bytes)?;
-    let style = there(SheetStyle::from_number(number))?;
+    let style = there(style_numbered(number))?;
     Ok((style, rest))
 }
 

@@ -5,11 +5,11 @@ ghost use Rattle.std.specs.Prelude.{◌≡◌};
 use crate::bytes::Bytes;
 use crate::entries::Entries;
 use crate::standing::DeskStatus;
-use crate::values::{ClientRefusal, CommandState, SheetStyle, Version};
+use crate::values::{ClientRefusal, CommandState, Version};
 use acceptor::ballot::Ballot;
 use acceptor::entry::Entry;
 use acceptor::message::Report;
-use formats::Event;
+use formats::{Event, SheetStyle};
 
 /// What is sent over a connection: from desk to desk of a hall, from a client to a desk, or back to
 /// the client.

@@ -1,10 +1,11 @@
-//! The values that only frames have: their versions, styles of sheets, what became of a command,
-//! refusals, what a desk does for a ballot.
+//! The values that only frames have: their versions, what became of a command, refusals, what a
+//! desk does for a ballot.
 
 ghost use Rattle.std.specs.Prelude.{◌≡◌};
-ghost use Rattle.wire.specs.Numbers.{answer_number};
+ghost use Rattle.wire.specs.Fields.{numbered};
+ghost use Rattle.wire.specs.Numbers.{answer_number, style_number, styles};
 
-use formats::Event;
+use formats::{Event, SheetStyle};
 use texts::{Answer, Code};
 
 /// The last event whose sheets can be asked for in version 1.
@@ -30,15 +31,6 @@ pub enum Version {
     Five,
 }
 
-/// How a sheet is printed.
-#[derive(Clone, Copy, Debug, PartialEq, Eq)]
-pub enum SheetStyle {
-    /// Lines with columns of fixed widths. 0 in a frame.
-    Text,
-    /// Comma-separated values. 1 in a frame.
-    Table,
-}
-
 /// What became of a command at a desk.
 #[derive(Clone, Copy, Debug, PartialEq, Eq)]
 pub enum CommandState {
@@ -58,6 +50,29 @@ pub(crate) fn number_of(answer: Answer) -> u8
         Answer::Done => 0,
         Answer::Refused(code) => code.number(),
     }
+}
+
+/// All styles of a sheet.
+const STYLES: [SheetStyle; 2] = [SheetStyle::Text, SheetStyle::Table];
+
+/// The number of a style in a frame.
+pub(crate) fn style_number(style: SheetStyle) -> u8
+    ensures { result ≡ style_number style }
+{
+    match style {
+        SheetStyle::Text => 0,
+        SheetStyle::Table => 1,
+    }
+}
+
+/// The style that has a number, if one has it.
+pub(crate) fn style_numbered(number: u8) -> Option<SheetStyle>
+    ensures { result ≡ numbered style_number styles number }
+{
+    STYLES
+        .iter()
+        .copied()
+        .find(|style| style_number(*style) == number)
 }
 
 impl CommandState {
@@ -210,34 +225,6 @@ impl Version {
         } else {
             Answer::Refused(Code::Unread)
         }
-    }
-}
-
-impl SheetStyle {
-    ghost use Rattle.wire.specs.Fields.{numbered};
-    ghost use Rattle.wire.specs.Numbers.{styles, style_number};
-
-    /// All styles.
-    pub const ALL: [SheetStyle; 2] = [SheetStyle::Text, SheetStyle::Table];
-
-    /// The style's number in a frame.
-    pub fn number(self) -> u8
-        ensures { result ≡ style_number self }
-    {
-        match self {
-            SheetStyle::Text => 0,
-            SheetStyle::Table => 1,
-        }
-    }
-
-    /// The style that has a number, if one has it.
-    pub fn from_number(number: u8) -> Option<SheetStyle>
-        ensures { result ≡ numbered style_number styles number }
-    {
-        SheetStyle::ALL
-            .iter()
-            .copied()
-            .find(|style| style.number() == number)
     }
 }
 

@@ -13,7 +13,7 @@ ghost use Rattle.wire.specs.Spelling.{spelling};
 use crate::NoMemory;
 use crate::frame::{Frame, FrameBody};
 use crate::standing::{DeskStatus, Difference, Lengths};
-use crate::values::{CommandState, Version, number_of};
+use crate::values::{CommandState, Version, number_of, style_number};
 use acceptor::ballot::Ballot;
 use acceptor::entry::Entry;
 use acceptor::message::Report;
@@ -257,7 +257,7 @@ fn put_body(out: &mut Vec<u8>, version: Version, what: &FrameBody) -> Result<(),
         } => {
             out.extend_from_slice(&[event.number(), *round])?;
             put_u32(out, *position)?;
-            out.push(style.number())?;
+            out.push(style_number(*style))?;
             Ok(())
         }
         FrameBody::Told { id, state } => {

@@ -1,43 +1,17 @@
 -- Equal logs up to a position have equal sheets and answers there.
-use Rattle.std.proofs.Common.{◌≡◌, ℕ, zero, suc, ◌+◌, ◌<◌, ◌≤◌, ◌⊎◌, inl, inr, Bool, true, false}
+use Rattle.std.proofs.Common.{◌≡◌, ℕ, ◌+◌, ◌<◌, ◌≤◌, ◌⊎◌, inl, inr, Bool, true, false}
 use Rattle.std.proofs.Common.{if◌then◌else◌, ◌==◌, List, [], ◌∷◌, ◌++◌, Option, Some, None, length}
 use Rattle.std.proofs.Common.{slice_get, take, refl, sym, ap, ◌∙◌, subst, arith}
 use Rattle.std.specs.List.{position_from}
 use Rattle.acceptor.specs.declared.entry.Entry.{Entry}
 use Rattle.texts.specs.declared.answer.Answer.{Answer}
 use Rattle.commands.specs.History.{history, answer_to}
-use Rattle.formats.specs.declared.events.Event.{Event}
 use Rattle.learner.specs.Laws.{IsPrefix, LogsAgree, LogsAreSubmitted}
 use Rattle.learner.specs.Logs.{position_of}
-use Rattle.sheets.specs.Sheet.{text_sheet, table_sheet}
-use Rattle.sheets.specs.declared.Style.{Style}
-use Rattle.sheets.specs.declared.Style.TheVariants.{Text, Table}
-use Rattle.answers.specs.Answers.{texts, is_queued, told, told_at, told_by, sheet_at}
+use Rattle.answers.specs.Answers.{texts, is_queued, told, told_at, told_by}
 use Rattle.answers.specs.declared.answers.IdState.TheVariants.{Done, Pending, Unknown}
+use Rattle.answers.proofs.Fronts.{found_front, get_front, same_front, same_sheet}
 use Rattle.hall.specs.world.Headline.{DesksAgree, log_at}
-
-take_front : (xs rest : List Entry) (p : ℕ) → p ≤ length xs → take p (xs ++ rest) ≡ take p xs
-take_front xs rest zero h = refl
-take_front [] rest (suc p) h = absurd (omega arith)
-take_front (x ∷ xs) rest (suc p) h = ap (λ ys. x ∷ ys) (take_front xs rest p (omega arith))
-
-get_front : (xs rest : List Entry) (p : ℕ) → p < length xs
-    → slice_get (xs ++ rest) p ≡ slice_get xs p
-get_front [] rest p h = absurd (omega arith)
-get_front (x ∷ xs) rest zero h = refl
-get_front (x ∷ xs) rest (suc p) h = get_front xs rest p (omega arith)
-
--- an entry found in the front is found at the same place in the whole
-found_front : (t : Entry → Bool) (i p : ℕ) (xs rest : List Entry) → position_from t i xs ≡ Some p
-    → position_from t i (xs ++ rest) ≡ Some p
-found_front t i p [] rest h = absurd cc
-found_front t i p (x ∷ xs) rest h = go (t x) h (found_front t (i + 1) p xs rest)
-  where
-    go : (b : Bool) → (if b then Some i else position_from t (i + 1) xs) ≡ Some p
-        → (position_from t (i + 1) xs ≡ Some p → position_from t (i + 1) (xs ++ rest) ≡ Some p)
-        → (if b then Some i else position_from t (i + 1) (xs ++ rest)) ≡ Some p
-    go true e f = e
-    go false e f = f e
 
 -- no entry is found in front of where the search begins
 found_late : (t : Entry → Bool) (i p : ℕ) (ys : List Entry) → position_from t i ys ≡ Some p → i ≤ p
@@ -76,11 +50,6 @@ found_less t i p (x ∷ xs) h = go (t x) h (found_less t (i + 1) p xs)
 abbrev AreOne : List Entry → List Entry → Type 0
 AreOne xs ys = IsPrefix xs ys ⊎ IsPrefix ys xs
 
-same_front : (xs ys : List Entry) (p : ℕ) → AreOne xs ys → p ≤ length xs → p ≤ length ys
-    → take p xs ≡ take p ys
-same_front xs ys p (inl h) low high = sym (take_front xs h.0 p low) ∙ ap (take p) h.1
-same_front xs ys p (inr h) low high = sym (sym (take_front ys h.0 p high) ∙ ap (take p) h.1)
-
 same_entry : (xs ys : List Entry) (p : ℕ) → AreOne xs ys → p < length xs → p < length ys
     → slice_get ys p ≡ slice_get xs p
 same_entry xs ys p (inl h) low high = ap (λ zs. slice_get zs p) (sym h.1) ∙ get_front xs h.0 p low
@@ -94,13 +63,6 @@ same_found xs ys id p (inl h) found high =
 same_found xs ys id p (inr h) found high =
     found_there (λ e. e.id == id) 0 p ys h.0
     (subst (λ zs. position_of zs id ≡ Some p) (sym h.1) found) (omega arith)
-
-same_sheet : (xs ys : List Entry) (p : ℕ) (style : Style) (event : Event) (round : ℕ)
-    → take p xs ≡ take p ys → sheet_at style xs p event round ≡ sheet_at style ys p event round
-same_sheet xs ys p Text event round h =
-    ap (λ zs. text_sheet (history (texts zs)).accepted event round p) h
-same_sheet xs ys p Table event round h =
-    ap (λ zs. table_sheet (history (texts zs)).accepted event round) h
 
 -- what is answered Done was found at its position
 done_found : (log queue : List Entry) (id pos : ℕ) (a : Answer) → told log queue id ≡ Done pos a
@@ -138,9 +100,8 @@ desks_agree agree submitted n events =
       submitted = λ i d pos e h. submitted n (take i events) d pos e h;
       sheets =
           λ i j d k position style event round low high.
-          same_sheet (log_at n events i d) (log_at n events j k) position style event round
-          (same_front (log_at n events i d) (log_at n events j k) position (agree n events i j d k)
-          low high);
+          same_sheet style (log_at n events i d) (log_at n events j k) position event round
+          (agree n events i j d k) low high;
       answers =
           λ i j d k id pos answer queue other h less.
           answered (log_at n events i d) (log_at n events j k) queue other id pos answer

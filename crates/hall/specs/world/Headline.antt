@@ -8,7 +8,7 @@ use Rattle.learner.specs.declared.event.WorldEvent.{WorldEvent}
 use Rattle.learner.specs.Laws.{IsPrefix}
 use Rattle.learner.specs.Submitted.{IsSubmitted}
 use Rattle.learner.specs.Worlds.{log_of}
-use Rattle.sheets.specs.declared.Style.{Style}
+use Rattle.formats.specs.declared.styles.SheetStyle.{SheetStyle as Style}
 use Rattle.answers.specs.Answers.{told, sheet_at}
 use Rattle.answers.specs.declared.answers.IdState.TheVariants.{Done}
 

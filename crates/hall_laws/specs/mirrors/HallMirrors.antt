@@ -5,7 +5,7 @@ use Rattle.answers.specs.Answers.{sheet_at}
 use Rattle.formats.specs.declared.events.Event.{Event}
 use Rattle.learner.specs.Laws.{IsPrefix}
 use Rattle.learner.specs.Steps.{IsDesk}
-use Rattle.sheets.specs.declared.Style.{Style}
+use Rattle.formats.specs.declared.styles.SheetStyle.{SheetStyle as Style}
 use Rattle.store.specs.declared.keeper.Keeper.{Ghosts}
 use Rattle.mirror.specs.Fronts.{TakesAs}
 use Rattle.mirror.specs.declared.mirror.MirrorGrowth.{MirrorGrowth}

@@ -6,7 +6,7 @@ use Rattle.multiplex.specs.Musts.{IsMove, IsWatched, IsWoken}
 use Rattle.answers.specs.Seen.{Seen}
 use Rattle.std.specs.List.{AllByRecursion}
 use Rattle.store.specs.declared.home.Home.{Home}
-use Rattle.multiplex.specs.Requests.{Request, Reading, Writing, Closing}
+use Rattle.polled.specs.Requests.{Request, Reading, Writing, Closing}
 use Rattle.polled.specs.declared.answers.ReadOutcome.{ReadOutcome}
 use Rattle.polled.specs.declared.answers.WriteOutcome.{WriteOutcome}
 use Rattle.multiplex.specs.declared.ends.EndReason.{EndReason}

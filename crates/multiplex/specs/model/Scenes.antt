@@ -8,7 +8,7 @@ use Rattle.guarded.specs.LockedConnections.{LockedConnectionOf, begun, fresh_loc
 use Rattle.store.specs.declared.home.Home.{Home}
 use Rattle.wire.specs.declared.values.Version.{Version}
 use Rattle.polled.specs.Telling.{Tells}
-use Rattle.multiplex.specs.Happenings.{Happened, Closed, Named, Round}
+use Rattle.polled.specs.Happenings.{Happened, Closed, Named, Round}
 use Rattle.multiplex.specs.Passing.{Change, Changes, Lobby, Pass, Room, Step, Takes, guest, lobby}
 use Rattle.multiplex.specs.Passing.{over_by, over_settled, told, told_all, told_change}
 use Rattle.multiplex.specs.Silence.{ready_after}

@@ -13,7 +13,7 @@ use Rattle.guarded.specs.LockedConnections.{after_sent}
 use Rattle.guarded.specs.LockedTurns.{Follow, Place}
 use Rattle.wire.specs.declared.values.Version.{Version}
 use Rattle.polled.specs.Telling.{Tells}
-use Rattle.multiplex.specs.Happenings.{Happened, Gave, Took, Broke}
+use Rattle.polled.specs.Happenings.{Happened, Gave, Took, Broke}
 use Rattle.multiplex.specs.Passing.{AreMessages, IsFate, IsLeft, Settled, Shares, SharesLast}
 use Rattle.multiplex.specs.Passing.{pieces, told_why, told_turns}
 use Rattle.answers.specs.Seen.{Seen, settled}

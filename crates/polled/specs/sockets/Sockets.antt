@@ -48,6 +48,6 @@ OthersStay k old new = (j : ℕ) → j ≢ k → stays new j ≡ stays old j
 -- whether the connection of a peer that is accepted was open, and is: that of one that came is, and
 -- nobody else is let in
 abbrev pub LetsIn : AcceptedPeer → Bool → Bool → Type 0
-LetsIn accepted_is.Came was is = is ≡ true
+LetsIn (accepted_is.Came random) was is = is ≡ true
 LetsIn accepted_is.Nobody was is = is ≡ was
 LetsIn accepted_is.Full was is = is ≡ was

@@ -9,20 +9,30 @@ ghost use Rattle.polled.specs.sockets.Sockets.{SameStay, is_full, stays};
 
 use crate::sockets::agenda::Agenda;
 use crate::sockets::outcomes::accepted_by;
+use crate::sockets::random::drawn;
 use crate::sockets::streams::{MOST_ENDING, Streams};
 use crate::sockets::tokens::{PolledSocket, listener_token, peer_token, source_of};
-use crate::{AcceptedPeer, ReadOutcome, Ready, WriteOutcome};
+use crate::{AcceptedPeer, ReadOutcome, Ready, Sockets, WriteOutcome};
 use mio::net::{TcpListener, TcpStream};
 use mio::{Events, Interest, Poll, Registry};
+use prompt_lines::PromptLines;
 use std::alloc::Global;
 use std::io;
+use std::io::Write;
 use std::marker::Model;
 use std::net::{Net, SocketAddr};
+use std::random::RandomSource;
 use std::time::{Clock, Duration, Instant};
 
 /// How many sockets that are ready are named at once, beside those of open connections: those that
 /// are ending, the listener, and the program's own.
 const MOST_OTHERS: usize = MOST_ENDING + 16;
+
+/// How many milliseconds lie between two lines that say that the system has no more sockets.
+const BETWEEN_LINES: u64 = 60_000;
+
+/// Such a line.
+const NO_SOCKET: &[u8] = b"too many open files, or no memory: who was silent longest is let go\n";
 
 /// The sockets of peers over TCP, each by the number under which it was accepted, and one poll that
 /// tells which of them is ready. No call but `ready` waits.
@@ -35,7 +45,9 @@ const MOST_OTHERS: usize = MOST_ENDING + 16;
 /// begun and isn't over, and what of it is still to be named.
 #[derive(Drop)]
 pub struct PeerSockets<'a, R> {
-    clock: &'a R,
+    system: &'a R,
+    /// The number of the program's start.
+    start: u64,
     poll: Poll,
     events: Events,
     listener: TcpListener,
@@ -44,13 +56,16 @@ pub struct PeerSockets<'a, R> {
     /// Whether a round was begun, of which more may be to be named.
     in_round: bool,
     /// When the first round was over.
-    start: Option<Instant>,
+    first_over: Option<Instant>,
     /// When the last round was over, in milliseconds after the first one.
     last_over: u64,
     /// Whether the system had no more sockets for the peer that waited last.
     scarce: bool,
     /// Whether the system isn't asked to tell when somebody waits.
     deaf: bool,
+    /// Where it is said that the system has no more sockets, and when that was said last.
+    lines: Option<PromptLines>,
+    told: Option<u64>,
 }
 
 impl<'a, R> Model for PeerSockets<'a, R> {
@@ -84,12 +99,16 @@ fn note_all(events: &Events, registry: &Registry, streams: &mut Streams, agenda:
 }
 
 impl<'a, R: Net + Clock> PeerSockets<'a, R> {
-    /// Listens at this address. At most this many connections are open at once. No round was begun.
+    /// Listens at this address, at the program's start of this number. At most this many
+    /// connections are open at once. No round was begun. Where the system has no more sockets for a
+    /// peer that comes, a line says so where lines are given, one a minute at most.
     pub fn listen(
         runtime: &'a R,
         alloc: Global,
         address: SocketAddr,
         most: usize,
+        start: u64,
+        lines: Option<PromptLines>,
     ) -> io::Result<Self>
         ensures { IfOk result (IsFresh most) }
     {
@@ -99,17 +118,20 @@ impl<'a, R: Net + Clock> PeerSockets<'a, R> {
         poll.registry()
             .register(&mut listener, listener_token(), Interest::READABLE)?;
         Ok(PeerSockets {
-            clock: runtime,
+            system: runtime,
+            start,
             poll,
             events: Events::with_capacity(alloc, most_ready)?,
             listener,
             streams: Streams::new(alloc, most)?,
             agenda: Agenda::new(alloc, most_ready)?,
             in_round: false,
-            start: None,
+            first_over: None,
             last_over: 0,
             scarce: false,
             deaf: false,
+            lines,
+            told: None,
         })
     }
 }
@@ -177,7 +199,25 @@ impl<R> PeerSockets<'_, R> {
         }
     }
 
-    /// Lets the peer in that waits.
+    /// Says that the system has no more sockets, unless that was said a short while ago.
+    fn tell_scarce(&mut self)
+        ensures { self.new ≡ self.old }
+    {
+        let now = self.last_over;
+        if let Some(then) = self.told
+            && now.saturating_sub(then) < BETWEEN_LINES
+        {
+            return;
+        }
+        if let Some(lines) = &mut self.lines {
+            let _ = lines.write(NO_SOCKET);
+            self.told = Some(now);
+        }
+    }
+}
+
+impl<R: RandomSource> PeerSockets<'_, R> {
+    /// Lets the peer in that waits. Where the system gives no random bytes for it, it is let go.
     fn let_in(&mut self, number: u64) -> AcceptedPeer
         ensures full { is_full self.old ≡ true → result ≡ AcceptedPeer.Full }
         ensures came { LetsIn result (stays self.old number) (stays self.new number) }
@@ -187,77 +227,17 @@ impl<R> PeerSockets<'_, R> {
         if self.streams.is_full() || peer_token(number).is_none() {
             return AcceptedPeer::Full;
         }
-        match self.take() {
-            Ok(stream) => {
-                if self.streams.enter(self.poll.registry(), number, stream) {
-                    AcceptedPeer::Came
-                } else {
-                    AcceptedPeer::Full
-                }
-            }
-            Err(error) => accepted_by(&error),
-        }
-    }
-
-    /// Accepts the peer that waits. From now on it has this number, and is named when it can be
-    /// read from. Where as many connections are open as may be, nobody is accepted.
-    // The system tells anew that somebody waits once it is asked anew. Where it has no more sockets
-    // and no peer can be let go, it is asked once it has nothing else to tell, so that nobody asks
-    // again and again.
-    pub fn accept(&mut self, number: u64) -> AcceptedPeer
-        ensures full { is_full self.old ≡ true → result ≡ AcceptedPeer.Full }
-        ensures came { LetsIn result (stays self.old number) (stays self.new number) }
-        ensures others { OthersStay number self.old self.new }
-        ensures same { SameElse self.old self.new }
-    {
-        let accepted = self.let_in(number);
-        self.scarce = accepted == AcceptedPeer::Full;
-        if self.scarce && self.streams.is_empty() {
-            self.deaf = true;
+        let stream = match self.take() {
+            Ok(stream) => stream,
+            Err(error) => return accepted_by(&error),
+        };
+        let Ok(random) = drawn(self.system, self.start, number) else {
+            return AcceptedPeer::Nobody;
+        };
+        if self.streams.enter(self.poll.registry(), number, stream) {
+            AcceptedPeer::Came { random }
         } else {
-            self.listen_on();
-        }
-        accepted
-    }
-
-    /// Reads once of a peer.
-    pub fn read(&mut self, number: u64, buffer: &mut [u8; 4096]) -> ReadOutcome
-        ensures count { CountsGiven (length buffer.new) result }
-        ensures closed { stays self.old number ≡ false → result ≡ ReadOutcome.Broke }
-        ensures same { self.new ≡ self.old }
-    {
-        self.streams.read(number, buffer)
-    }
-
-    /// Writes to a peer as much of the bytes as it takes.
-    pub fn write(&mut self, number: u64, bytes: &[u8]) -> WriteOutcome
-        ensures count { CountsTaken (length bytes.now) result }
-        ensures closed { stays self.old number ≡ false → result ≡ WriteOutcome.Broke }
-        ensures same { self.new ≡ self.old }
-    {
-        self.streams.write(number, bytes)
-    }
-
-    /// Asks that the peer be named when it can take bytes (`writes`), or else when it can be read
-    /// from. Each time that it was named this is to be asked anew. False: the system refuses.
-    pub fn watch(&mut self, number: u64, writes: bool) -> bool
-        ensures closed { stays self.old number ≡ false → result ≡ false }
-        ensures staying { SameStay self.old self.new }
-        ensures same { SameElse self.old self.new }
-    {
-        self.streams.watch(self.poll.registry(), number, writes)
-    }
-
-    /// Ends a peer's connection. What it was sent reaches it, if it still reads.
-    pub fn close(&mut self, number: u64)
-        ensures ended { stays self.new number ≡ false }
-        ensures others { OthersStay number self.old self.new }
-        ensures same { SameElse self.old self.new }
-    {
-        self.streams
-            .end(self.poll.registry(), number, self.last_over, self.scarce);
-        if self.deaf {
-            self.listen_on();
+            AcceptedPeer::Full
         }
     }
 }
@@ -267,12 +247,12 @@ impl<R: Clock> PeerSockets<'_, R> {
     fn time(&mut self) -> io::Result<u64>
         ensures { self.new ≡ self.old }
     {
-        let start = match self.start {
+        let start = match self.first_over {
             Some(start) => start,
-            None => Instant::now(self.clock)?,
+            None => Instant::now(self.system)?,
         };
-        self.start = Some(start);
-        let millis = start.elapsed(self.clock)?.as_millis();
+        self.first_over = Some(start);
+        let millis = start.elapsed(self.system)?.as_millis();
         Ok(u64::try_from(millis).unwrap_or(u64::MAX))
     }
 
@@ -306,11 +286,20 @@ impl<R: Clock> PeerSockets<'_, R> {
             None => self.end_round(),
         }
     }
+}
 
-    /// Waits until something is ready, this many milliseconds at most, and names it. A round is
-    /// begun where the last one is over. First of a round is named that somebody waits, then the
-    /// peers that are ready in the order of their numbers, and then it is over.
-    pub fn ready(&mut self, wait: u64) -> Ready
+impl<R: Clock + RandomSource> Sockets for PeerSockets<'_, R> {
+    ghost use Rattle.std.specs.Prelude.{None};
+
+    // The system tells nothing of what peers send and take beyond what its calls answer, and no
+    // call is noted.
+    ghost happened = { λ _. None };
+
+    ghost requests = { λ _. None };
+
+    /// A round is begun where the last one is over. First of a round is named that somebody waits,
+    /// then the peers in the order of their numbers, and then it is over.
+    fn ready(&mut self, wait: u64) -> Ready
         ensures named { NamesNext result self.old.round self.new.round }
         ensures most { self.new.most ≡ self.old.most }
         ensures staying { SameStay self.old self.new }
@@ -319,5 +308,66 @@ impl<R: Clock> PeerSockets<'_, R> {
             return Ready::Failed;
         }
         self.name_next()
+    }
+
+    /// The random bytes are new, mixed with the numbers of the program's start and of the peer.
+    /// Where the system gives none, the peer isn't let in. Where as many connections are open as
+    /// may be, nobody is.
+    // The system tells anew that somebody waits once it is asked anew. Where it has no more sockets
+    // and no peer can be let go, it is asked once it has nothing else to tell, so that nobody asks
+    // again and again.
+    fn accept(&mut self, number: u64) -> AcceptedPeer
+        ensures full { is_full self.old ≡ true → result ≡ AcceptedPeer.Full }
+        ensures came { LetsIn result (stays self.old number) (stays self.new number) }
+        ensures others { OthersStay number self.old self.new }
+        ensures same { SameElse self.old self.new }
+    {
+        let accepted = self.let_in(number);
+        self.scarce = accepted == AcceptedPeer::Full;
+        if self.scarce {
+            self.tell_scarce();
+        }
+        if self.scarce && self.streams.is_empty() {
+            self.deaf = true;
+        } else {
+            self.listen_on();
+        }
+        accepted
+    }
+
+    fn read(&mut self, number: u64, buffer: &mut [u8; 4096]) -> ReadOutcome
+        ensures count { CountsGiven (length buffer.new) result }
+        ensures closed { stays self.old number ≡ false → result ≡ ReadOutcome.Broke }
+        ensures same { self.new ≡ self.old }
+    {
+        self.streams.read(number, buffer)
+    }
+
+    fn write(&mut self, number: u64, bytes: &[u8]) -> WriteOutcome
+        ensures count { CountsTaken (length bytes.now) result }
+        ensures closed { stays self.old number ≡ false → result ≡ WriteOutcome.Broke }
+        ensures same { self.new ≡ self.old }
+    {
+        self.streams.write(number, bytes)
+    }
+
+    fn watch(&mut self, number: u64, writes: bool) -> bool
+        ensures closed { stays self.old number ≡ false → result ≡ false }
+        ensures staying { SameStay self.old self.new }
+        ensures same { SameElse self.old self.new }
+    {
+        self.streams.watch(self.poll.registry(), number, writes)
+    }
+
+    fn close(&mut self, number: u64)
+        ensures ended { stays self.new number ≡ false }
+        ensures others { OthersStay number self.old self.new }
+        ensures same { SameElse self.old self.new }
+    {
+        self.streams
+            .end(self.poll.registry(), number, self.last_over, self.scarce);
+        if self.deaf {
+            self.listen_on();
+        }
     }
 }

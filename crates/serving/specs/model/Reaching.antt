@@ -8,20 +8,19 @@ use Rattle.serving.specs.Nodes.{Fate, reply}
 use Rattle.serving.specs.declared.calls.NodeAnswer.{NodeAnswer}
 use Rattle.serving.specs.Answering.{answer_of}
 use Rattle.serving.specs.Making.{Way, Outside, Makes}
-use Rattle.serving.specs.Serving.{Act, Called, Service, seen_after, call, settle_by, take}
+use Rattle.serving.specs.Serving.{Act, Called, Service, seen_after, call, push_all, take}
 
--- the node, the messages that wait, and how many more the desk may deliver to itself
+-- the node, and the messages that wait
 pub record Place : Type 0 where
   pub seen : Seen
   pub waiting : List Message
-  pub left : ℕ
 
-abbrev pub at : Seen → List Message → ℕ → Place
-at x ms left = record { seen = x; waiting = ms; left = left }
+abbrev pub at : Seen → List Message → Place
+at x ms = record { seen = x; waiting = ms }
 
 abbrev pub service : Place → List Act → List Fate → Service
 service p done fates =
-    record { seen = p.seen; waiting = p.waiting; left = p.left; done = done; fates = fates }
+    record { seen = p.seen; waiting = p.waiting; done = done; fates = fates }
 
 -- What `all` is to do at the first place comes, after these acts and these fates, to what `rest` is
 -- to do at the second.
@@ -71,22 +70,21 @@ DoesPart home all first last old new =
     (acts : List Act) × (past : List Fate) × (rest : Service → Service) × (second : Place)
     × DidPart home all first last acts past rest second old new
 
--- an event was taken with all that comes of it, and the node's answer is that of the first fate
-pub record DoesCall {V : Type 0} {way : Way V} (home : Home) (left last : ℕ) (event : DeskEvent)
+-- an event was taken and its messages pushed, and the node's answer is that of the first fate
+pub record DoesCall {V : Type 0} {way : Way V} (home : Home) (event : DeskEvent)
     (answer : NodeAnswer) (x y : Seen)
     (acts : List Act) (past : List Fate) (old new : Outside way) : Type 0 where
-  pub did : Did home (λ s. settle_by home left (call home event s)) (at x [] left) (at y [] last)
-      acts past old new
+  pub did : Did home (λ s. push_all (call home event s)) (at x []) (at y []) acts past old new
   pub fate : Fate
   pub others : List Fate
   pub first : past ≡ fate ∷ others
   pub answer_is : answer ≡ answer_of (reply home x event fate).result
 
 -- the same, with Start where the log grew
-pub record DoesTake {V : Type 0} {way : Way V} (home : Home) (last : ℕ) (event : DeskEvent)
+pub record DoesTake {V : Type 0} {way : Way V} (home : Home) (event : DeskEvent)
     (answer : NodeAnswer) (x y : Seen)
     (acts : List Act) (past : List Fate) (old new : Outside way) : Type 0 where
-  pub did : Did home (take home event) (at x [] 16) (at y [] last) acts past old new
+  pub did : Did home (take home event) (at x []) (at y []) acts past old new
   pub fate : Fate
   pub others : List Fate
   pub first : past ≡ fate ∷ others

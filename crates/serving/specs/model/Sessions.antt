@@ -26,7 +26,7 @@ use Rattle.serving.specs.declared.session.Session.{Session}
 use Rattle.serving.specs.Connection.{Begun, Sides, sides, ServesOne, FailsIn}
 use Rattle.serving.specs.Making.{outside_of, speaking}
 use Rattle.serving.specs.Nodes.{Fate}
-use Rattle.serving.specs.Serving.{Act, Service, answer_out, call, learn, settle_by}
+use Rattle.serving.specs.Serving.{Act, Service, answer_out, call, learn, push_all}
 use Rattle.serving.specs.Serving.{pushed, start_if_grown, take}
 use Rattle.serving.specs.Sessions.{Line, outside, sides_of}
 use Rattle.serving.specs.model.Calling.{Calls, IsCall, LosesMessages}
@@ -64,23 +64,7 @@ PushesSome p s ms a b = PushesPart s.wire s.home.hall ms (p.handed a) (p.handed 
 
 -- ---- a desk within a frame
 
--- a node and the other desks of its hall, the messages that wait, and how many more the desk may
--- deliver to itself
-pub record Point (V U : Type 0) : Type 0 where
-  pub node : V
-  pub peers : U
-  pub waiting : List Message
-  pub left : ℕ
-
-abbrev pub point : {V U : Type 0} → V → U → List Message → ℕ → Point V U
-point node peers waiting left =
-    record { node = node; peers = peers; waiting = waiting; left = left }
-
--- no message waits
-abbrev pub idle : {V U : Type 0} → V → U → ℕ → Point V U
-idle node peers left = point node peers [] left
-
--- a node and the other desks of its hall
+-- a node and the desks of its hall
 pub record Desks (V U : Type 0) : Type 0 where
   pub node : V
   pub peers : U
@@ -88,119 +72,108 @@ pub record Desks (V U : Type 0) : Type 0 where
 abbrev pub desks : {V U : Type 0} → V → U → Desks V U
 desks node peers = record { node = node; peers = peers }
 
--- all of it was done
+-- all of it was done, and no message waits before it and after it
 abbrev pub Comes : {V U : Type 0} → DeskOf V → PeersOf U → Session → (Service → Service)
-    → Point V U → Point V U → Type 0
+    → Desks V U → Desks V U → Type 0
 Comes d p s all a b =
-    Does s.home all (at (d.seen a.node) a.waiting a.left) (at (d.seen b.node) b.waiting b.left)
+    Does s.home all (at (d.seen a.node) []) (at (d.seen b.node) [])
     (outside d p s.wire a.node a.peers) (outside d p s.wire b.node b.peers)
 
 -- a front part of it was done
 abbrev pub ComesPart : {V U : Type 0} → DeskOf V → PeersOf U → Session → (Service → Service)
-    → Point V U → Desks V U → Type 0
+    → Desks V U → Desks V U → Type 0
 ComesPart d p s all a b =
-    DoesPart s.home all (at (d.seen a.node) a.waiting a.left) (d.seen b.node)
+    DoesPart s.home all (at (d.seen a.node) []) (d.seen b.node)
     (outside d p s.wire a.node a.peers) (outside d p s.wire b.node b.peers)
 
--- the messages that wait
-abbrev pub Settles : {V U : Type 0} → DeskOf V → PeersOf U → Session → Point V U → Point V U
-    → Type 0
-Settles d p s a b = Comes d p s (settle_by s.home a.left) a b
-
-abbrev pub SettlesPart : {V U : Type 0} → DeskOf V → PeersOf U → Session → Point V U → Desks V U
-    → Type 0
-SettlesPart d p s a b = ComesPart d p s (settle_by s.home a.left) a b
-
--- an event, with all that comes of it
-abbrev pub Meets : {V U : Type 0} → DeskOf V → PeersOf U → Session → DeskEvent → Point V U
-    → Point V U → NodeAnswer → Type 0
+-- an event, with its messages
+abbrev pub Meets : {V U : Type 0} → DeskOf V → PeersOf U → Session → DeskEvent → Desks V U
+    → Desks V U → NodeAnswer → Type 0
 Meets d p s event a b answer =
     (acts : List Act) × (past : List Fate)
-    × DoesCall s.home a.left b.left event answer (d.seen a.node) (d.seen b.node) acts past
+    × DoesCall s.home event answer (d.seen a.node) (d.seen b.node) acts past
     (outside d p s.wire a.node a.peers) (outside d p s.wire b.node b.peers)
 
-abbrev pub MeetsPart : {V U : Type 0} → DeskOf V → PeersOf U → Session → DeskEvent → Point V U
+abbrev pub MeetsPart : {V U : Type 0} → DeskOf V → PeersOf U → Session → DeskEvent → Desks V U
     → Desks V U → Type 0
-MeetsPart d p s event a b = ComesPart d p s (λ t. settle_by s.home a.left (call s.home event t)) a b
+MeetsPart d p s event a b = ComesPart d p s (λ t. push_all (call s.home event t)) a b
 
 -- Start, where the log has more than this many entries
-abbrev pub Starts : {V U : Type 0} → DeskOf V → PeersOf U → Session → ℕ → Point V U → Point V U
+abbrev pub Starts : {V U : Type 0} → DeskOf V → PeersOf U → Session → ℕ → Desks V U → Desks V U
     → Type 0
 Starts d p s before a b = Comes d p s (start_if_grown s.home before) a b
 
-abbrev pub StartsPart : {V U : Type 0} → DeskOf V → PeersOf U → Session → ℕ → Point V U
+abbrev pub StartsPart : {V U : Type 0} → DeskOf V → PeersOf U → Session → ℕ → Desks V U
     → Desks V U → Type 0
 StartsPart d p s before a b = ComesPart d p s (start_if_grown s.home before) a b
 
--- an event, with all that comes of it and of Start
+-- an event, with its messages, and Start
 abbrev pub TakesIn : {V U : Type 0} → DeskOf V → PeersOf U → Session → DeskEvent → Desks V U
     → Desks V U → NodeAnswer → Type 0
 TakesIn d p s event a b answer =
-    (left : ℕ) × (acts : List Act) × (past : List Fate)
-    × DoesTake s.home left event answer (d.seen a.node) (d.seen b.node) acts past
+    (acts : List Act) × (past : List Fate)
+    × DoesTake s.home event answer (d.seen a.node) (d.seen b.node) acts past
     (outside d p s.wire a.node a.peers) (outside d p s.wire b.node b.peers)
 
 abbrev pub TakesPart : {V U : Type 0} → DeskOf V → PeersOf U → Session → DeskEvent → Desks V U
     → Desks V U → Type 0
-TakesPart d p s event a b = ComesPart d p s (take s.home event) (idle a.node a.peers 16) b
+TakesPart d p s event a b = ComesPart d p s (take s.home event) a b
 
--- Start after an entry, with all that comes of it and of the messages that wait
+-- Start after an entry, with its messages and those that wait
 abbrev pub StartsNext : {V U : Type 0} → DeskOf V → PeersOf U → Session → Desks V U
     → Desks V U → List Message → List Message → Type 0
 StartsNext d p s a b ms rest =
-    (last : ℕ) × Comes d p s (λ t. settle_by s.home 16 (call s.home Start t))
-    (point a.node a.peers ms 16) (point b.node b.peers rest last)
+    Does s.home (λ t. push_all (call s.home Start t)) (at (d.seen a.node) ms)
+    (at (d.seen b.node) rest)
+    (outside d p s.wire a.node a.peers) (outside d p s.wire b.node b.peers)
 
 abbrev pub StartsNextPart : {V U : Type 0} → DeskOf V → PeersOf U → Session → Desks V U
     → Desks V U → List Message → Type 0
 StartsNextPart d p s a b ms =
-    ComesPart d p s (λ t. settle_by s.home 16 (call s.home Start t)) (point a.node a.peers ms 16) b
+    DoesPart s.home (λ t. push_all (call s.home Start t)) (at (d.seen a.node) ms) (d.seen b.node)
+    (outside d p s.wire a.node a.peers) (outside d p s.wire b.node b.peers)
 
 -- ---- a run of entries
 
--- each entry was delivered, whatever the version and the other desks
+-- each entry was delivered, whatever the version and the desks
 abbrev pub Delivers : {V : Type 0} → DeskOf V → Home → DecidedRun → V → List Message → V
     → List Message
     → Type 0
 Delivers d home run x ms y more =
     (wire : Version) (handed : Option (List Push))
-    → Does home (learn home run.from run.to run.pos run.entries) (at (d.seen x) ms 16)
-    (at (d.seen y) more 16) (outside_of (speaking d.handles d.settles wire) x handed)
+    → Does home (learn home run.from run.to run.pos run.entries) (at (d.seen x) ms)
+    (at (d.seen y) more) (outside_of (speaking d.handles d.settles wire) x handed)
     (outside_of (speaking d.handles d.settles wire) y handed)
 
 abbrev pub DeliversPart : {V : Type 0} → DeskOf V → Home → DecidedRun → V → List Message → V
     → Type 0
 DeliversPart d home run x ms y =
     (wire : Version) (handed : Option (List Push))
-    → DoesPart home (learn home run.from run.to run.pos run.entries) (at (d.seen x) ms 16)
+    → DoesPart home (learn home run.from run.to run.pos run.entries) (at (d.seen x) ms)
     (d.seen y) (outside_of (speaking d.handles d.settles wire) x handed)
     (outside_of (speaking d.handles d.settles wire) y handed)
 
--- with all that comes of the last one
+-- with the messages of the last one
 abbrev pub LearnsAll : {V U : Type 0} → DeskOf V → PeersOf U → Session → DecidedRun → Desks V U
-    → Point V U → Type 0
+    → Desks V U → Type 0
 LearnsAll d p s run a b =
-    Comes d p s (λ t. settle_by s.home 16 (learn s.home run.from run.to run.pos run.entries t))
-    (idle a.node a.peers 16) b
+    Comes d p s (λ t. push_all (learn s.home run.from run.to run.pos run.entries t)) a b
 
 abbrev pub LearnsPart : {V U : Type 0} → DeskOf V → PeersOf U → Session → DecidedRun → Desks V U
     → Desks V U → Type 0
 LearnsPart d p s run a b =
-    ComesPart d p s (λ t. settle_by s.home 16 (learn s.home run.from run.to run.pos run.entries t))
-    (idle a.node a.peers 16) b
+    ComesPart d p s (λ t. push_all (learn s.home run.from run.to run.pos run.entries t)) a b
 
 -- what a desk that lacks entries is sent
 abbrev pub TellsAll : {V U : Type 0} → DeskOf V → PeersOf U → Session → Message → Desks V U
-    → Point V U → Type 0
+    → Desks V U → Type 0
 TellsAll d p s message a b =
-    Comes d p s (λ t. answer_out s.home (call s.home (Deliver message) t))
-    (idle a.node a.peers 16) b
+    Comes d p s (λ t. answer_out s.home (call s.home (Deliver message) t)) a b
 
 abbrev pub TellsPart : {V U : Type 0} → DeskOf V → PeersOf U → Session → Message → Desks V U
     → Desks V U → Type 0
 TellsPart d p s message a b =
-    ComesPart d p s (λ t. answer_out s.home (call s.home (Deliver message) t))
-    (idle a.node a.peers 16) b
+    ComesPart d p s (λ t. answer_out s.home (call s.home (Deliver message) t)) a b
 
 -- ---- a request
 

@@ -9,36 +9,25 @@ use Rattle.round_words.specs.Words.{round_words, settings_words}
 use Rattle.texts.specs.declared.command.Command.{Command}
 use Rattle.texts.specs.declared.command.RoundId.{RoundId}
 use Rattle.texts.specs.declared.command.Settings.{Settings}
-use Rattle.markup.specs.Pieces.{joined}
-use Rattle.table_entry_views.specs.paper.Frame.{top, bottom}
+use Rattle.markup.specs.Pieces.{fill}
+use Rattle.table_entry_views.specs.paper.Frame.{top}
+use Rattle.table_entry_views.specs.declared.paper.blank_cards.TheConstants.{ATTEMPT, CARD_START}
+use Rattle.table_entry_views.specs.declared.paper.blank_cards.TheConstants.{CARD_TABLE, PERSON}
+use Rattle.table_entry_views.specs.declared.paper.frame.TheConstants.{BOTTOM}
 
 abbrev pub attempt_row : ℕ → List ℕ
-attempt_row attempt = joined (
-    codes "<tr><th scope=\"row\">" ∷ decimal attempt
-    ∷ codes "</th><td></td><td></td><td></td></tr>\n" ∷ []
-    )
+attempt_row attempt = fill ATTEMPT.now (decimal attempt ∷ [])
 
 abbrev pub card_start : List ℕ → List ℕ
-card_start hall = joined (
-    codes "<section class=\"scorecard\"><p class=\"hall\">" ∷ escaped hall
-    ∷ codes "</p>\n<p class=\"round\">" ∷ []
-    )
+card_start hall = fill CARD_START.now (escaped hall ∷ [])
 
 abbrev pub person : ℕ → List ℕ → List ℕ
-person number name = joined (
-    codes "</p>\n<p class=\"who\"><b>" ∷ decimal number ∷ codes "</b> <bdi>" ∷ escaped name
-    ∷ codes "</bdi></p>\n" ∷ []
-    )
-
-abbrev pub card_table : List ℕ
-card_table =
-    codes "<table><thead><tr><th></th><th>result</th><th>judge</th><th>competitor</th></tr></thead>"
-    ++ codes "<tbody>\n"
+person number name = fill PERSON.now (decimal number ∷ escaped name ∷ [])
 
 -- the card of an entrant: hall, round, number and name, a row for each attempt, and the rules
 unfoldable pub blank_card : List ℕ → RoundId → Settings → ℕ → List ℕ → List ℕ
 blank_card hall id settings number name =
-    card_start hall ++ round_words id settings.advance ++ person number name ++ card_table
+    card_start hall ++ round_words id settings.advance ++ person number name ++ CARD_TABLE.now
     ++ flat_map attempt_row (numbers_in settings.format)
     ++ codes "</tbody></table>\n<p class=\"rules\">" ++ settings_words id.event settings
     ++ codes "</p></section>\n"
@@ -52,7 +41,7 @@ card_of accepted hall id settings number =
 abbrev pub cards_page : List Command → List ℕ → RoundId → Settings → Table → List ℕ
 cards_page accepted hall id settings table =
     top (codes "scorecards") hall ++ flat_map (card_of accepted hall id settings) (standings table)
-    ++ bottom
+    ++ BOTTOM.now
 
 -- the page, where the round was opened
 abbrev pub IsScorecards : List ℕ → List Command → RoundId → Option (Settings × Table)

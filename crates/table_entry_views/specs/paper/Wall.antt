@@ -10,24 +10,23 @@ use Rattle.rounds.specs.Tables.{Table}
 use Rattle.texts.specs.declared.command.Command.{Command}
 use Rattle.texts.specs.declared.command.RoundId.{RoundId}
 use Rattle.texts.specs.declared.command.Settings.{Settings}
-use Rattle.markup.specs.Pieces.{joined}
-use Rattle.table_entry_views.specs.paper.Frame.{top, bottom}
+use Rattle.markup.specs.Pieces.{fill}
+use Rattle.table_entry_views.specs.paper.Frame.{top}
+use Rattle.table_entry_views.specs.declared.paper.wall.TheConstants.{HALL, SIGNATURE}
+use Rattle.table_entry_views.specs.declared.paper.frame.TheConstants.{BOTTOM}
 
 -- the accepted commands of a log
 abbrev pub accepted_in : List Entry → List Command
 accepted_in log = (history (texts log)).accepted
 
 abbrev pub hall_line : List ℕ → List ℕ
-hall_line hall = joined (codes "<h1>" ∷ escaped hall ∷ codes "</h1>\n" ∷ [])
-
-abbrev pub signature : List ℕ
-signature = codes "<p class=\"signature\">Delegate: <span></span> Date: <span></span></p>\n"
+hall_line hall = fill HALL.now (escaped hall ∷ [])
 
 -- the sheet of a round at the log's length
 unfoldable pub wall_page : List ℕ → List Entry → RoundId → List ℕ
 wall_page hall log id =
     top (codes "wall") hall ++ hall_line hall ++ section (accepted_in log) (length log) id
-    ++ signature ++ bottom
+    ++ SIGNATURE.now ++ BOTTOM.now
 
 -- the sheet, where the round was opened
 abbrev pub IsWallSheet : List ℕ → List Entry → RoundId → Option (Settings × Table)

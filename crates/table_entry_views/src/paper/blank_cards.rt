@@ -10,7 +10,8 @@ ghost use Rattle.table_entry_views.specs.paper.Scorecards.{person, cards_page, I
 use crate::paper::frame::{push_bottom, push_top};
 use attempts::NoMemory;
 use commands::Meet;
-use markup::{Piece, push_pieces};
+use markup::Piece::{Number, Text};
+use markup::fill;
 use mirror::Mirror;
 use round_counts::{OpenedRound, numbers_in, round_opened};
 use round_words::{push_round_words, push_settings};
@@ -21,18 +22,13 @@ const CARD_TABLE: &[u8] = b"\
 <table><thead><tr><th></th><th>result</th><th>judge</th><th>competitor</th></tr></thead><tbody>
 ";
 
+const ATTEMPT: &[u8] = b"<tr><th scope=\"row\">$</th><td></td><td></td><td></td></tr>\n";
+
 /// Adds the row of an attempt.
 fn push_attempt(out: &mut Vec<u8>, attempt: u8) -> Result<(), NoMemory>
     ensures { OnOk result (out.new.items ≡ out.old.items ++ attempt_row attempt) }
 {
-    push_pieces(
-        out,
-        &[
-            Piece::Html(b"<tr><th scope=\"row\">"),
-            Piece::Number(attempt as u64),
-            Piece::Html(b"</th><td></td><td></td><td></td></tr>\n"),
-        ],
-    )
+    fill(out, ATTEMPT, &[Number(attempt as u64)])
 }
 
 fn push_attempts(out: &mut Vec<u8>, attempts: &[u8]) -> Result<(), NoMemory>
@@ -45,33 +41,23 @@ fn push_attempts(out: &mut Vec<u8>, attempts: &[u8]) -> Result<(), NoMemory>
     Ok(())
 }
 
+const CARD_START: &[u8] = b"\
+<section class=\"scorecard\"><p class=\"hall\">$</p>
+<p class=\"round\">";
+
 fn push_card_start(out: &mut Vec<u8>, hall: &[u8]) -> Result<(), NoMemory>
     ensures { OnOk result (out.new.items ≡ out.old.items ++ card_start hall.now) }
 {
-    push_pieces(
-        out,
-        &[
-            Piece::Html(b"<section class=\"scorecard\"><p class=\"hall\">"),
-            Piece::Text(hall),
-            Piece::Html(b"</p>\n<p class=\"round\">"),
-        ],
-    )
+    fill(out, CARD_START, &[Text(hall)])
 }
+
+const PERSON: &[u8] = b"</p>\n<p class=\"who\"><b>$</b> <bdi>$</bdi></p>\n";
 
 /// Adds whose card it is.
 fn push_person(out: &mut Vec<u8>, number: u16, name: &[u8]) -> Result<(), NoMemory>
     ensures { OnOk result (out.new.items ≡ out.old.items ++ person number name.now) }
 {
-    push_pieces(
-        out,
-        &[
-            Piece::Html(b"</p>\n<p class=\"who\"><b>"),
-            Piece::Number(number as u64),
-            Piece::Html(b"</b> <bdi>"),
-            Piece::Text(name),
-            Piece::Html(b"</bdi></p>\n"),
-        ],
-    )
+    fill(out, PERSON, &[Number(number as u64), Text(name)])
 }
 
 /// Adds the card of an entrant of this name.

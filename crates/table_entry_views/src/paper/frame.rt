@@ -1,22 +1,23 @@
 //! The frame of a page that is printed.
 
 ghost use Rattle.std.specs.Prelude.{◌≡◌, ◌++◌, OnOk};
-ghost use Rattle.table_entry_views.specs.paper.Frame.{bottom, top};
+ghost use Rattle.table_entry_views.specs.declared.paper.frame.TheConstants.{BOTTOM};
+ghost use Rattle.table_entry_views.specs.paper.Frame.{top};
 
 use attempts::NoMemory;
-use markup::{Piece, push_pieces};
+use markup::Piece::{Html, Text};
+use markup::fill;
 
-const HEAD: &[u8] = b"\
+const TOP: &[u8] = b"\
 <!DOCTYPE html>
 <html lang=\"en\"><head><meta charset=\"utf-8\">
-<title>";
-
-const HEAD_END: &[u8] = b"\
-</title><link rel=\"stylesheet\" href=\"/table.css\"></head>
+<title>$</title><link rel=\"stylesheet\" href=\"/table.css\"></head>
+<body class=\"$\"><main>
 ";
 
+const BOTTOM: &[u8] = b"</main></body></html>\n";
+
 /// Adds what is before what is printed, under a class of the style.
-#[tactic(auto, unfolding(crate::specs::paper::Frame::top))]
 pub(crate) fn push_top<'a>(
     out: &mut Vec<u8>,
     class: &'a [u8],
@@ -24,22 +25,12 @@ pub(crate) fn push_top<'a>(
 ) -> Result<(), NoMemory>
     ensures { OnOk result (out.new.items ≡ out.old.items ++ top class.now title.now) }
 {
-    push_pieces(
-        out,
-        &[
-            Piece::Html(HEAD),
-            Piece::Text(title),
-            Piece::Html(HEAD_END),
-            Piece::Html(b"<body class=\""),
-            Piece::Html(class),
-            Piece::Html(b"\"><main>\n"),
-        ],
-    )
+    fill(out, TOP, &[Text(title), Html(class)])
 }
 
 /// Adds what is after it.
 pub(crate) fn push_bottom(out: &mut Vec<u8>) -> Result<(), NoMemory>
-    ensures { OnOk result (out.new.items ≡ out.old.items ++ bottom) }
+    ensures { OnOk result (out.new.items ≡ out.old.items ++ BOTTOM.now) }
 {
-    out.extend_from_slice(b"</main></body></html>\n")
+    out.extend_from_slice(BOTTOM)
 }

@@ -8,7 +8,8 @@ ghost use Rattle.table_entry_views.specs.paper.Wall.{IsWallSheet};
 use crate::paper::frame::{push_bottom, push_top};
 use attempts::NoMemory;
 use board_rounds::push_round;
-use markup::{Piece, push_pieces};
+use markup::Piece::Text;
+use markup::fill;
 use mirror::Mirror;
 use round_counts::round_opened;
 use std::alloc::Global;
@@ -18,18 +19,13 @@ const SIGNATURE: &[u8] = b"\
 <p class=\"signature\">Delegate: <span></span> Date: <span></span></p>
 ";
 
+const HALL: &[u8] = b"<h1>$</h1>\n";
+
 /// Adds the hall's title.
 fn push_hall(out: &mut Vec<u8>, hall: &[u8]) -> Result<(), NoMemory>
     ensures { OnOk result (out.new.items ≡ out.old.items ++ hall_line hall.now) }
 {
-    push_pieces(
-        out,
-        &[
-            Piece::Html(b"<h1>"),
-            Piece::Text(hall),
-            Piece::Html(b"</h1>\n"),
-        ],
-    )
+    fill(out, HALL, &[Text(hall)])
 }
 
 /// The sheet of a round that was opened.

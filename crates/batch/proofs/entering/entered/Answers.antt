@@ -1,4 +1,4 @@
-use Rattle.std.proofs.Common.{[], inl, inr, rules}
+use Rattle.std.proofs.Common.{[], inl, refl, rules}
 use Rattle.batch.specs.Dialing.{place_of}
 use Rattle.batch.proofs.Asked.{undecided}
 use Rattle.batch.proofs.EachLine.{asks_text, confirmed, is_entered, not_awaited, not_confirmed}
@@ -12,7 +12,7 @@ pub returns-then-id-eq0-clause-err : goal.returns-then-id-eq0-clause-err
 returns-then-id-eq0-clause-err g c = (
   [],
   goes_none (place_of c.args.contact) _,
-  ((tt, inl (tt, inr (inr (inr tt)))), grows_none _),
+  ([], inl (inl (tt, refl, refl)), grows_none _),
 )
 
 pub returns-in_err-taken-clause-err : goal.returns-in_err-taken-clause-err

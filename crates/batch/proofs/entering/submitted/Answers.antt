@@ -1,4 +1,4 @@
-use Rattle.std.proofs.Common.{◌∙◌, inr, ap, [], rules}
+use Rattle.std.proofs.Common.{◌∙◌, ap, [], inl, refl, rules}
 use Rattle.acceptor.specs.declared.entry.Entry.{Entry}
 use Rattle.wire.specs.declared.frame.FrameBody.TheVariants as what
 use Rattle.batch.specs.Dialing.{place_of}
@@ -13,7 +13,7 @@ returns-in_err-entry-clause-err g c =
     fails_by _ c.from_residual.result c.in_err-entry.field-0.0 (search rules) (
       [],
       goes_none (place_of c.args.contact) _,
-      ((tt, inr c.in_err-entry.ensures.other), grows_none _),
+      ([], inl (c.in_err-entry.ensures.unasked, refl, refl), grows_none _),
     )
 
 pub returns-clause-err : goal.returns-clause-err

@@ -1,44 +1,22 @@
-use Rattle.std.proofs.Common.{◌≡◌, ◌⊎◌, ◌+◌, ◌^◌, ◌≤◌, ◌∙◌, ap, false, inr, refl, subst, sym, true}
-use Rattle.std.proofs.Common.{rules}
-use Rattle.wire.specs.Ranges.{IsId}
-use Rattle.batch.specs.declared.fault.BatchFault.TheVariants as fault
+use Rattle.std.proofs.Common.{◌≡◌, ◌+◌, ◌^◌, ◌≤◌, ◌∙◌, ap, false, subst, sym, true, rules}
 use Rattle.batch.specs.Dialing.{place_of}
-use Rattle.batch.specs.Asking.{IsOfAsking}
-use Rattle.batch.specs.Entering.{Hinders, IsEntered, ends_after, ends_run}
-use Rattle.batch.proofs.Asked.{beyond_so, enters_line, printed_part, refused, refused_so}
-use Rattle.batch.proofs.Asked.{stops_so, unprinted, unprinted_so}
+use Rattle.batch.specs.Entering.{IsEntered, ends_after, ends_run}
+use Rattle.batch.proofs.Asked.{beyond, enters_line, refused, unentered, unprinted}
 use Rattle.batch.proofs.Trying.{fails_by}
 use Rattle.batch.proofs.lines_entered.enter_line.Goals as goal
 
 pub returns-in_default-clause-err : goal.returns-in_default-clause-err
 returns-in_default-clause-err g c =
-    let id = c.args.batch.first_id + c.args.n in
-    let beyond : ¬ IsId id = search rules in
-    unprinted IsOfAsking fault.NoMoreIds c.args.batch id id c.args.line.now.text _ refl
-    (inr beyond)
-
-pub returns-in_default-clause-asked : goal.returns-in_default-clause-asked
-returns-in_default-clause-asked g c =
-    let id = c.args.batch.first_id + c.args.n in
-    let beyond : 2 ^ 64 ≤ id = search rules in
-    beyond_so (place_of c.args.contact) c.args.batch id c.args.line.now.text _ _ beyond
+    let far : 2 ^ 64 ≤ c.args.batch.first_id + c.args.n = search rules in
+    beyond (place_of c.args.contact) c.args.batch c.args.n c.args.line.now.text _ _ _ far
 
 pub returns-in_err-answer-clause-err : goal.returns-in_err-answer-clause-err
 returns-in_err-answer-clause-err g c =
     let id : c.in-Some.id ≡ c.args.batch.first_id + c.args.n = search rules in
     let f = c.in_err-answer.field-0.0 in
     fails_by _ c.from_residual.result f (search rules)
-    (unprinted IsOfAsking f c.args.batch c.in-Some.id _ c.args.line.now.text _ id
-    (subst (λ t. IsOfAsking f ⊎ Hinders f c.args.batch.waits c.args.batch.receiver c.in-Some.id t)
-    c.text.ensures c.in_err-answer.ensures.cause))
-
-pub returns-in_err-answer-clause-asked : goal.returns-in_err-answer-clause-asked
-returns-in_err-answer-clause-asked g c =
-    let id : c.in-Some.id ≡ c.args.batch.first_id + c.args.n = search rules in
-    let f = c.in_err-answer.field-0.0 in
-    fails_by _ c.from_residual.result f (search rules)
-    (stops_so c.args.batch c.in-Some.id _ _ _ _ _ _ _ _ f id c.text.ensures
-    c.in_err-answer.ensures.cause c.begins.ensures c.in_err-answer.ensures.err)
+    (unentered c.args.batch c.in-Some.id c.args.n _ c.args.line.now.text _ _ _ _ _ _ f id
+    c.text.ensures c.in_err-answer.ensures.cause c.begins.ensures c.in_err-answer.ensures.err)
 
 pub returns-in_err-print_answer-clause-err : goal.returns-in_err-print_answer-clause-err
 returns-in_err-print_answer-clause-err g c =
@@ -46,19 +24,11 @@ returns-in_err-print_answer-clause-err g c =
     let f = c.in_err-print_answer.field-0.0 in
     let b = c.args.batch in
     fails_by _ c.from_residual-in_err-print_answer.result f (search rules)
-    (printed_part IsOfAsking f b c.in-Some.id _ c.args.line.now.text c.in_ok-answer.answer _ _ id
-    c.in_err-print_answer.ensures.fault
+    (unprinted b c.in-Some.id c.args.n _ c.args.line.now.text c.in_ok-answer.answer _ _ _ _ _ _ _
+    f id c.text.ensures c.in_err-print_answer.ensures.fault
     (subst (λ t. IsEntered b.waits b.receiver c.in-Some.id t c.in_ok-answer.answer)
     c.text.ensures c.in_ok-answer.ensures.answer)
-    c.in_err-print_answer.ensures.err)
-
-pub returns-in_err-print_answer-clause-asked : goal.returns-in_err-print_answer-clause-asked
-returns-in_err-print_answer-clause-asked g c =
-    let id : c.in-Some.id ≡ c.args.batch.first_id + c.args.n = search rules in
-    let f = c.in_err-print_answer.field-0.0 in
-    fails_by _ c.from_residual-in_err-print_answer.result f (search rules)
-    (unprinted_so c.args.batch c.in-Some.id _ _ _ c.in_ok-answer.answer _ _ _ _ _ f id
-    c.text.ensures c.in_err-print_answer.ensures.fault c.begins.ensures c.in_ok-answer.ensures.ok)
+    c.begins.ensures c.in_ok-answer.ensures.ok c.in_err-print_answer.ensures.err)
 
 pub returns-then-ends-clause-err : goal.returns-then-ends-clause-err
 returns-then-ends-clause-err g c =
@@ -67,21 +37,11 @@ returns-then-ends-clause-err g c =
     let ends : ends_run b c.in_ok-answer.answer ≡ true =
     ap (ends_after b) (sym c.told_answer-said.ensures) ∙ sym c.ends_after-ends.ensures
     ∙ c.if-ends.true in
-    refused IsOfAsking b c.in-Some.id _ c.args.line.now.text c.in_ok-answer.answer _ _ id
+    refused b c.in-Some.id c.args.n _ c.args.line.now.text c.in_ok-answer.answer _ _ _ _ _ _
+    c.told_answer-said.result _ _ id c.text.ensures c.told_answer-said.ensures ends
     (subst (λ t. IsEntered b.waits b.receiver c.in-Some.id t c.in_ok-answer.answer)
     c.text.ensures c.in_ok-answer.ensures.answer)
-    c.in_ok-print_answer.ensures.ok ends
-
-pub returns-then-ends-clause-asked : goal.returns-then-ends-clause-asked
-returns-then-ends-clause-asked g c =
-    let id : c.in-Some.id ≡ c.args.batch.first_id + c.args.n = search rules in
-    let b = c.args.batch in
-    let ends : ends_run b c.in_ok-answer.answer ≡ true =
-    ap (ends_after b) (sym c.told_answer-said.ensures) ∙ sym c.ends_after-ends.ensures
-    ∙ c.if-ends.true in
-    refused_so b c.in-Some.id _ _ _ c.in_ok-answer.answer _ _ _ _ _ _ c.told_answer-said.result id
-    c.text.ensures c.told_answer-said.ensures ends c.begins.ensures c.in_ok-answer.ensures.ok
-    c.entered-2.ensures
+    c.begins.ensures c.in_ok-answer.ensures.ok c.entered-2.ensures c.in_ok-print_answer.ensures.ok
 
 pub returns-clause-ok : goal.returns-clause-ok
 returns-clause-ok g c =

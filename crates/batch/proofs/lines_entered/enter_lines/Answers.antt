@@ -1,30 +1,16 @@
 use Rattle.batch.specs.Dialing.{place_of}
-use Rattle.batch.proofs.Asked.{asks_so, asks_some_so, enters_some, enters_whole, stops_by}
+use Rattle.batch.proofs.Asked.{asks_so, asks_some_so}
 use Rattle.batch.proofs.Going.{adds_by}
 use Rattle.batch.proofs.lines_entered.enter_lines.Goals as goal
 
 pub returns-clause-ok : goal.returns-clause-ok
 returns-clause-ok g c =
-    enters_whole c.enter_lines_over-ended.result c.args.batch _ _ _ _ _
+    asks_so _ c.enter_lines_over-ended.result c.args.batch _ _ _ _ _
+    (λ asked h. adds_by (place_of c.args.contact) _ _ _ asked h c.let_go.ensures)
     c.enter_lines_over-ended.ensures
 
 pub returns-clause-err : goal.returns-clause-err
 returns-clause-err g c =
-    enters_some c.enter_lines_over-ended.result c.args.batch _ _ _ _ _
-    c.enter_lines_over-ended.ensures
-
-pub returns-clause-cause : goal.returns-clause-cause
-returns-clause-cause g c =
-    stops_by c.enter_lines_over-ended.result c.args.batch _ _ _ _ _ c.enter_lines_over-ended.ensures
-
-pub returns-clause-asked : goal.returns-clause-asked
-returns-clause-asked g c =
-    asks_so _ c.enter_lines_over-ended.result c.args.batch _ _ _ _ _
-    (λ asked h. adds_by (place_of c.args.contact) _ _ _ asked h c.let_go.ensures.told)
-    c.enter_lines_over-ended.ensures
-
-pub returns-clause-asked_so_far : goal.returns-clause-asked_so_far
-returns-clause-asked_so_far g c =
     asks_some_so _ c.enter_lines_over-ended.result c.args.batch _ _ _ _ _
-    (λ asked h. adds_by (place_of c.args.contact) _ _ _ asked h c.let_go.ensures.told)
+    (λ asked h. adds_by (place_of c.args.contact) _ _ _ asked h c.let_go.ensures)
     c.enter_lines_over-ended.ensures

@@ -22,8 +22,7 @@ returns-in_err-enter_line g c =
     stops_to c.from_residual.result f c.args.batch (texts_of c.args.commands.now) _ _ _ _
     (search rules)
     (stops_at f c.args.batch c.args.commands.now c.loop-number.number command.result _ _ _ _ _ _ _ _
-    _ c.loop-number-test.true command.is c.loop-number.invariant c.in_err-enter_line.ensures.err
-    c.in_err-enter_line.ensures.asked)
+    _ c.loop-number-test.true command.is c.loop-number.invariant c.in_err-enter_line.ensures.err)
 
 pub returns : goal.returns
 returns g c =

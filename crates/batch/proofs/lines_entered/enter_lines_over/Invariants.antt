@@ -9,6 +9,5 @@ invariant-loop-number g l =
     AreEntered (place_of l.contact) l.batch l.commands l.number
     (g.W.Write.contents l.initial.writer) (g.W.Write.contents l.writer)
     (g.V.Watch.heard l.initial.watch) (g.V.Watch.heard l.watch)
-    (standing g.D.Dial.dialed g.D.Reader.Read.remaining g.D.Writer.Write.contents l.initial.dial
-    l.initial.held)
-    (standing g.D.Dial.dialed g.D.Reader.Read.remaining g.D.Writer.Write.contents l.dial l.held)
+    (standing g.D.Dial.dialed l.initial.dial l.initial.made)
+    (standing g.D.Dial.dialed l.dial l.made)

@@ -8,11 +8,8 @@ use Rattle.batch.proofs.log_asked.ask_log_over.Given as goal
 abbrev pub invariant-loop-told : goal.invariant-loop-told
 invariant-loop-told g l =
     (length l.log.entries ≤ l.told) × (l.told ≤ 65536)
-    × Asks (place_of l.contact) (standing g.D.Dial.dialed g.D.Reader.Read.remaining
-    g.D.Writer.Write.contents l.fn.dial
-    l.fn.held) (standing g.D.Dial.dialed g.D.Reader.Read.remaining g.D.Writer.Write.contents
-    l.dial
-    l.held)
+    × Asks (place_of l.contact) (standing g.D.Dial.dialed l.fn.dial l.fn.made)
+    (standing g.D.Dial.dialed l.dial l.made)
     (IsGoing l.receiver l.log.entries l.told)
 
 abbrev pub decreases-loop-told : goal.decreases-loop-told

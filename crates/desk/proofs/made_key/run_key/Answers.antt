@@ -1,7 +1,7 @@
 use Rattle.std.proofs.Common.{◌∙◌, ap, inl, inr, refl}
 use Rattle.std.proofs.KnownBytes.{Keeps-refl}
 use Rattle.desk_requests.specs.Statuses.{status_of}
-use Rattle.desk.proofs.Endings.{not_zero}
+use Rattle.subcommands.proofs.Ending.{not_zero}
 use Rattle.desk.proofs.made_key.run_key.Goals as goal
 
 pub returns-in-Ok : goal.returns-in-Ok

@@ -4,7 +4,8 @@ use Rattle.desk.specs.Statuses.{Ends, calls}
 use Rattle.desk_requests.specs.Statuses.{status_of}
 use Rattle.lines.specs.Bytes.{sides}
 use Rattle.replay.specs.Apart.{told}
-use Rattle.desk.proofs.Endings.{import_not_zero, not_zero, prints_at_most}
+use Rattle.subcommands.proofs.Ending.{not_zero}
+use Rattle.desk.proofs.Endings.{import_not_zero, prints_at_most}
 use Rattle.desk.proofs.running.run_task.Goals as goal
 
 pub returns-in-Err : goal.returns-in-Err

@@ -1,8 +1,6 @@
-use Rattle.std.proofs.Common.{◌≡◌, ◌+◌, Some, slice_get, take, sym}
-use Rattle.answers.specs.Answers.{texts}
-use Rattle.answers.proofs.Prefixes.{texts_after}
-use Rattle.commands.specs.History.{StandsFor}
-use Rattle.log_rows.proofs.Steps.{answered}
+use Rattle.std.proofs.Common.{◌≡◌, ◌+◌, Some, slice_get, take, sym, subst}
+use Rattle.answers.proofs.Transcripts.{take_more}
+use Rattle.answers.specs.Transcripts.{IsTranscript}
 use Rattle.log_rows.proofs.writing.take_row.Goals as goal
 
 pub returns : goal.returns
@@ -11,12 +9,10 @@ returns c = λ before.
     let k = c.args.position in
     let e = c.in-Some.entry.now in
     let there : slice_get log k ≡ Some e = sym c.in-Some.ensures in
-    let next =
-    rw (c.id.ensures.id, c.text.ensures.text) at
-    (c.in_ok-answer.ensures.stands (texts (take k log)) before) in
-    let stands : StandsFor c.apply.new.self (texts (take (k + 1) log)) =
-    rw (texts_after log k e there) next in
-    let is =
-    answered c.args.meet.now log k e c.in_ok-answer.answer c.id.result c.text.result.now before
-    c.in_ok-answer.ensures.answer c.id.ensures.id c.text.ensures.text in
-    (stands, c.in_ok-push_shown.ensures log there is)
+    let next : IsTranscript c.take.new.self (take (k + 1) log) =
+    subst (IsTranscript c.take.new.self) (sym (take_more log k e there))
+    (c.in_ok-answer.ensures.taken (take k log) before) in (
+      next,
+      c.in_ok-push_shown.ensures log there
+          (c.in_ok-answer.ensures.answer (take k log) before),
+    )

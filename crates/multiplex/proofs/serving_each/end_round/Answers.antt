@@ -1,7 +1,7 @@
 use Rattle.std.proofs.Common.{refl, subst, ◌∙◌, ◌++◌, true, false, None, Some}
 use Rattle.multiplex.specs.declared.ends.ServingEnd.TheVariants as over_is
 use Rattle.multiplex.specs.Musts.{EndsRound}
-use Rattle.multiplex.specs.Requests.{Asks}
+use Rattle.polled.specs.Requests.{Asks}
 use Rattle.multiplex.specs.Scenes.{scene}
 use Rattle.multiplex.specs.model.Asking.{AsksSome, WakesAll}
 use Rattle.multiplex.specs.model.Scenes.{Does}
@@ -14,7 +14,7 @@ use Rattle.multiplex.proofs.serving_each.end_round.Goals as goal
 
 pub returns-then-is_some-clause-does : goal.returns-then-is_some-clause-does
 returns-then-is_some-clause-does g c before told =
-    does_round g.D.Desk g.L.Peers g.C.Clients.happened c.args.terms c.args.now
+    does_round g.D.Desk g.L.Peers g.C.Sockets.happened c.args.terms c.args.now
     c.tick_if_due-over.result c.args.table.now c.tick_if_due-over.new.self c.renew.new.self
     c.args.table.now.said c.args.node.now c.tick_if_due-over.new.node c.args.links.now
     c.tick_if_due-over.new.peers c.tick_if_due-over.new.peers before c.args.clients.now
@@ -25,7 +25,7 @@ returns-then-is_some-clause-does g c before told =
 pub returns-then-not-settle-clause-does : goal.returns-then-not-settle-clause-does
 returns-then-not-settle-clause-does g c before told =
     let d = g.D.Desk in
-    let happened = g.C.Clients.happened in
+    let happened = g.C.Sockets.happened in
     let table = c.args.table.now in
     let home = d.home_of c.args.node.now in
     let next = c.tick_if_due-over.new.node in
@@ -50,7 +50,7 @@ returns-then-not-settle-clause-does g c before told =
 pub returns-clause-does : goal.returns-clause-does
 returns-clause-does g c before told =
     let d = g.D.Desk in
-    let happened = g.C.Clients.happened in
+    let happened = g.C.Sockets.happened in
     let table = c.args.table.now in
     let home = d.home_of c.args.node.now in
     let next = c.tick_if_due-over.new.node in
@@ -88,7 +88,7 @@ pub returns-then-is_some-clause-ends : goal.returns-then-is_some-clause-ends
 returns-then-is_some-clause-ends g c =
     let over = c.tick_if_due-over.result in
     let goes_on = some_of over c.is_some.result c.is_some.ensures c.if-is_some.true in
-    asks_none g.C.Clients.requests c.args.clients.now
+    asks_none g.C.Sockets.requests c.args.clients.now
     (EndsRound c.args.terms (g.D.Desk.home_of c.args.node.now) c.args.now over
     (g.D.Desk.seen c.tick_if_due-over.new.node)
     (timed c.args.table.now c.args.now c.tick_if_due-over.new.self c.renew.new.self
@@ -102,7 +102,7 @@ returns-then-is_some-clause-ends g c =
 
 pub returns-then-not-settle-clause-ends : goal.returns-then-not-settle-clause-ends
 returns-then-not-settle-clause-ends g c =
-    asks_none g.C.Clients.requests c.args.clients.now
+    asks_none g.C.Sockets.requests c.args.clients.now
     (EndsRound c.args.terms (g.D.Desk.home_of c.args.node.now) c.args.now (Some over_is.Down)
     (g.D.Desk.seen c.settle.new.self)
     (timed c.args.table.now c.args.now c.tick_if_due-over.new.self c.renew.new.self
@@ -120,7 +120,7 @@ returns-clause-ends g c =
     let home = d.home_of c.args.node.now in
     let x = d.seen c.settle.new.self in
     let guests = c.args.table.now.guests.items in
-    let requests = g.C.Clients.requests in
+    let requests = g.C.Sockets.requests in
     asks_both requests c.args.clients.now c.wake.new.clients c.let_go.new.clients
     (WakesAll home x c.args.now guests) AsksSome
     (EndsRound c.args.terms home c.args.now c.let_go.result x c.let_go.new.table

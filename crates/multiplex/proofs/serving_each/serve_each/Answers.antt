@@ -7,14 +7,14 @@ use Rattle.multiplex.proofs.serving_each.serve_each.Goals as goal
 
 pub returns-in_default-clause-served : goal.returns-in_default-clause-served
 returns-in_default-clause-served g c =
-    serves_none g.D.Desk g.L.Peers g.C.Clients.happened c.args.terms c.args.period
+    serves_none g.D.Desk g.L.Peers g.C.Sockets.happened c.args.terms c.args.period
     c.args.node.now c.args.links.now c.args.clients.now
 
 pub returns-clause-served : goal.returns-clause-served
 returns-clause-served g c =
     let table = c.in-Ok.ensures.empty in
     let over = c.serve_rounds-over.result in
-    serves_all g.D.Desk g.L.Peers g.C.Clients.happened c.args.terms c.args.period over c.in-Ok.table
+    serves_all g.D.Desk g.L.Peers g.C.Sockets.happened c.args.terms c.args.period over c.in-Ok.table
     c.serve_rounds-over.new.table c.let_all_go.new.table c.args.node.now
     c.serve_rounds-over.new.node c.args.links.now c.serve_rounds-over.new.links
     c.args.clients.now c.serve_rounds-over.new.clients c.let_all_go.new.clients
@@ -28,7 +28,7 @@ pub returns-clause-asks : goal.returns-clause-asks
 returns-clause-asks g c =
     let table = c.in-Ok.ensures.empty in
     let until = c.serve_rounds-over.ensures.asks in
-    let requests = g.C.Clients.requests in
+    let requests = g.C.Sockets.requests in
     let ends = c.let_all_go.ensures.asks in (
       until.0 ++ ends.0,
       Tells-trans (requests c.args.clients.now) (requests c.serve_rounds-over.new.clients)

@@ -1,7 +1,7 @@
 use Rattle.std.proofs.Common.{subst, sym, ap, ◌∙◌, eqb, None, Some, refl, inl, inr, arith}
 use Rattle.multiplex.specs.declared.ends.ServingEnd.TheVariants as over
 use Rattle.multiplex.specs.Musts.{Musts, stand}
-use Rattle.multiplex.specs.Requests.{Asks}
+use Rattle.polled.specs.Requests.{Asks}
 use Rattle.multiplex.specs.Scenes.{scene}
 use Rattle.multiplex.specs.model.Scenes.{Does}
 use Rattle.multiplex.specs.model.Tables.{AreKept}
@@ -13,7 +13,7 @@ use Rattle.multiplex.proofs.serving_each.serve_rounds.Goals as goal
 pub returns-then-table-terms-clause-does : goal.returns-then-table-terms-clause-does
 returns-then-table-terms-clause-does g c =
     let d = g.D.Desk in
-    let happened = g.C.Clients.happened in
+    let happened = g.C.Sockets.happened in
     let at = c.loop-step in
     let home = d.home_of c.args.node.now in
     let none =
@@ -30,7 +30,7 @@ returns-then-table-terms-clause-does g c =
 pub returns-in-Some-clause-does : goal.returns-in-Some-clause-does
 returns-in-Some-clause-does g c =
     let d = g.D.Desk in
-    let happened = g.C.Clients.happened in
+    let happened = g.C.Sockets.happened in
     let at = c.loop-step in
     does_both d g.L.Peers happened (d.home_of c.args.node.now) c.args.terms
     (Some c.in-Some.over) c.args.table.now at.table c.step.new.table
@@ -46,7 +46,7 @@ returns-in-Some-clause-does g c =
 pub loop-step-preserved : goal.loop-step-preserved
 loop-step-preserved g c =
     let d = g.D.Desk in
-    let happened = g.C.Clients.happened in
+    let happened = g.C.Sockets.happened in
     let at = c.loop-step in
     record {
       does =
@@ -66,14 +66,14 @@ loop-step-preserved g c =
       few = c.step.ensures.few;
       home = c.step.ensures.home ∙ at.invariant.home;
       asks =
-          steps_more g.C.Clients.requests g.L.PeerLinks.due g.L.PeerLinks.kept c.args.terms
+          steps_more g.C.Sockets.requests g.L.PeerLinks.due g.L.PeerLinks.kept c.args.terms
           (d.home_of c.args.node.now) at._step
           (stand c.args.table.now c.args.links.now (d.seen c.args.node.now))
           (stand at.table at.links (d.seen at.node))
           (stand c.step.new.table c.step.new.links (d.seen c.step.new.node)) c.args.clients.now
           at.clients c.step.new.clients at.invariant.asks
           (subst
-          (λ h. Asks g.C.Clients.requests at.clients c.step.new.clients
+          (λ h. Asks g.C.Sockets.requests at.clients c.step.new.clients
           (Musts g.L.PeerLinks.due g.L.PeerLinks.kept c.args.terms h (d.seen c.step.new.node) None at.table
           c.step.new.table at.links c.step.new.links)) at.invariant.home
           c.in_default.ensures.asks);
@@ -82,7 +82,7 @@ loop-step-preserved g c =
 pub returns-clause-does : goal.returns-clause-does
 returns-clause-does g c =
     let d = g.D.Desk in
-    let happened = g.C.Clients.happened in
+    let happened = g.C.Sockets.happened in
     let at = c.loop-step in
     let home = d.home_of c.args.node.now in
     does_both d g.L.Peers happened home c.args.terms (Some over.Tired) c.args.table.now at.table
@@ -98,7 +98,7 @@ returns-then-table-terms-clause-asks g c =
     let none =
     is_empty at.table.guests.items
     (c.if-is_empty.ensures ∙ ap (λ n. eqb n 0) at.table.guests.ok.0) in
-    until_here g.C.Clients.requests g.L.PeerLinks.due g.L.PeerLinks.kept c.args.terms
+    until_here g.C.Sockets.requests g.L.PeerLinks.due g.L.PeerLinks.kept c.args.terms
     (d.home_of c.args.node.now) over.All at._step
     (stand c.args.table.now c.args.links.now (d.seen c.args.node.now))
     (stand at.table at.links (d.seen at.node)) c.args.clients.now at.clients at.invariant.asks
@@ -108,14 +108,14 @@ pub returns-in-Some-clause-asks : goal.returns-in-Some-clause-asks
 returns-in-Some-clause-asks g c =
     let d = g.D.Desk in
     let at = c.loop-step in
-    until_step g.C.Clients.requests g.L.PeerLinks.due g.L.PeerLinks.kept c.args.terms
+    until_step g.C.Sockets.requests g.L.PeerLinks.due g.L.PeerLinks.kept c.args.terms
     (d.home_of c.args.node.now) c.in-Some.over at._step
     (stand c.args.table.now c.args.links.now (d.seen c.args.node.now))
     (stand at.table at.links (d.seen at.node))
     (stand c.step.new.table c.step.new.links (d.seen c.step.new.node)) c.args.clients.now
     at.clients c.step.new.clients at.invariant.asks
     (subst
-    (λ h. Asks g.C.Clients.requests at.clients c.step.new.clients
+    (λ h. Asks g.C.Sockets.requests at.clients c.step.new.clients
     (Musts g.L.PeerLinks.due g.L.PeerLinks.kept c.args.terms h (d.seen c.step.new.node)
     (Some c.in-Some.over) at.table c.step.new.table at.links c.step.new.links))
     at.invariant.home c.in-Some.ensures.asks)
@@ -124,7 +124,7 @@ pub returns-clause-asks : goal.returns-clause-asks
 returns-clause-asks g c =
     let d = g.D.Desk in
     let at = c.loop-step in
-    until_here g.C.Clients.requests g.L.PeerLinks.due g.L.PeerLinks.kept c.args.terms
+    until_here g.C.Sockets.requests g.L.PeerLinks.due g.L.PeerLinks.kept c.args.terms
     (d.home_of c.args.node.now) over.Tired at._step
     (stand c.args.table.now c.args.links.now (d.seen c.args.node.now))
     (stand at.table at.links (d.seen at.node)) c.args.clients.now at.clients at.invariant.asks

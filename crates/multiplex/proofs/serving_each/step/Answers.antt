@@ -8,7 +8,7 @@ use Rattle.multiplex.proofs.serving_each.step.Goals as goal
 pub returns-in-Waits-clause-does : goal.returns-in-Waits-clause-does
 returns-in-Waits-clause-does g c =
     let home = g.D.Desk.home_of c.args.node.now in
-    let happened = g.C.Clients.happened in
+    let happened = g.C.Sockets.happened in
     let table = c.args.table.now in
     does_changes g.D.Desk g.L.Peers happened home c.args.terms c.admit.result table
     c.admit.new.table c.args.node.now c.args.links.now c.args.clients.now c.admit.new.clients
@@ -20,7 +20,7 @@ returns-in-Waits-clause-does g c =
 
 pub returns-in-Peer-clause-does : goal.returns-in-Peer-clause-does
 returns-in-Peer-clause-does g c =
-    does_answer g.D.Desk g.L.Peers g.C.Clients.happened (g.D.Desk.home_of c.args.node.now)
+    does_answer g.D.Desk g.L.Peers g.C.Sockets.happened (g.D.Desk.home_of c.args.node.now)
     c.args.terms c.in-Peer.number c.visit.result c.args.table.now c.visit.new.table
     c.args.node.now c.visit.new.node c.args.links.now c.visit.new.peers c.args.clients.now
     c.ready.new.self c.visit.new.clients c.in-Peer.ensures.told c.visit.ensures.answers
@@ -35,13 +35,13 @@ returns-in-Round-clause-kept g c =
 
 pub returns-in-Failed-clause-does : goal.returns-in-Failed-clause-does
 returns-in-Failed-clause-does g c =
-    does_stop g.D.Desk g.L.Peers g.C.Clients.happened (g.D.Desk.home_of c.args.node.now)
+    does_stop g.D.Desk g.L.Peers g.C.Sockets.happened (g.D.Desk.home_of c.args.node.now)
     c.args.terms over.Failed c.args.table.now c.args.node.now c.args.links.now
     c.args.clients.now c.ready.new.self tt c.in-Failed.ensures.told
 
 pub returns-in-Waits-clause-asks : goal.returns-in-Waits-clause-asks
 returns-in-Waits-clause-asks g c =
-    musts_ask g.C.Clients.requests g.L.PeerLinks.due g.L.PeerLinks.kept c.args.terms
+    musts_ask g.C.Sockets.requests g.L.PeerLinks.due g.L.PeerLinks.kept c.args.terms
     (g.D.Desk.home_of c.args.node.now) (g.D.Desk.seen c.args.node.now) c.admit.result
     c.args.table.now c.admit.new.table c.args.links.now c.args.links.now c.args.clients.now
     c.ready.new.self c.admit.new.clients c.wait_of.result ready_is.Waits
@@ -50,7 +50,7 @@ returns-in-Waits-clause-asks g c =
 
 pub returns-in-Peer-clause-asks : goal.returns-in-Peer-clause-asks
 returns-in-Peer-clause-asks g c =
-    musts_ask g.C.Clients.requests g.L.PeerLinks.due g.L.PeerLinks.kept c.args.terms
+    musts_ask g.C.Sockets.requests g.L.PeerLinks.due g.L.PeerLinks.kept c.args.terms
     (g.D.Desk.home_of c.args.node.now) (g.D.Desk.seen c.visit.new.node) c.visit.result
     c.args.table.now c.visit.new.table c.args.links.now c.visit.new.peers c.args.clients.now
     c.ready.new.self c.visit.new.clients c.wait_of.result (ready_is.Peer c.in-Peer.number)
@@ -59,7 +59,7 @@ returns-in-Peer-clause-asks g c =
 
 pub returns-in-Round-clause-asks : goal.returns-in-Round-clause-asks
 returns-in-Round-clause-asks g c =
-    musts_ask g.C.Clients.requests g.L.PeerLinks.due g.L.PeerLinks.kept c.args.terms
+    musts_ask g.C.Sockets.requests g.L.PeerLinks.due g.L.PeerLinks.kept c.args.terms
     (g.D.Desk.home_of c.args.node.now) (g.D.Desk.seen c.end_round.new.node) c.end_round.result
     c.args.table.now c.end_round.new.table c.args.links.now c.end_round.new.links
     c.args.clients.now c.ready.new.self c.end_round.new.clients c.wait_of.result

@@ -1,6 +1,6 @@
 use Rattle.std.proofs.Common.{arith, length}
 use Rattle.multiplex.specs.Musts.{Accepts, Admits, MakesPlace}
-use Rattle.multiplex.specs.declared.clients.AcceptedClient.TheVariants as accepted_is
+use Rattle.polled.specs.declared.answers.AcceptedPeer.TheVariants as accepted_is
 use Rattle.multiplex.specs.declared.ends.EndReason.TheVariants as why
 use Rattle.multiplex.proofs.Asked.{admits_crowded, asks_both}
 use Rattle.multiplex.proofs.Shutting.{alters_both}
@@ -26,7 +26,7 @@ returns-clause-kept g c h = c.enter-2.ensures.kept (c.crowd_out.ensures.kept _ _
 
 pub returns-clause-asks : goal.returns-clause-asks
 returns-clause-asks g c =
-    asks_both g.C.Clients.requests c.args.clients.now c.crowd_out.new.clients
+    asks_both g.C.Sockets.requests c.args.clients.now c.crowd_out.new.clients
     c.enter-2.new.clients
     (MakesPlace 0 (length c.args.table.now.guests.items) accepted_is.Full)
     (Accepts c.crowd_out.new.table.next (length c.crowd_out.new.table.guests.items))

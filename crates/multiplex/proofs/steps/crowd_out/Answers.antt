@@ -6,7 +6,7 @@ use Rattle.multiplex.proofs.steps.crowd_out.Goals as goal
 
 pub returns-clause-alters : goal.returns-clause-alters
 returns-clause-alters g c home t w room =
-    shuts g.C.Clients.happened home t w c.in_ok-place.place c.shut.result c.args.table.now
+    shuts g.C.Sockets.happened home t w c.in_ok-place.place c.shut.result c.args.table.now
     c.shut.new.table c.args.clients.now c.shut.new.clients
     (λ before after gone len found.
     room_cause t w (lobby_of c.args.table.now None) gone refl room
@@ -18,5 +18,5 @@ returns-clause-alters g c home t w room =
 
 pub returns-clause-kept : goal.returns-clause-kept
 returns-clause-kept g c home wire =
-    shut_keeps g.C.Clients.happened c.in_ok-place.place c.shut.result c.args.table.now
+    shut_keeps g.C.Sockets.happened c.in_ok-place.place c.shut.result c.args.table.now
     c.shut.new.table c.args.clients.now c.shut.new.clients c.shut.ensures.shut home wire

@@ -11,5 +11,5 @@ returns-clause-told g c = (
 
 pub returns-clause-asks : goal.returns-clause-asks
 returns-clause-asks g c =
-    offers_ends g.C.Clients.requests c.args.clients.now c.offer_last.new.clients c.close.new.self
+    offers_ends g.C.Sockets.requests c.args.clients.now c.offer_last.new.clients c.close.new.self
     c.args.guest.now c.offer_last.ensures.asks c.close.ensures.requests

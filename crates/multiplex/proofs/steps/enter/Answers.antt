@@ -1,8 +1,8 @@
 use Rattle.std.proofs.Common.{◌≡◌, refl, List, [], ◌∷◌, length}
 use Rattle.multiplex.specs.declared.ends.EndReason.TheVariants as why
 use Rattle.multiplex.specs.Musts.{Accepts, MakesPlace}
-use Rattle.multiplex.specs.Requests.{Accepting, Request}
-use Rattle.multiplex.specs.declared.clients.AcceptedClient.TheVariants as accepted_is
+use Rattle.polled.specs.Requests.{Accepting, Request}
+use Rattle.polled.specs.declared.answers.AcceptedPeer.TheVariants as accepted_is
 use Rattle.multiplex.specs.model.Asking.{MayClose}
 use Rattle.multiplex.proofs.Asked.{accepts_came, accepts_full, asks_both}
 use Rattle.multiplex.proofs.Shutting.{enters, no_socket, welcome_keeps}
@@ -30,7 +30,7 @@ returns-in-Came-clause-asks g c =
     let next = c.args.table.now.next in
     let count = length c.args.table.now.guests.items in
     let one = Accepting next (accepted_is.Came c.in-Came.random) ∷ [] in
-    asks_both g.C.Clients.requests c.args.clients.now c.accept.new.self c.welcome.new.clients
+    asks_both g.C.Sockets.requests c.args.clients.now c.accept.new.self c.welcome.new.clients
     (λ (xs : List Request). xs ≡ one) (MayClose next) (Accepts next count)
     (λ xs ys is h. accepts_came next count c.in-Came.random xs ys is h)
     (one, c.in-Came.ensures.requests, refl) c.welcome.ensures.asks
@@ -40,7 +40,7 @@ returns-in-Full-clause-asks g c =
     let next = c.args.table.now.next in
     let count = length c.args.table.now.guests.items in
     let one = Accepting next accepted_is.Full ∷ [] in
-    asks_both g.C.Clients.requests c.args.clients.now c.accept.new.self c.crowd_out.new.clients
+    asks_both g.C.Sockets.requests c.args.clients.now c.accept.new.self c.crowd_out.new.clients
     (λ (xs : List Request). xs ≡ one) (MakesPlace 0 count accepted_is.Full) (Accepts next count)
     (λ xs ys is h. accepts_full next count xs ys is h)
     (one, c.in-Full.ensures.requests, refl) c.crowd_out.ensures.asks

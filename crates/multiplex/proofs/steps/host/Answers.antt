@@ -1,7 +1,7 @@
 use Rattle.std.proofs.Common.{refl, subst, ◌∷◌, [], Some}
 use Rattle.multiplex.specs.declared.ends.EndReason.TheVariants as why
 use Rattle.polled.specs.Telling.{Tells}
-use Rattle.multiplex.specs.Happenings.{watched}
+use Rattle.polled.specs.Happenings.{watched}
 use Rattle.multiplex.specs.model.Scenes.{at_guest}
 use Rattle.multiplex.specs.model.Visiting.{beside}
 use Rattle.multiplex.specs.Scenes.{scene}
@@ -11,18 +11,18 @@ use Rattle.multiplex.proofs.steps.host.Goals as goal
 
 pub returns-in-Some-clause-asks : goal.returns-in-Some-clause-asks
 returns-in-Some-clause-asks g c =
-    hosts_ended g.C.Clients.requests c.args.clients.now c.talk_on.new.clients
+    hosts_ended g.C.Sockets.requests c.args.clients.now c.talk_on.new.clients
     c.args.guest.now.number c.args.guest.now _ _ c.in-Some.ensures.asks
 
 pub returns-then-stays_off-clause-asks : goal.returns-then-stays_off-clause-asks
 returns-then-stays_off-clause-asks g c =
-    hosts_off g.C.Clients.requests c.args.clients.now c.talk_on.new.clients
+    hosts_off g.C.Sockets.requests c.args.clients.now c.talk_on.new.clients
     c.args.guest.now.number c.args.guest.now _ c.is_some-was_off.result c.in_default.ensures.asks
     c.is_some-was_off.ensures c.if-stays_off.ensures
 
 pub returns-then-watch-clause-asks : goal.returns-then-watch-clause-asks
 returns-then-watch-clause-asks g c =
-    hosts_watched g.C.Clients.requests c.args.clients.now c.talk_on.new.clients
+    hosts_watched g.C.Sockets.requests c.args.clients.now c.talk_on.new.clients
     c.watch.new.self c.args.guest.now.number c.args.guest.now _ c.is_some-was_off.result
     c.waits_to_read.result _ c.watch.result c.in_default.ensures.asks
     c.watch.ensures.requests c.is_some-was_off.ensures c.if-stays_off.ensures
@@ -30,13 +30,13 @@ returns-then-watch-clause-asks g c =
 
 pub returns-else-watch-clause-asks : goal.returns-else-watch-clause-asks
 returns-else-watch-clause-asks g c =
-    hosts_unwatched g.C.Clients.requests c.args.clients.now c.talk_on.new.clients
+    hosts_unwatched g.C.Sockets.requests c.args.clients.now c.talk_on.new.clients
     c.watch.new.self c.args.guest.now.number c.args.guest.now _ why.Broke
     _ c.in_default.ensures.asks c.watch.ensures.requests
 
 pub returns-then-watch-clause-hosts : goal.returns-then-watch-clause-hosts
 returns-then-watch-clause-hosts g c =
-    let happened = g.C.Clients.happened in
+    let happened = g.C.Sockets.happened in
     let t = c.in_default.ensures.talks in (
       t.0,
       t.1,
@@ -59,7 +59,7 @@ returns-then-watch-clause-hosts g c =
 
 pub returns-else-watch-clause-hosts : goal.returns-else-watch-clause-hosts
 returns-else-watch-clause-hosts g c =
-    let happened = g.C.Clients.happened in
+    let happened = g.C.Sockets.happened in
     let t = c.in_default.ensures.talks in (
       t.0,
       t.1,

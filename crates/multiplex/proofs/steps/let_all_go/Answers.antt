@@ -7,8 +7,8 @@ use Rattle.multiplex.proofs.steps.let_all_go.Goals as goal
 
 pub loop-guest-init : goal.loop-guest-init
 loop-guest-init g c = record {
-  told = λ home t over. ([], refl, Tells-nil (g.C.Clients.happened c.args.clients.now));
-  asks = ends_none g.C.Clients.requests c.args.clients.now c.args.table.now.guests.items;
+  told = λ home t over. ([], refl, Tells-nil (g.C.Sockets.happened c.args.clients.now));
+  asks = ends_none g.C.Sockets.requests c.args.clients.now c.args.table.now.guests.items;
 }
 
 pub loop-guest-preserved : goal.loop-guest-preserved
@@ -24,11 +24,11 @@ loop-guest-preserved g c =
       differs = table.differs;
       said = table.said;
     } in
-    let requests = g.C.Clients.requests in
+    let requests = g.C.Sockets.requests in
     let gone = c.in-Some.guest in
     record {
       told = λ home t over.
-          empties_more g.C.Clients.happened home t over c.args.table.now table left gone
+          empties_more g.C.Sockets.happened home t over c.args.table.now table left gone
           c.end_last.new.guest.talk c.args.clients.now c.loop-guest.clients c.end_last.new.clients
           c.in-Some.ensures.items refl refl refl refl refl
           (c.loop-guest.invariant.told home t over) c.end_last.ensures.told;
@@ -40,7 +40,7 @@ loop-guest-preserved g c =
 pub returns-clause-told : goal.returns-clause-told
 returns-clause-told g c home t over =
     let table = c.loop-guest.table in
-    empties_same g.C.Clients.happened home t over c.args.table.now table
+    empties_same g.C.Sockets.happened home t over c.args.table.now table
     (record {
       guests = c.pop.new.self;
       next = table.next;
@@ -56,7 +56,7 @@ returns-clause-told g c home t over =
 
 pub returns-clause-asks : goal.returns-clause-asks
 returns-clause-asks g c =
-    ends_all g.C.Clients.requests c.args.clients.now c.loop-guest.clients
+    ends_all g.C.Sockets.requests c.args.clients.now c.loop-guest.clients
     c.args.table.now.guests.items c.loop-guest.table.guests.items
     (none_left c.loop-guest.table.guests.items
     (λ some.

@@ -1,4 +1,4 @@
-use Rattle.multiplex.specs.Requests.{Asks}
+use Rattle.polled.specs.Requests.{Asks}
 use Rattle.multiplex.specs.declared.ends.ServingEnd.{ServingEnd}
 use Rattle.multiplex.specs.declared.table.ServingOptions.{ServingOptions}
 use Rattle.multiplex.specs.model.Scenes.{Empties}
@@ -10,9 +10,9 @@ use Rattle.multiplex.proofs.steps.let_all_go.Given as goal
 abbrev pub invariant-loop-guest : goal.invariant-loop-guest
 invariant-loop-guest g l = record {
   told : (home : Home) (t : ServingOptions) (over : ServingEnd)
-      → Empties g.C.Clients.happened home t over l.initial.table l.table l.initial.clients
+      → Empties g.C.Sockets.happened home t over l.initial.table l.table l.initial.clients
       l.clients;
-  asks : Asks g.C.Clients.requests l.initial.clients l.clients
+  asks : Asks g.C.Sockets.requests l.initial.clients l.clients
       (EndsSome l.initial.table.guests.items l.table.guests.items);
 }
 

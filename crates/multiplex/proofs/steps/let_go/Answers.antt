@@ -22,7 +22,7 @@ returns-in-Some-shut-clause-alters g c home t same =
 
 pub returns-in-Some-shut-clause-kept : goal.returns-in-Some-shut-clause-kept
 returns-in-Some-shut-clause-kept g c home wire h =
-    shut_keeps g.C.Clients.happened c.in-Some.place c.shut.result c.loop-place.table
+    shut_keeps g.C.Sockets.happened c.in-Some.place c.shut.result c.loop-place.table
     c.shut.new.table c.loop-place.clients c.shut.new.clients c.shut.ensures.shut home wire
     (c.loop-place.invariant.kept home wire h)
 
@@ -50,7 +50,7 @@ loop-place-preserved g c =
           c.in_default-shut.ensures.shut);
       kept =
           λ home wire h.
-          shut_keeps g.C.Clients.happened c.in-Some.place c.shut.result table
+          shut_keeps g.C.Sockets.happened c.in-Some.place c.shut.result table
           c.shut.new.table c.loop-place.clients c.shut.new.clients c.shut.ensures.shut home wire
           (c.loop-place.invariant.kept home wire h);
       woken =
@@ -62,13 +62,13 @@ loop-place-preserved g c =
       fewer =
           omega (
             arith,
-            shut_fewer g.C.Clients.happened c.in-Some.place c.shut.result table c.shut.new.table
+            shut_fewer g.C.Sockets.happened c.in-Some.place c.shut.result table c.shut.new.table
                 c.loop-place.clients c.shut.new.clients c.shut.ensures.shut,
             c.loop-place.invariant.fewer,
           );
       time = c.shut.ensures.shut.4.time ∙ c.loop-place.invariant.time;
       asks =
-          asks_some g.C.Clients.requests c.args.clients.now c.loop-place.clients
+          asks_some g.C.Sockets.requests c.args.clients.now c.loop-place.clients
           c.shut.new.clients c.shut.ensures.asks.0 c.loop-place.invariant.asks
           c.shut.ensures.asks.1;
     }
@@ -79,7 +79,7 @@ returns-in-Some-shut-clause-time g c =
 
 pub returns-in-Some-shut-clause-asks : goal.returns-in-Some-shut-clause-asks
 returns-in-Some-shut-clause-asks g c =
-    asks_some g.C.Clients.requests c.args.clients.now c.loop-place.clients c.shut.new.clients
+    asks_some g.C.Sockets.requests c.args.clients.now c.loop-place.clients c.shut.new.clients
     c.shut.ensures.asks.0 c.loop-place.invariant.asks c.shut.ensures.asks.1
 
 pub returns-clause-silent : goal.returns-clause-silent

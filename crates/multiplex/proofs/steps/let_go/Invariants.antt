@@ -1,6 +1,6 @@
 use Rattle.std.proofs.Common.{◌≡◌, ◌≤◌, length, None}
 use Rattle.multiplex.specs.declared.table.ServingOptions.{ServingOptions}
-use Rattle.multiplex.specs.Requests.{Asks}
+use Rattle.polled.specs.Requests.{Asks}
 use Rattle.multiplex.specs.model.Asking.{AsksSome, KeepsWoken}
 use Rattle.multiplex.specs.model.Scenes.{AltersSome}
 use Rattle.multiplex.specs.model.Tables.{KeepsAll}
@@ -11,13 +11,13 @@ use Rattle.multiplex.proofs.steps.let_go.Given as goal
 abbrev pub invariant-loop-place : goal.invariant-loop-place
 invariant-loop-place g l = record {
   alters : (home : Home) (t : ServingOptions) → t.patience ≡ l.patience
-      → AltersSome g.C.Clients.happened home t None l.initial.table l.table l.initial.clients
+      → AltersSome g.C.Sockets.happened home t None l.initial.table l.table l.initial.clients
       l.clients;
   kept : KeepsAll l.initial.table l.table;
   woken : KeepsWoken l.initial.table.guests.items l.table.guests.items;
   fewer : length l.table.guests.items ≤ length l.initial.table.guests.items;
   time : l.table.time ≡ l.initial.table.time;
-  asks : Asks g.C.Clients.requests l.initial.clients l.clients AsksSome;
+  asks : Asks g.C.Sockets.requests l.initial.clients l.clients AsksSome;
 }
 
 abbrev pub decreases-loop-place : goal.decreases-loop-place

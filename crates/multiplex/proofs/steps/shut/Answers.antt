@@ -1,5 +1,5 @@
 use Rattle.std.proofs.Common.{ap, sym, ◌∙◌, refl, take, drop, suc, [], ◌∷◌}
-use Rattle.multiplex.specs.Requests.{Closing}
+use Rattle.polled.specs.Requests.{Closing}
 use Rattle.multiplex.specs.Passing.{over_by}
 use Rattle.multiplex.proofs.Placed.{left_as, split_as, split_at}
 use Rattle.multiplex.proofs.steps.shut.Goals as goal

@@ -16,7 +16,7 @@ returns-in_default-clause-answers g c = (
   c.args.node.now,
   true,
   None,
-  answers_nobody g.D.Desk g.P.Peers g.C.Clients.happened (g.D.Desk.home_of c.args.node.now)
+  answers_nobody g.D.Desk g.P.Peers g.C.Sockets.happened (g.D.Desk.home_of c.args.node.now)
       c.args.terms c.args.number c.args.table.now
       (scene c.args.node.now c.args.peers.now c.args.clients.now)
       (sym c.place_of.ensures ∙ c.in_default.is),
@@ -38,7 +38,7 @@ returns-in-None-clause-answers g c =
       h.0,
       h.1,
       None,
-      answers_stay g.D.Desk g.P.Peers g.C.Clients.happened home c.args.terms c.args.number place
+      answers_stay g.D.Desk g.P.Peers g.C.Sockets.happened home c.args.terms c.args.number place
           table (visited table place new c.host.new.dear c.host.new.differs) old new at.before
           at.after
           (scene c.args.node.now c.args.peers.now c.args.clients.now)
@@ -59,7 +59,7 @@ returns-in-None-clause-kept g c =
     met home c.args.terms.wire c.args.number table place old new
     (sym c.place_of.ensures ∙ c.in-Some.is) c.index_mut-guest.ensures.value c.requires.kept in
     let h = c.in-None.ensures.hosts in
-    stay_keeps g.D.Desk g.P.Peers g.C.Clients.happened home c.args.terms.wire place table
+    stay_keeps g.D.Desk g.P.Peers g.C.Sockets.happened home c.args.terms.wire place table
     (visited table place new c.host.new.dear c.host.new.differs) old new at.before at.after
     (scene c.args.node.now c.args.peers.now c.args.clients.now)
     (scene h.0 c.host.new.peers c.host.new.clients) at.split refl
@@ -79,7 +79,7 @@ returns-else-is_over-clause-answers g c =
       h.0,
       h.1,
       c.shut-over.result,
-      answers_leave g.D.Desk g.P.Peers g.C.Clients.happened home c.args.terms c.args.number
+      answers_leave g.D.Desk g.P.Peers g.C.Sockets.happened home c.args.terms c.args.number
           c.in-Some-host.why place c.shut-over.result table
           (visited table place new c.host.new.dear c.host.new.differs) c.shut-over.new.table old new
           at.before at.after (scene c.args.node.now c.args.peers.now c.args.clients.now) h.0
@@ -104,7 +104,7 @@ returns-then-is_over-clause-answers g c =
       h.0,
       h.1,
       c.shut-over.result,
-      answers_leave g.D.Desk g.P.Peers g.C.Clients.happened home c.args.terms c.args.number
+      answers_leave g.D.Desk g.P.Peers g.C.Sockets.happened home c.args.terms c.args.number
           c.in-Some-host.why place c.shut-over.result table
           (visited table place new c.host.new.dear c.host.new.differs) c.shut-over.new.table old new
           at.before at.after (scene c.args.node.now c.args.peers.now c.args.clients.now) h.0
@@ -125,7 +125,7 @@ returns-else-is_over-clause-kept g c =
     let at =
     met home c.args.terms.wire c.args.number table place old new
     (sym c.place_of.ensures ∙ c.in-Some.is) c.index_mut-guest.ensures.value c.requires.kept in
-    leave_keeps g.C.Clients.happened home c.args.terms.wire place c.shut-over.result table
+    leave_keeps g.C.Sockets.happened home c.args.terms.wire place c.shut-over.result table
     (visited table place new c.host.new.dear c.host.new.differs) c.shut-over.new.table old new at.before
     at.after c.host.new.clients c.shut-over.new.clients at.split refl refl refl refl c.shut-over.ensures.shut
     c.host.ensures.noted.1 c.requires.kept
@@ -140,7 +140,7 @@ returns-then-is_over-clause-kept g c =
     let at =
     met home c.args.terms.wire c.args.number table place old new
     (sym c.place_of.ensures ∙ c.in-Some.is) c.index_mut-guest.ensures.value c.requires.kept in
-    leave_keeps g.C.Clients.happened home c.args.terms.wire place c.shut-over.result table
+    leave_keeps g.C.Sockets.happened home c.args.terms.wire place c.shut-over.result table
     (visited table place new c.host.new.dear c.host.new.differs) c.shut-over.new.table old new at.before
     at.after c.host.new.clients c.shut-over.new.clients at.split refl refl refl refl c.shut-over.ensures.shut
     c.host.ensures.noted.1 c.requires.kept
@@ -148,7 +148,7 @@ returns-then-is_over-clause-kept g c =
 pub returns-in_default-clause-asks : goal.returns-in_default-clause-asks
 returns-in_default-clause-asks g c =
     let guests = c.args.table.now.guests.items in
-    asks_none g.C.Clients.requests c.args.clients.now (Attends c.args.number guests guests)
+    asks_none g.C.Sockets.requests c.args.clients.now (Attends c.args.number guests guests)
     (attends_nobody c.args.number guests (sym c.place_of.ensures ∙ c.in_default.is))
 
 pub returns-in-None-clause-asks : goal.returns-in-None-clause-asks
@@ -162,7 +162,7 @@ returns-in-None-clause-asks g c =
     met home c.args.terms.wire c.args.number table place old new
     (sym c.place_of.ensures ∙ c.in-Some.is) c.index_mut-guest.ensures.value c.requires.kept in
     let items = (visited table place new c.host.new.dear c.host.new.differs).guests.items in
-    asks_as g.C.Clients.requests c.args.clients.now c.host.new.clients
+    asks_as g.C.Sockets.requests c.args.clients.now c.host.new.clients
     (AsksHosted old.number old new None)
     (Attends c.args.number table.guests.items items)
     (λ xs h.
@@ -183,10 +183,10 @@ returns-else-is_over-clause-asks g c =
     let w = c.in-Some-host.why in
     let mid = visited table place new c.host.new.dear c.host.new.differs in
     let left =
-    leaving g.C.Clients.happened place c.shut-over.result table mid c.shut-over.new.table old new at.before
+    leaving g.C.Sockets.happened place c.shut-over.result table mid c.shut-over.new.table old new at.before
     at.after c.host.new.clients c.shut-over.new.clients at.split refl refl refl refl
     c.shut-over.ensures.shut in
-    asks_both g.C.Clients.requests c.args.clients.now c.host.new.clients c.shut-over.new.clients
+    asks_both g.C.Sockets.requests c.args.clients.now c.host.new.clients c.shut-over.new.clients
     (AsksHosted old.number old new (Some w))
     (ClosesAt place mid.guests.items)
     (Attends c.args.number table.guests.items c.shut-over.new.table.guests.items)
@@ -209,10 +209,10 @@ returns-then-is_over-clause-asks g c =
     let w = c.in-Some-host.why in
     let mid = visited table place new c.host.new.dear c.host.new.differs in
     let left =
-    leaving g.C.Clients.happened place c.shut-over.result table mid c.shut-over.new.table old new at.before
+    leaving g.C.Sockets.happened place c.shut-over.result table mid c.shut-over.new.table old new at.before
     at.after c.host.new.clients c.shut-over.new.clients at.split refl refl refl refl
     c.shut-over.ensures.shut in
-    asks_both g.C.Clients.requests c.args.clients.now c.host.new.clients c.shut-over.new.clients
+    asks_both g.C.Sockets.requests c.args.clients.now c.host.new.clients c.shut-over.new.clients
     (AsksHosted old.number old new (Some w))
     (ClosesAt place mid.guests.items)
     (Attends c.args.number table.guests.items c.shut-over.new.table.guests.items)

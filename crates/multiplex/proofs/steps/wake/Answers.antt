@@ -8,10 +8,10 @@ use Rattle.multiplex.proofs.steps.wake.Goals as goal
 pub loop-guest-init : goal.loop-guest-init
 loop-guest-init g c = record {
   told = λ home t.
-      alters_none g.C.Clients.happened home t c.args.table.now c.args.clients.now
-      c.args.clients.now (Tells-nil (g.C.Clients.happened c.args.clients.now));
+      alters_none g.C.Sockets.happened home t c.args.table.now c.args.clients.now
+      c.args.clients.now (Tells-nil (g.C.Sockets.happened c.args.clients.now));
   asks =
-      asks_none g.C.Clients.requests c.args.clients.now
+      asks_none g.C.Sockets.requests c.args.clients.now
       (WakesAll (g.D.Desk.home_of c.args.node.now) (g.D.Desk.seen c.args.node.now)
       c.args.table.now.time []) tt;
 }
@@ -22,11 +22,11 @@ loop-guest-preserved g c =
     let table = c.args.table.now in
     record {
       told = λ home t.
-          alters_both g.C.Clients.happened home t None table table table c.args.clients.now
+          alters_both g.C.Sockets.happened home t None table table table c.args.clients.now
           at.clients c.wake_one.new.clients (at.invariant.told home t)
           (c.wake_one.ensures.told home t table);
       asks =
-          wakes_one g.C.Clients.requests c.args.clients.now at.clients c.wake_one.new.clients
+          wakes_one g.C.Sockets.requests c.args.clients.now at.clients c.wake_one.new.clients
           (g.D.Desk.home_of c.args.node.now) (g.D.Desk.seen c.args.node.now) table.time
           table.guests.items at.guest-index c.guest-item.result (omega arith)
           (subst (λ z. c.guest-item.result ≡ get_or z at.guest-index c.guest-item.result)
@@ -38,7 +38,7 @@ returns-clause-told g c = c.loop-guest.invariant.told
 
 pub returns-clause-asks : goal.returns-clause-asks
 returns-clause-asks g c =
-    wakes_all g.C.Clients.requests c.args.clients.now c.loop-guest.clients
+    wakes_all g.C.Sockets.requests c.args.clients.now c.loop-guest.clients
     (g.D.Desk.home_of c.args.node.now) (g.D.Desk.seen c.args.node.now) c.args.table.now.time
     c.args.table.now.guests.items c.loop-guest.guest-index (omega arith)
     c.loop-guest.invariant.asks

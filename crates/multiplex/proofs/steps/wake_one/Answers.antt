@@ -1,5 +1,5 @@
 use Rattle.std.proofs.Common.{refl, ◌∷◌, [], true}
-use Rattle.multiplex.specs.Requests.{Watching}
+use Rattle.polled.specs.Requests.{Watching}
 use Rattle.polled.proofs.Telling.{Tells-nil}
 use Rattle.multiplex.proofs.Asked.{asleep}
 use Rattle.multiplex.proofs.Shutting.{alters_none, may_watch}
@@ -7,17 +7,17 @@ use Rattle.multiplex.proofs.steps.wake_one.Goals as goal
 
 pub returns-then-not-is_awake-clause-told : goal.returns-then-not-is_awake-clause-told
 returns-then-not-is_awake-clause-told g c home t table =
-    alters_none g.C.Clients.happened home t table c.args.clients.now c.args.clients.now
-    (Tells-nil (g.C.Clients.happened c.args.clients.now))
+    alters_none g.C.Sockets.happened home t table c.args.clients.now c.args.clients.now
+    (Tells-nil (g.C.Sockets.happened c.args.clients.now))
 
 pub returns-then-not-is_awake-clause-asks : goal.returns-then-not-is_awake-clause-asks
 returns-then-not-is_awake-clause-asks g c =
-    asleep g.C.Clients.requests c.args.clients.now (g.D.Desk.home_of c.args.node.now)
+    asleep g.C.Sockets.requests c.args.clients.now (g.D.Desk.home_of c.args.node.now)
     (g.D.Desk.seen c.args.node.now) c.args.time c.args.guest.now c.if-not-is_awake.ensures
 
 pub returns-clause-told : goal.returns-clause-told
 returns-clause-told g c home t table =
-    may_watch g.C.Clients.happened home t c.args.guest.now.number c.watch.result table
+    may_watch g.C.Sockets.happened home t c.args.guest.now.number c.watch.result table
     c.args.clients.now c.watch.new.self c.watch.ensures.told
 
 pub returns-clause-asks : goal.returns-clause-asks

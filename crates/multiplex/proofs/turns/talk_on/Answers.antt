@@ -10,7 +10,7 @@ pub returns-in-Some-clause-talks : goal.returns-in-Some-clause-talks
 returns-in-Some-clause-talks g c = (
   c.args.node.now,
   true,
-  talk_moved g.D.Desk g.P.Peers g.C.Clients.happened _ c.args.time _
+  talk_moved g.D.Desk g.P.Peers g.C.Sockets.happened _ c.args.time _
       (beside c.args.dear.now.spent c.args.guest.now.notes c.args.differs.now) _ _ _ _ _ _
       c.in-Some.ensures.moves,
   settled_so true (Some c.in-Some.why) refl c.in-Some.ensures.going,
@@ -25,9 +25,9 @@ returns-then-not-settle-clause-talks g c =
     c.serve_next-served.new.differs in (
       c.serve_next-served.new.node,
       false,
-      talk_unsettled g.D.Desk g.P.Peers g.C.Clients.happened _ c.args.time _ was at _ _ _ _ _ _ _
+      talk_unsettled g.D.Desk g.P.Peers g.C.Sockets.happened _ c.args.time _ was at _ _ _ _ _ _ _
           c.in_default.ensures.moves
-          (serves_beside g.D.Desk g.P.Peers g.C.Clients.happened c.args.guest.now.number c.args.time
+          (serves_beside g.D.Desk g.P.Peers g.C.Sockets.happened c.args.guest.now.number c.args.time
           c.serve_next-served.result was at c.args.node.now c.serve_next-served.new.node
           c.args.peers.now c.serve_next-served.new.peers c.move_bytes.new.clients
           c.move_bytes.new.talk c.serve_next-served.new.talk c.serve_next-served.ensures.served),
@@ -42,16 +42,16 @@ returns-then-not-answer-clause-talks g c =
     beside c.serve_next-served.new.dear.spent c.serve_next-served.new.notes
     c.serve_next-served.new.differs in
     let served =
-    serves_beside g.D.Desk g.P.Peers g.C.Clients.happened c.args.guest.now.number c.args.time
+    serves_beside g.D.Desk g.P.Peers g.C.Sockets.happened c.args.guest.now.number c.args.time
     c.serve_next-served.result was at c.args.node.now c.serve_next-served.new.node
     c.args.peers.now c.serve_next-served.new.peers c.move_bytes.new.clients c.move_bytes.new.talk
     c.serve_next-served.new.talk c.serve_next-served.ensures.served in (
       c.serve_next-served.new.node,
       true,
-      talk_served g.D.Desk g.P.Peers g.C.Clients.happened _ c.args.time (Some why.Broke) _ was at _
+      talk_served g.D.Desk g.P.Peers g.C.Sockets.happened _ c.args.time (Some why.Broke) _ was at _
           _ _ _ _ _ _
           c.in_default.ensures.moves
-          (serves_sent g.D.Desk g.P.Peers g.C.Clients.happened c.args.guest.now.number c.args.time false
+          (serves_sent g.D.Desk g.P.Peers g.C.Sockets.happened c.args.guest.now.number c.args.time false
           c.serve_next-served.result was at
           (spot c.args.node.now c.args.peers.now c.move_bytes.new.clients c.move_bytes.new.talk)
           c.serve_next-served.new.node c.serve_next-served.new.peers c.move_bytes.new.clients
@@ -68,15 +68,15 @@ returns-then-is_done-clause-talks g c =
     beside c.serve_next-served.new.dear.spent c.serve_next-served.new.notes
     c.serve_next-served.new.differs in
     let served =
-    serves_beside g.D.Desk g.P.Peers g.C.Clients.happened c.args.guest.now.number c.args.time
+    serves_beside g.D.Desk g.P.Peers g.C.Sockets.happened c.args.guest.now.number c.args.time
     c.serve_next-served.result was at c.args.node.now c.serve_next-served.new.node
     c.args.peers.now c.serve_next-served.new.peers c.move_bytes.new.clients c.move_bytes.new.talk
     c.serve_next-served.new.talk c.serve_next-served.ensures.served in (
       c.serve_next-served.new.node,
       true,
-      talk_done g.D.Desk g.P.Peers g.C.Clients.happened _ c.args.time _ was at _ _ _ _ _ _ _
+      talk_done g.D.Desk g.P.Peers g.C.Sockets.happened _ c.args.time _ was at _ _ _ _ _ _ _
           c.in_default.ensures.moves
-          (serves_sent g.D.Desk g.P.Peers g.C.Clients.happened c.args.guest.now.number c.args.time true
+          (serves_sent g.D.Desk g.P.Peers g.C.Sockets.happened c.args.guest.now.number c.args.time true
           c.serve_next-served.result was at
           (spot c.args.node.now c.args.peers.now c.move_bytes.new.clients c.move_bytes.new.talk)
           c.serve_next-served.new.node c.serve_next-served.new.peers c.move_bytes.new.clients
@@ -94,15 +94,15 @@ returns-else-is_done-clause-talks g c =
     beside c.serve_next-served.new.dear.spent c.serve_next-served.new.notes
     c.serve_next-served.new.differs in
     let served =
-    serves_beside g.D.Desk g.P.Peers g.C.Clients.happened c.args.guest.now.number c.args.time
+    serves_beside g.D.Desk g.P.Peers g.C.Sockets.happened c.args.guest.now.number c.args.time
     c.serve_next-served.result was at c.args.node.now c.serve_next-served.new.node
     c.args.peers.now c.serve_next-served.new.peers c.move_bytes.new.clients c.move_bytes.new.talk
     c.serve_next-served.new.talk c.serve_next-served.ensures.served in (
       c.serve_next-served.new.node,
       true,
-      talk_served g.D.Desk g.P.Peers g.C.Clients.happened _ c.args.time None _ was at _ _ _ _ _ _ _
+      talk_served g.D.Desk g.P.Peers g.C.Sockets.happened _ c.args.time None _ was at _ _ _ _ _ _ _
           c.in_default.ensures.moves
-          (serves_sent g.D.Desk g.P.Peers g.C.Clients.happened c.args.guest.now.number c.args.time true
+          (serves_sent g.D.Desk g.P.Peers g.C.Sockets.happened c.args.guest.now.number c.args.time true
           c.serve_next-served.result was at
           (spot c.args.node.now c.args.peers.now c.move_bytes.new.clients c.move_bytes.new.talk)
           c.serve_next-served.new.node c.serve_next-served.new.peers c.move_bytes.new.clients
@@ -115,29 +115,29 @@ returns-else-is_done-clause-talks g c =
 
 pub returns-in-Some-clause-asks : goal.returns-in-Some-clause-asks
 returns-in-Some-clause-asks g c =
-    begins_alone g.C.Clients.requests c.args.clients.now c.move_bytes.new.clients
+    begins_alone g.C.Sockets.requests c.args.clients.now c.move_bytes.new.clients
     c.args.guest.now.number c.args.guest.now.talk c.in-Some.ensures.asks
 
 pub returns-then-not-settle-clause-asks : goal.returns-then-not-settle-clause-asks
 returns-then-not-settle-clause-asks g c =
-    begins_alone g.C.Clients.requests c.args.clients.now c.move_bytes.new.clients
+    begins_alone g.C.Sockets.requests c.args.clients.now c.move_bytes.new.clients
     c.args.guest.now.number c.args.guest.now.talk c.in_default.ensures.asks
 
 pub returns-then-not-answer-clause-asks : goal.returns-then-not-answer-clause-asks
 returns-then-not-answer-clause-asks g c =
-    begins_then g.C.Clients.requests c.args.clients.now c.move_bytes.new.clients
+    begins_then g.C.Sockets.requests c.args.clients.now c.move_bytes.new.clients
     c.answer.new.clients c.args.guest.now.number c.args.guest.now.talk
     c.in_default.ensures.asks c.if-not-answer.ensures.asks
 
 pub returns-then-is_done-clause-asks : goal.returns-then-is_done-clause-asks
 returns-then-is_done-clause-asks g c =
-    begins_then g.C.Clients.requests c.args.clients.now c.move_bytes.new.clients
+    begins_then g.C.Sockets.requests c.args.clients.now c.move_bytes.new.clients
     c.answer.new.clients c.args.guest.now.number c.args.guest.now.talk
     c.in_default.ensures.asks c.if-not-answer.ensures.asks
 
 pub returns-else-is_done-clause-asks : goal.returns-else-is_done-clause-asks
 returns-else-is_done-clause-asks g c =
-    begins_then g.C.Clients.requests c.args.clients.now c.move_bytes.new.clients
+    begins_then g.C.Sockets.requests c.args.clients.now c.move_bytes.new.clients
     c.answer.new.clients c.args.guest.now.number c.args.guest.now.talk
     c.in_default.ensures.asks c.if-not-answer.ensures.asks
 

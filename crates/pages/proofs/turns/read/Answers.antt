@@ -1,6 +1,6 @@
 use Rattle.std.proofs.Common.{true, false, take, refl}
 use Rattle.http_server.specs.Connection.{history}
-use Rattle.pages.proofs.Moving.{Moved-ended, Moved-gave, Moved-none}
+use Rattle.pages.proofs.Moving.{Moved-broke, Moved-ended, Moved-gave, Moved-none}
 use Rattle.pages.proofs.turns.read.Goals as goal
 
 pub returns-in-Bytes-clause-moved : goal.returns-in-Bytes-clause-moved
@@ -27,6 +27,5 @@ returns-in-Later-clause-moved g c =
 pub returns-in-Broke-clause-moved : goal.returns-in-Broke-clause-moved
 returns-in-Broke-clause-moved g c =
     let happened = g.C.Sockets.happened in
-    let same = history c.args.connection.now in
-    Moved-none c.args.number false (happened c.args.sockets.now) (happened c.read.new.self) same
-    same c.in-Broke.ensures.told refl refl
+    Moved-broke c.args.number false (happened c.args.sockets.now) (happened c.read.new.self)
+    (history c.args.connection.now) c.in-Broke.ensures.told

@@ -1,7 +1,7 @@
-use Rattle.std.proofs.Common.{ℕ, ◌++◌, List, true, take, ap, sym, ◌∙◌}
+use Rattle.std.proofs.Common.{ℕ, ◌++◌, List, true, false, take, ap, sym, ◌∙◌}
 use Rattle.http_server.specs.Connection.{history}
 use Rattle.http_server.specs.History.{History}
-use Rattle.pages.proofs.Moving.{Moved-took, take_of_chunk}
+use Rattle.pages.proofs.Moving.{Moved-broke, Moved-took, take_of_chunk}
 use Rattle.pages.proofs.turns.send.Goals as goal
 
 pub returns-in-Bytes-clause-moved : goal.returns-in-Bytes-clause-moved
@@ -15,3 +15,7 @@ returns-in-Bytes-clause-moved g c =
     ∙ ap (λ (t : List ℕ). old.sent ++ t)
     (sym (take_of_chunk c.in-Bytes.count c.output.result.now old.pending c.output.ensures.front
     c.in-Bytes.ensures.count.1)))
+
+pub returns-in-Broke-clause-moved : goal.returns-in-Broke-clause-moved
+returns-in-Broke-clause-moved g c =
+    Moved-broke c.args.number false _ _ (history c.args.connection.now) c.in-Broke.ensures.told

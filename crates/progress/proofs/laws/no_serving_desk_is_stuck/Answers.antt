@@ -1,4 +1,4 @@
-use Rattle.progress.proofs.TurnQueue.{no_serving_desk_is_stuck as proved}
+use Rattle.progress.proofs.Queue.{no_serving_desk_is_stuck as proved}
 use Rattle.progress.proofs.laws.no_serving_desk_is_stuck.Goals as goal
 
 pub returns : goal.returns

@@ -1,41 +1,30 @@
-use Rattle.std.proofs.Common.{false, inl, inr, refl}
+use Rattle.std.proofs.Common.{false, subst, sym, ◌≡◌}
 use Rattle.std.specs.Io.KnownBytes.{Keeps}
 use Rattle.subcommands.specs.Asking.{EndsErrand, errand_of}
 use Rattle.subcommands.specs.Places.{reach}
-use Rattle.subcommands.proofs.Ending.{done}
+use Rattle.subcommands.proofs.Ending.{as_before, as_it_ended, done}
 use Rattle.subcommands.proofs.asking.carry_named.Goals as goal
-
-pub returns-in-Ok-carry-clause-ends : goal.returns-in-Ok-carry-clause-ends
-returns-in-Ok-carry-clause-ends g c =
-    let old = g.W.Write.contents c.args.writer.now in
-    let new = g.W.Write.contents c.carry.new.writer in
-    done c.args.place c.args.patience 0
-    (reach g.D.Dial.dialed g.F.Write.contents c.args.dial.now c.carry.new.dial c.args.faults.now)
-    (Keeps old new)
-    (λ one there t. EndsErrand 0 (errand_of c.args.names one there c.args.request) t old new)
-    c.in-Ok.found (record {
-      address = c.as_str.result;
-      patience = c.args.patience;
-      key = c.in-Ok.found.key;
-    })
-    (g.D.Dial.dialed c.found_at.new.dial) (g.F.Write.contents c.found_at.new.faults) false
-    c.in-Ok.ensures.ok c.as_str.ensures.value refl refl
-    (inl (refl, c.in-Ok-carry.ensures.ok))
 
 pub returns-clause-ends : goal.returns-clause-ends
 returns-clause-ends g c =
     let old = g.W.Write.contents c.args.writer.now in
-    let new = g.W.Write.contents c.carry.new.writer in
-    done c.args.place c.args.patience c.tell_asked.result
-    (reach g.D.Dial.dialed g.F.Write.contents c.args.dial.now c.carry.new.dial c.args.faults.now)
+    let new = g.W.Write.contents c.carry-asked.new.writer in
+    let status = c.tell_asked.result in
+    done c.args.place c.args.patience status
+    (reach g.D.Dial.dialed g.F.Write.contents c.args.dial.now c.carry-asked.new.dial
+    c.args.faults.now)
     (Keeps old new)
-    (λ one there t. EndsErrand c.tell_asked.result
-    (errand_of c.args.names one there c.args.request) t old new)
-    c.in-Ok.found (record {
-      address = c.as_str.result;
-      patience = c.args.patience;
-      key = c.in-Ok.found.key;
-    })
+    (λ one there t. EndsErrand status (errand_of c.args.names one there c.args.request) t old new)
+    c.in-Ok.found c.contact_of-contact.result
     (g.D.Dial.dialed c.found_at.new.dial) (g.F.Write.contents c.found_at.new.faults) false
-    c.in-Ok.ensures.ok c.as_str.ensures.value refl refl
-    (inr (c.in-Err-carry.fault, c.tell_asked.ensures, c.in-Err-carry.ensures.err))
+    c.in-Ok.ensures.ok c.contact_of-contact.ensures
+    (as_it_ended c.carry-asked.result status _ _ c.tell_asked.ensures.ends c.carry-asked.ensures.ok
+    c.carry-asked.ensures.err)
+
+pub returns-clause-quiet : goal.returns-clause-quiet
+returns-clause-quiet g c = λ zero named.
+    let same : g.F.Write.contents c.tell_asked.new.faults
+    ≡ g.F.Write.contents c.found_at.new.faults =
+    as_before c.carry-asked.result c.tell_asked.result _ c.tell_asked.ensures.ends
+    c.tell_asked.ensures.quiet zero in
+    subst (Keeps (g.F.Write.contents c.args.faults.now)) (sym same) (c.in-Ok.ensures.quiet named)

@@ -15,4 +15,6 @@ returns-in-Ok g c =
       key = c.in-Ok.found.key;
     })
     (g.D.Dial.dialed c.found_at.new.dial) (g.F.Write.contents c.found_at.new.faults) false
-    c.in-Ok.ensures.ok c.as_str.ensures.value refl refl (c.tell_unnamed.ensures, refl)
+    c.in-Ok.ensures.ok
+    (record { address = c.as_str.ensures.value; patience_is = refl; key = refl })
+    (c.tell_unnamed.ensures, refl)

@@ -1,4 +1,4 @@
-use Rattle.std.proofs.Common.{inl, inr, refl}
+use Rattle.std.proofs.Common.{inl, inr}
 use Rattle.std.specs.Io.KnownBytes.{Keeps}
 use Rattle.subcommands.specs.Entering.{EndsOne, Probed, Single}
 use Rattle.subcommands.specs.Places.{reach}
@@ -16,13 +16,9 @@ returns-in-Ok-enter_one g c =
     (reach g.D.Dial.dialed g.F.Write.contents c.args.dial.now c.enter_one.new.dial
     c.args.faults.now)
     (Keeps old new) (λ one _ t. Probed one t (λ u. EndsOne status one single u old new))
-    c.in-Ok.found (record {
-      address = c.as_str.result;
-      patience = c.args.patience;
-      key = c.in-Ok.found.key;
-    })
+    c.in-Ok.found c.contact_of-contact.result
     (g.D.Dial.dialed c.found_at.new.dial) (g.F.Write.contents c.found_at.new.faults)
-    c.knows_await.result c.in-Ok.ensures.ok c.as_str.ensures.value refl refl (
+    c.knows_await.result c.in-Ok.ensures.ok c.contact_of-contact.ensures (
       g.D.Dial.dialed c.knows_await.new.dial,
       c.knows_await.ensures,
       inl c.in-Ok-enter_one.ensures.ok,
@@ -39,14 +35,10 @@ returns g c =
     c.args.faults.now)
     (Keeps old new)
     (λ one _ t. Probed one t (λ u. EndsOne c.tell_asked.result one single u old new))
-    c.in-Ok.found (record {
-      address = c.as_str.result;
-      patience = c.args.patience;
-      key = c.in-Ok.found.key;
-    })
+    c.in-Ok.found c.contact_of-contact.result
     (g.D.Dial.dialed c.found_at.new.dial) (g.F.Write.contents c.found_at.new.faults)
-    c.knows_await.result c.in-Ok.ensures.ok c.as_str.ensures.value refl refl (
+    c.knows_await.result c.in-Ok.ensures.ok c.contact_of-contact.ensures (
       g.D.Dial.dialed c.knows_await.new.dial,
       c.knows_await.ensures,
-      inr (c.in-Err-enter_one.fault, c.tell_asked.ensures, c.in-Err-enter_one.ensures.err),
+      inr (c.in-Err-enter_one.fault, c.tell_asked.ensures.ends, c.in-Err-enter_one.ensures.err),
     )

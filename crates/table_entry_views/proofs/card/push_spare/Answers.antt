@@ -5,6 +5,6 @@ use Rattle.table_entry_views.proofs.card.push_spare.Goals as goal
 pub returns : goal.returns
 returns c =
     subst
-    (λ (id : ℕ). OnOk c.push_pieces.result
-    (c.push_pieces.new.out.items ≡ c.args.out.now.items ++ spare id))
-    c.number.ensures.value c.push_pieces.ensures
+    (λ (id : ℕ). OnOk c.fill.result
+    (c.fill.new.out.items ≡ c.args.out.now.items ++ spare id))
+    c.number.ensures.value c.fill.ensures

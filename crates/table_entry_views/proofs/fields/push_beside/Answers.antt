@@ -14,7 +14,7 @@ returns c =
     five_parts c.args.out.now.items stands_start (shown_at unit values (attempt - 1))
     (codes "</span>") (said_at attempt (notes_of c.args.draft)) (codes "</p>\n") _ _ _ _ _
     c.in_ok-extend_from_slice.ensures.items
-    (c.in_ok-push_standing.ensures
+    (c.in_ok-push_shown.ensures
     ∙ ap (λ k. c.extend_from_slice.new.self.items ++ shown_at unit values k)
     (c.saturating_sub-place.ensures ∙ ap (λ k. k - 1) c.from.ensures))
     c.in_ok-extend_from_slice-2.ensures.items

@@ -1,18 +1,19 @@
 use Rattle.std.proofs.Common.{◌++◌, ◌∙◌, ap, codes}
 use Rattle.markup.proofs.board_page.Steps.{six_parts}
-use Rattle.table_entry_views.specs.Fields.{competitor_of, notes_of, number_field, number_start}
+use Rattle.table_entry_views.specs.Fields.{competitor_of, notes_of, number_field}
 use Rattle.table_entry_views.specs.Fields.{number_text, who}
 use Rattle.table_entry_views.specs.Notes.{field_end, said_at}
+use Rattle.table_entry_views.specs.declared.fields.TheConstants.{NUMBER_START}
 use Rattle.table_entry_views.proofs.fields.push_number_field.Goals as goal
 
 pub returns : goal.returns
-unfolding number_field number_start
+unfolding number_field
 returns c =
     let out = c.args.out.now.items in
     let accepted = c.args.meet.now.accepted in
     let draft = c.args.draft in
     let notes = notes_of draft in
-    six_parts out number_start (number_text draft) (field_end 0 notes)
+    six_parts out NUMBER_START.now (number_text draft) (field_end 0 notes)
     (who accepted (competitor_of draft)) (said_at 0 notes) (codes "</div>\n") _ _ _ _ _ _
     c.in_ok-extend_from_slice.ensures.items c.in_ok-push_number_text.ensures
     (c.in_ok-push_field_end.ensures

@@ -1,6 +1,7 @@
-use Rattle.std.proofs.Common.{◌≡◌, ◌∙◌, ◌++◌, ◌∷◌, ℕ, List, [], Result, Ok, Err, OnOk, ap, codes}
+use Rattle.std.proofs.Common.{◌≡◌, ◌∙◌, ◌++◌, ◌∷◌, ℕ, List, [], Result, Ok, Err, OnOk, ap}
 use Rattle.std.proofs.Common.{decimal}
-use Rattle.markup.specs.Pieces.{joined}
+use Rattle.markup.specs.Pieces.{fill}
+use Rattle.table_entry_views.specs.declared.origin.TheConstants.{ENTRY}
 use Rattle.table_entry_views.proofs.origin.push_entry.Goals as goal
 
 -- the same text, written otherwise
@@ -11,9 +12,8 @@ same_after (Err e) x a b same is = tt
 
 pub returns : goal.returns
 returns c =
-    same_after c.push_pieces.result _ _ _
+    same_after c.fill.result _ _ _
     (ap
     (λ (words : List ℕ). c.args.out.now.items
-    ++ joined (codes "<p class=\"origin\">Result " ∷ decimal c.args.position
-    ∷ codes ", " ∷ words ∷ []))
-    c.place_words.ensures) c.push_pieces.ensures
+    ++ fill ENTRY.now (decimal c.args.position ∷ words ∷ []))
+    c.place_words.ensures) c.fill.ensures

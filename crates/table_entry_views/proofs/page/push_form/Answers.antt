@@ -4,11 +4,12 @@ use Rattle.markup.proofs.board_page.Steps.{three_parts, two_parts}
 use Rattle.commands.specs.History.{History}
 use Rattle.table_views.specs.Logs.{accepted_in}
 use Rattle.table_entry_views.specs.Bounds.{best_in}
-use Rattle.table_entry_views.specs.Card.{card_fields, form_end, form_start, spare}
+use Rattle.table_entry_views.specs.Card.{card_fields, form_start, spare}
 use Rattle.table_entry_views.specs.Fields.{standing_of}
 use Rattle.table_entry_views.specs.Leaving.{leaving_line}
 use Rattle.table_entry_views.specs.Origin.{origin_line}
 use Rattle.table_entry_views.specs.Page.{card_form}
+use Rattle.table_entry_views.specs.declared.card.TheConstants.{FORM_END}
 use Rattle.table_entry_views.proofs.page.push_form.Goals as goal
 
 pub returns : goal.returns
@@ -30,7 +31,7 @@ returns c =
     let leaving = leaving_line id t draft in
     let start = start_of (best_in t) values in
     let left = c.push_leaving.new.out.items in
-    two_parts out (start ++ origin ++ leaving ++ fields_of values filled draft) form_end _ _
+    two_parts out (start ++ origin ++ leaving ++ fields_of values filled draft) FORM_END.now _ _
     (two_parts out (start ++ origin ++ leaving) (fields_of values filled draft) _ _
     (three_parts out start origin leaving _ _ _
     (c.in_ok-push_form_start.ensures

@@ -9,9 +9,9 @@ pub returns : goal.returns
 unfolding link_cell
 returns c =
     let out = c.args.out.now.items in
-    on_ok_weaker c.push_pieces.result
+    on_ok_weaker c.fill.result
     (two_parts out (codes "<td><a href=\"" ++ c.args.path.now ++ round_name c.args.id)
     (link_end c.args.words.now) _ _
     (three_parts out (codes "<td><a href=\"") c.args.path.now (round_name c.args.id) _ _ _
     c.in_ok-extend_from_slice.ensures.items c.in_ok-extend_from_slice-2.ensures.items
-    c.in_ok-push_round_name.ensures)) c.push_pieces.ensures
+    c.in_ok-push_round_name.ensures)) c.fill.ensures

@@ -32,7 +32,7 @@ returns c =
     c.in_ok-extend_from_slice-3.ensures.items)
     (c.in_ok-push_state.ensures
     ∙ ap (λ closed. c.extend_from_slice-3.new.self.items ++ state_cell closed) c.is_closed.ensures)
-    (c.in_ok-push_pieces.ensures
+    (c.in_ok-fill.ensures
     ∙ ap (λ counted. c.push_state.new.out.items ++ count_cells counted) c.in_ok-counts.ensures)
     c.in_ok-push_link.ensures c.in_ok-push_link-2.ensures c.in_ok-push_link-3.ensures))
     (when_ok _ _ _ _ c.extend_from_slice-4.ensures.items)

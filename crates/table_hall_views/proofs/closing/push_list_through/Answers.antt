@@ -18,5 +18,5 @@ returns c =
     (length numbers)) _ _
     (three_parts out (these_go_on (length numbers))
     (flat_map (entrant_line c.args.meet.now.accepted c.args.id) numbers) (codes "</ol>\n") _ _ _
-    c.in_ok-push_pieces.ensures c.in_ok-push_entrants.ensures
+    c.in_ok-fill.ensures c.in_ok-push_entrants.ensures
     c.in_ok-extend_from_slice.ensures.items)) c.push_tie.ensures

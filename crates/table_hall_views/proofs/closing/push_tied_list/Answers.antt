@@ -11,5 +11,5 @@ returns c =
     on_ok_weaker c.extend_from_slice.result
     (three_parts c.args.out.now.items (tied_head c.args.most)
     (flat_map (entrant_line c.args.meet.now.accepted c.args.id) c.args.numbers.now)
-    (codes "</ul>\n") _ _ _ c.in_ok-push_pieces.ensures c.in_ok-push_entrants.ensures)
+    (codes "</ul>\n") _ _ _ c.in_ok-fill.ensures c.in_ok-push_entrants.ensures)
     (when_ok _ _ _ _ c.extend_from_slice.ensures.items)

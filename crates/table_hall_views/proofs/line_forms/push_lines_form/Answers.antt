@@ -7,9 +7,9 @@ use Rattle.table_hall_views.proofs.line_forms.push_lines_form.Goals as goal
 pub returns : goal.returns
 unfolding lines_form
 returns c =
-    on_ok_weaker c.push_pieces.result
+    on_ok_weaker c.fill.result
     (three_parts c.args.out.now.items
     c.args.start.now
     (hidden c.args.token.now c.args.id)
     (lines_rest c.args.back.now c.args.lines.now c.args.words.now) _ _ _
-    c.in_ok-extend_from_slice.ensures.items c.in_ok-push_hidden.ensures) c.push_pieces.ensures
+    c.in_ok-extend_from_slice.ensures.items c.in_ok-push_hidden.ensures) c.fill.ensures

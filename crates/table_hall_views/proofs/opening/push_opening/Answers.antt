@@ -1,4 +1,4 @@
-use Rattle.std.proofs.Common.{List, None, ap, codes, ℕ, ◌++◌, ◌∙◌}
+use Rattle.std.proofs.Common.{List, ap, codes, ℕ, ◌++◌, ◌∙◌}
 use Rattle.std.proofs.lemmas.Result.{on_ok_weaker}
 use Rattle.markup.proofs.board_page.Steps.{five_parts, two_parts}
 use Rattle.table_hall_views.specs.Forms.{button, form_start, path_of, round_value}

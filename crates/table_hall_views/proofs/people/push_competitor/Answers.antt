@@ -10,5 +10,5 @@ returns c =
     on_ok_weaker c.extend_from_slice.result
     (three_parts c.args.out.now.items (competitor_start c.args.number c.args.name.now)
     (flat_map (entered_in c.args.meet.now.accepted c.args.number) all_events)
-    (codes "</td></tr>\n") _ _ _ c.in_ok-push_pieces.ensures c.in_ok-push_entered.ensures)
+    (codes "</td></tr>\n") _ _ _ c.in_ok-fill.ensures c.in_ok-push_entered.ensures)
     (when_ok _ _ _ _ c.extend_from_slice.ensures.items)

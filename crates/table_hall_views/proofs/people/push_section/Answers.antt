@@ -5,9 +5,10 @@ use Rattle.markup.proofs.board_page.Steps.{six_parts, when_ok}
 use Rattle.commands.specs.History.{History}
 use Rattle.table_views.specs.declared.around.PageContext.{PageContext}
 use Rattle.table_views.specs.Logs.{accepted_in}
-use Rattle.table_hall_views.specs.People.{competitors, entering, people_head, registering}
-use Rattle.table_hall_views.specs.People.{section, section_start}
+use Rattle.table_hall_views.specs.People.{competitors, entering, registering}
+use Rattle.table_hall_views.specs.People.{section}
 use Rattle.table_hall_views.specs.People.{IsProposed, IsSection}
+use Rattle.table_hall_views.specs.declared.people.TheConstants.{PEOPLE_HEAD, SECTION_START}
 use Rattle.table_hall_views.proofs.people.push_section.Goals as goal
 
 adds_section : (around : PageContext) (proposed : ℕ)
@@ -17,7 +18,7 @@ adds_section around proposed first old new is =
     (section around proposed, (proposed, first, refl), is)
 
 pub returns : goal.returns
-unfolding section section_start
+unfolding section
 returns c =
     let out = c.args.out.now.items in
     let around = c.args.around.now in
@@ -33,7 +34,7 @@ returns c =
     let all = competitors accepted 9999 in
     on_ok_weaker c.extend_from_slice-3.result (adds_section around proposed first out _)
     (on_ok_weaker c.extend_from_slice-3.result
-    (six_parts out section_start registers enters people_head all
+    (six_parts out SECTION_START.now registers enters PEOPLE_HEAD.now all
     (codes "</tbody></table></section>\n") _ _ _ _ _ _
     c.in_ok-extend_from_slice.ensures.items
     (c.in_ok-push_registering.ensures

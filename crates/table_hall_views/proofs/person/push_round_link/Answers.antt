@@ -12,5 +12,5 @@ returns c =
     on_ok_weaker c.extend_from_slice-2.result
     (five_parts c.args.out.now.items (codes " <a href=\"/card/") name (number_part c.args.number)
     name (codes "</a>") _ _ _ _ _ c.in_ok-extend_from_slice.ensures.items
-    c.in_ok-push_round_name.ensures c.in_ok-push_pieces.ensures c.in_ok-push_round_name-2.ensures)
+    c.in_ok-push_round_name.ensures c.in_ok-fill.ensures c.in_ok-push_round_name-2.ensures)
     (when_ok _ _ _ _ c.extend_from_slice-2.ensures.items)

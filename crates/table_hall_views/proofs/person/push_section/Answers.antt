@@ -18,10 +18,10 @@ returns c =
     on_ok_weaker c.extend_from_slice-2.result
     (five_parts out (person_head number name) (flat_map (within_event accepted number) all_events)
     (codes "</p>\n") (mending_or_edition around number name) (codes "</section>\n") _ _ _ _ _
-    c.in_ok-push_pieces.ensures
+    c.in_ok-fill.ensures
     (c.in_ok-push_rounds.ensures
     ∙ ap
-    (λ (h : History). c.push_pieces.new.out.items
+    (λ (h : History). c.fill.new.out.items
     ++ flat_map (within_event h.accepted number) all_events) c.meet.ensures)
     c.in_ok-extend_from_slice.ensures.items c.in_ok-push_mending_or_edition.ensures)
     (when_ok _ _ _ _ c.extend_from_slice-2.ensures.items)

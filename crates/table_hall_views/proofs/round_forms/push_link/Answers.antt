@@ -9,7 +9,7 @@ pub returns : goal.returns
 unfolding link
 returns c =
     let out = c.args.out.now.items in
-    on_ok_weaker c.push_pieces.result
+    on_ok_weaker c.fill.result
     (three_parts out (codes "<td><a href=\"/rounds?round=") (round_name c.args.id)
     (link_rest c.args.id.round c.args.words.now) _ _ _ c.in_ok-extend_from_slice.ensures.items
-    c.in_ok-push_round_name.ensures) c.push_pieces.ensures
+    c.in_ok-push_round_name.ensures) c.fill.ensures

@@ -2,7 +2,8 @@ use Rattle.std.proofs.Common.{ap, get_or, ℕ, ◌++◌, ◌∙◌}
 use Rattle.std.proofs.lemmas.Result.{on_ok_weaker}
 use Rattle.markup.proofs.board_page.Steps.{three_parts, two_parts}
 use Rattle.table_hall_views.proofs.Tails.{same_after}
-use Rattle.table_hall_views.specs.Scrambles.{all_scrambles, scramble_if, scrambles_head}
+use Rattle.table_hall_views.specs.Scrambles.{all_scrambles, scramble_if}
+use Rattle.table_hall_views.specs.declared.scrambles.TheConstants.{NO_SCRAMBLES}
 use Rattle.table_hall_views.proofs.scrambles.push_all.Goals as goal
 
 pub returns : goal.returns
@@ -12,11 +13,11 @@ returns c =
     let around = c.args.around.now in
     on_ok_weaker c.push_scramble_if-3.result
     (two_parts out
-    (scrambles_head
+    (NO_SCRAMBLES.now
     ++ scramble_if around (get_or around.ids.now 2 0) c.args.id c.args.count 1
     ++ scramble_if around (get_or around.ids.now 3 0) c.args.id c.args.count 2)
     (scramble_if around (get_or around.ids.now 4 0) c.args.id c.args.count 3) _ _
-    (three_parts out scrambles_head
+    (three_parts out NO_SCRAMBLES.now
     (scramble_if around (get_or around.ids.now 2 0) c.args.id c.args.count 1)
     (scramble_if around (get_or around.ids.now 3 0) c.args.id c.args.count 2) _ _ _
     c.in_ok-extend_from_slice.ensures.items

@@ -16,9 +16,9 @@ returns c =
     λ moves. rescrambling c.args.mends moves token c.args.form c.args.id c.args.attempt in
     on_ok_weaker c.push_rescrambling.result
     (two_parts out (scramble_shown c.args.attempt text) (change text) _ _
-    (c.in_ok-push_pieces.ensures
+    (c.in_ok-fill.ensures
     ∙ ap (λ (moves : List ℕ). out ++ scramble_shown c.args.attempt moves)
     (c.deref.ensures.value ∙ c.in_ok-text.ensures)))
     (same_after c.push_rescrambling.result _ _ _
-    (ap (λ (moves : List ℕ). c.push_pieces.new.out.items ++ change moves)
+    (ap (λ (moves : List ℕ). c.fill.new.out.items ++ change moves)
     (c.deref-2.ensures.value ∙ c.in_ok-text.ensures)) c.push_rescrambling.ensures)

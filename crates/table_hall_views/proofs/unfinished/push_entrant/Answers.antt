@@ -15,5 +15,5 @@ returns c =
     (five_parts out (codes "<li><a href=\"/card/") (round_name c.args.id)
     (link_middle c.args.number) (escaped (name_in c.args.meet.now.accepted c.args.number))
     (codes "</bdi></a></li>\n") _ _ _ _ _ c.in_ok-extend_from_slice.ensures.items
-    c.in_ok-push_round_name.ensures c.in_ok-push_pieces.ensures c.in_ok-push_name.ensures)
+    c.in_ok-push_round_name.ensures c.in_ok-fill.ensures c.in_ok-push_name.ensures)
     (when_ok _ _ _ _ c.extend_from_slice-2.ensures.items)

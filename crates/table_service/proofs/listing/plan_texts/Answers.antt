@@ -5,7 +5,7 @@ use Rattle.card_forms.specs.Entries.{command_entries}
 use Rattle.card_forms.specs.Remarks.{noted}
 use Rattle.command_lists.specs.Answered.{first_refusal, is_done}
 use Rattle.texts.specs.declared.answer.Answer.{Answer}
-use Rattle.mirror.specs.Answered.{answers_after}
+use Rattle.answers.specs.Transcripts.{answers_after}
 use Rattle.table_service.specs.Lists.{is_known}
 use Rattle.table_service.proofs.Looked.{goes, not_done}
 use Rattle.table_service.proofs.listing.plan_texts.Goals as goal

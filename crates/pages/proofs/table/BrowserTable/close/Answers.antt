@@ -1,4 +1,4 @@
-use Rattle.pages.specs.Happenings.{closed}
+use Rattle.polled.specs.Happenings.{closed}
 use Rattle.pages.specs.Kept.{places_of}
 use Rattle.pages.proofs.Keeping.{AreKept-same}
 use Rattle.pages.proofs.Tables.{quiet_closed}

@@ -2,7 +2,7 @@ use Rattle.std.proofs.Common.{◌≡◌}
 use Rattle.indexmap.specs.IndexMap.{index_map_len}
 use Rattle.pages.specs.Asking.{EndsSome}
 use Rattle.pages.specs.Kept.{Keeps}
-use Rattle.pages.specs.Requests.{Asks}
+use Rattle.polled.specs.Requests.{Asks}
 use Rattle.pages.proofs.table.BrowserTable.end_round.Given as goal
 
 abbrev pub invariant-loop-number : goal.invariant-loop-number

@@ -3,15 +3,18 @@ use Rattle.http_server.specs.Connection.{history}
 use Rattle.indexmap.specs.IndexMap.{get}
 use Rattle.pages.specs.Kept.{places_of}
 use Rattle.pages.specs.Musts.{has_more}
-use Rattle.pages.specs.Requests.{Watching}
+use Rattle.polled.specs.Requests.{Watching}
 use Rattle.pages.proofs.Keeping.{AreKept-fewer, AreKept-more, IsOpen-same}
 use Rattle.pages.proofs.Placing.{has_some_is, unchanged}
-use Rattle.pages.proofs.Tables.{holds_on, other_places, quiet_none, same_places}
+use Rattle.polled.specs.Happenings.{watched}
+use Rattle.pages.proofs.Tables.{holds_on, other_places, quiet_watched, same_places}
 use Rattle.pages.proofs.table.BrowserTable.keep_on.Goals as goal
 
 pub returns-then-not-watch-clause-kept : goal.returns-then-not-watch-clause-kept
 returns-then-not-watch-clause-kept g c = λ own held.
-    holds_on g.C.Sockets.happened c.args.self.now c.watch.new.self c.watch.ensures.told held
+    let k = c.args.number in
+    holds_on g.C.Sockets.happened c.args.self.now c.watch.new.self (watched k c.watch.result)
+    c.watch.ensures.told (quiet_watched k c.watch.result) held
 
 pub returns-in-Ok-clause-kept : goal.returns-in-Ok-clause-kept
 returns-in-Ok-clause-kept g c = λ own held.
@@ -24,17 +27,20 @@ returns-in-Ok-clause-kept g c = λ own held.
     let updates = c.in-Ok.ensures.updates in
     AreKept-more config b (places_of t) (λ q. get nat_eq c.insert.new.self q) t.next t.turns.items
     number browser updates.1 (other_places t.browsers c.insert.new.self number browser updates)
-    (IsOpen-same config a b [] t.next t.turns.items number browser.connection c.watch.ensures.told
-    quiet_none own)
-    (holds_on g.C.Sockets.happened t c.watch.new.self c.watch.ensures.told held)
+    (IsOpen-same config a b (watched number c.watch.result) t.next t.turns.items number
+    browser.connection c.watch.ensures.told (quiet_watched number c.watch.result) own)
+    (holds_on g.C.Sockets.happened t c.watch.new.self (watched number c.watch.result)
+    c.watch.ensures.told (quiet_watched number c.watch.result) held)
 
 pub returns-clause-kept : goal.returns-clause-kept
 returns-clause-kept g c = λ own held.
     let t = c.args.self.now in
     let b = g.C.Sockets.happened c.watch.new.self in
+    let k = c.args.number in
     AreKept-fewer t.terms.config b (places_of t) (λ q. get nat_eq c.insert.new.self q) t.next
     t.turns.items (same_places t.browsers c.insert.new.self c.in-Err.ensures.err)
-    (holds_on g.C.Sockets.happened t c.watch.new.self c.watch.ensures.told held)
+    (holds_on g.C.Sockets.happened t c.watch.new.self (watched k c.watch.result)
+    c.watch.ensures.told (quiet_watched k c.watch.result) held)
 
 pub returns-then-not-watch-clause-asks : goal.returns-then-not-watch-clause-asks
 returns-then-not-watch-clause-asks g c =

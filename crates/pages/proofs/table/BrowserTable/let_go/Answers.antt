@@ -2,7 +2,7 @@ use Rattle.std.proofs.Common.{◌≡◌, ◌+◌, [], ◌∷◌, inr, ap, sym, �
 use Rattle.indexmap.specs.IndexMap.{get, index_map_len}
 use Rattle.pages.specs.Asking.{LetsGo}
 use Rattle.pages.specs.Kept.{places_of}
-use Rattle.pages.specs.Requests.{Closing}
+use Rattle.polled.specs.Requests.{Closing}
 use Rattle.pages.proofs.Asked.{asks_as}
 use Rattle.pages.proofs.Keeping.{AreKept-fewer}
 use Rattle.pages.proofs.Placing.{without}

@@ -1,7 +1,7 @@
 use Rattle.std.proofs.Common.{◌≡◌}
 use Rattle.pages.specs.Asking.{AsksSteps}
 use Rattle.pages.specs.Kept.{AnswersIn, Keeps}
-use Rattle.pages.specs.Requests.{Asks}
+use Rattle.polled.specs.Requests.{Asks}
 use Rattle.pages.proofs.table.BrowserTable.round.Given as goal
 
 abbrev pub invariant-loop-turn : goal.invariant-loop-turn

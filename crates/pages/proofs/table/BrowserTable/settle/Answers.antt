@@ -3,7 +3,7 @@ use Rattle.std.proofs.Common.{nat_eq}
 use Rattle.indexmap.specs.IndexMap.{get}
 use Rattle.pages.specs.Asking.{KeepsOn, SettlesBy}
 use Rattle.pages.specs.Musts.{has_more}
-use Rattle.pages.specs.Requests.{Closing, Request, Watching}
+use Rattle.polled.specs.Requests.{Closing, Request, Watching}
 use Rattle.pages.proofs.Asked.{asks_both}
 use Rattle.pages.proofs.table.BrowserTable.settle.Goals as goal
 

@@ -1,18 +1,20 @@
 use Rattle.std.proofs.Common.{ap, refl}
 use Rattle.pages.specs.Asking.{StepsBy}
-use Rattle.pages.specs.Requests.{Waited}
+use Rattle.polled.specs.Requests.{Waited}
 use Rattle.polled.specs.declared.answers.Ready.TheVariants as ready_is
 use Rattle.pages.specs.declared.table.Step.TheVariants as step_is
 use Rattle.pages.proofs.Asked.{asks_after}
 use Rattle.pages.proofs.Answering.{Answers-same}
 use Rattle.pages.proofs.Placing.{admits_from, attends_from, ends_from}
-use Rattle.pages.proofs.Tables.{holds_on}
+use Rattle.polled.specs.Happenings.{ready}
+use Rattle.pages.proofs.Tables.{holds_on, quiet_ready}
 use Rattle.pages.proofs.table.BrowserTable.step.Goals as goal
 
 pub returns-in-Waits-clause-kept : goal.returns-in-Waits-clause-kept
 returns-in-Waits-clause-kept g c = λ held.
     c.admit.ensures.kept
-    (holds_on g.C.Sockets.happened c.args.self.now c.ready.new.self c.ready.ensures.told held)
+    (holds_on g.C.Sockets.happened c.args.self.now c.ready.new.self (ready c.ready.result)
+    c.ready.ensures.told (quiet_ready c.ready.result) held)
 
 pub returns-in-Waits-clause-answers : goal.returns-in-Waits-clause-answers
 returns-in-Waits-clause-answers g c = λ held.
@@ -21,17 +23,20 @@ returns-in-Waits-clause-answers g c = λ held.
 pub returns-in-Peer-clause-kept : goal.returns-in-Peer-clause-kept
 returns-in-Peer-clause-kept g c = λ held.
     c.visit.ensures.kept
-    (holds_on g.C.Sockets.happened c.args.self.now c.ready.new.self c.ready.ensures.told held)
+    (holds_on g.C.Sockets.happened c.args.self.now c.ready.new.self (ready c.ready.result)
+    c.ready.ensures.told (quiet_ready c.ready.result) held)
 
 pub returns-in-Peer-clause-answers : goal.returns-in-Peer-clause-answers
 returns-in-Peer-clause-answers g c = λ held.
     c.visit.ensures.answers
-    (holds_on g.C.Sockets.happened c.args.self.now c.ready.new.self c.ready.ensures.told held)
+    (holds_on g.C.Sockets.happened c.args.self.now c.ready.new.self (ready c.ready.result)
+    c.ready.ensures.told (quiet_ready c.ready.result) held)
 
 pub returns-in-Round-clause-kept : goal.returns-in-Round-clause-kept
 returns-in-Round-clause-kept g c = λ held.
     c.end_round.ensures.kept
-    (holds_on g.C.Sockets.happened c.args.self.now c.ready.new.self c.ready.ensures.told held)
+    (holds_on g.C.Sockets.happened c.args.self.now c.ready.new.self (ready c.ready.result)
+    c.ready.ensures.told (quiet_ready c.ready.result) held)
 
 pub returns-in-Round-clause-answers : goal.returns-in-Round-clause-answers
 returns-in-Round-clause-answers g c = λ held.
@@ -40,7 +45,8 @@ returns-in-Round-clause-answers g c = λ held.
 
 pub returns-in-Failed-clause-kept : goal.returns-in-Failed-clause-kept
 returns-in-Failed-clause-kept g c = λ held.
-    holds_on g.C.Sockets.happened c.args.self.now c.ready.new.self c.ready.ensures.told held
+    holds_on g.C.Sockets.happened c.args.self.now c.ready.new.self (ready c.ready.result)
+    c.ready.ensures.told (quiet_ready c.ready.result) held
 
 pub returns-in-Failed-clause-answers : goal.returns-in-Failed-clause-answers
 returns-in-Failed-clause-answers g c = λ held.

@@ -1,4 +1,4 @@
-use Rattle.std.proofs.Common.{◌+◌, false, inl, nat_eq, refl}
+use Rattle.std.proofs.Common.{[], ◌+◌, false, inl, nat_eq, refl}
 use Rattle.indexmap.specs.IndexMap.{get}
 use Rattle.pages.specs.Kept.{places_of}
 use Rattle.pages.specs.Musts.{GivesPlace}
@@ -44,7 +44,7 @@ returns-in-Ok-clause-asks g c =
       waiting = record { since = t.now; is_idle = false };
     } in
     asks_none g.C.Sockets.requests t.sockets
-    (GivesPlace accepted_is.Came t
+    (GivesPlace (accepted_is.Came []) t
     (record t { next = t.next + 1; browsers = c.insert.new.self })) (
       refl,
       inl (

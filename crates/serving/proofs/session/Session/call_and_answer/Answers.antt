@@ -1,8 +1,8 @@
 use Rattle.std.proofs.Common.{◌≡◌, sym, subst, ◌∙◌, [], rules}
 use Rattle.serving.specs.Making.{outside_of, speaking}
-use Rattle.serving.specs.model.Reaching.{Does, DoesPart, at}
-use Rattle.serving.proofs.Parts.{on_err, given_err}
-use Rattle.serving.proofs.Reached.{on_ok}
+use Rattle.serving.specs.model.Reaching.{DoesPart, at}
+use Rattle.serving.proofs.Parts.{on_err, given_err, part_pushes}
+use Rattle.serving.proofs.Reached.{on_ok, pushes_all}
 use Rattle.serving.proofs.Told.{none_of, told_first, tells_lost, tells_no_run, tells_run}
 use Rattle.serving.proofs.Told.{tells_others, tells_part}
 use Rattle.serving.proofs.session.Session.call_and_answer.Goals as goal
@@ -30,26 +30,17 @@ returns-in_err-run-clause-err g c =
 pub returns-in-Some-clause-ok : goal.returns-in-Some-clause-ok
 returns-in-Some-clause-ok g c =
     let called = c.in_ok-call.ensures.ok in
-    let x = g.D.Desk.seen c.args.node.now in
-    let y = g.D.Desk.seen c.call.new.node in
     let kept : c.deref.result.now ≡ c.call.new.waiting.items = search rules in
     on_ok c.push_run.result
     (λ handed again.
-    subst
-    (λ k. Does c.args.self.home (told_first c.args.self.home c.args.message) (at x [] 16)
-    (at y [] k)
-    (outside_of (speaking g.D.Desk.handles g.D.Desk.settles c.args.self.wire) c.args.node.now
-    (g.P.Peers.handed c.args.peers.now))
-    (outside_of (speaking g.D.Desk.handles g.D.Desk.settles c.args.self.wire) c.call.new.node
-    (g.P.Peers.handed c.push_run.new.peers)))
-    (sym c.requires.left)
-    (tells_run (speaking g.D.Desk.handles g.D.Desk.settles c.args.self.wire) c.args.self.home
+    tells_run (speaking g.D.Desk.handles g.D.Desk.settles c.args.self.wire) c.args.self.home
     (g.D.Desk.home_of c.args.node.now)
-    c.args.message x y c.new-waiting.result.items c.call.new.waiting.items c.deref.result.now
+    c.args.message (g.D.Desk.seen c.args.node.now) (g.D.Desk.seen c.call.new.node)
+    c.new-waiting.result.items c.call.new.waiting.items c.deref.result.now
     c.in_ok-call.field-0 c.in-Some.run' c.args.node.now c.call.new.node
     (g.P.Peers.handed c.args.peers.now) (g.P.Peers.handed c.push_run.new.peers) c.requires.home
     c.new-waiting.ensures.items kept (sym c.in-Some.is ∙ c.in_ok-run.ensures.run) called.0 called.1
-    called.2 handed))
+    called.2 handed)
     c.push_run.ensures.ok c.push_run.ensures.ok
 
 pub returns-in-Some-clause-err : goal.returns-in-Some-clause-err
@@ -60,7 +51,7 @@ returns-in-Some-clause-err g c =
     on_err c.push_run.result
     (λ same.
     subst
-    (λ q. DoesPart c.args.self.home (told_first c.args.self.home c.args.message) (at x [] 16) y
+    (λ q. DoesPart c.args.self.home (told_first c.args.self.home c.args.message) (at x []) y
     (outside_of (speaking g.D.Desk.handles g.D.Desk.settles c.args.self.wire) c.args.node.now
     (g.P.Peers.handed c.args.peers.now))
     (outside_of (speaking g.D.Desk.handles g.D.Desk.settles c.args.self.wire) c.call.new.node
@@ -75,35 +66,39 @@ returns-in-Some-clause-err g c =
 
 pub returns-clause-ok : goal.returns-clause-ok
 returns-clause-ok g c =
+    let way = speaking g.D.Desk.handles g.D.Desk.settles c.args.self.wire in
+    let y = g.D.Desk.seen c.call.new.node in
     let called = c.in_ok-call.ensures.ok in
     let kept : c.deref.result.now ≡ c.call.new.waiting.items = search rules in
     let lined : c.from-waiting.result.items ≡ c.deref.result.now = search rules in
-    on_ok c.settle.result
-    (λ d empty.
-    tells_others (speaking g.D.Desk.handles g.D.Desk.settles c.args.self.wire) c.args.self.home
-    (g.D.Desk.home_of c.args.node.now)
-    c.args.message (g.D.Desk.seen c.args.node.now) (g.D.Desk.seen c.call.new.node)
-    (g.D.Desk.seen c.settle.new.node) c.new-waiting.result.items c.call.new.waiting.items
-    c.deref.result.now c.from-waiting.result.items c.settle.new.waiting.items c.args.left.now
-    c.settle.new.left c.in_ok-call.field-0 c.args.node.now c.call.new.node
-    (g.P.Peers.handed c.args.peers.now) _ c.requires.home c.requires.left
-    c.new-waiting.ensures.items kept lined empty
-    (sym (none_of _ c.in_default.not-Some) ∙ c.in_ok-run.ensures.run) called.0 called.1 called.2 d)
-    c.settle.ensures.ok c.settle.ensures.empty
+    on_ok c.push_all.result
+    (λ pushed empty.
+    tells_others way c.args.self.home (g.D.Desk.home_of c.args.node.now) c.args.message
+    (g.D.Desk.seen c.args.node.now) y y c.new-waiting.result.items c.call.new.waiting.items
+    c.deref.result.now c.from-waiting.result.items c.push_all.new.waiting.items
+    c.in_ok-call.field-0 c.args.node.now c.call.new.node (g.P.Peers.handed c.args.peers.now) _
+    c.requires.home c.new-waiting.ensures.items kept lined empty
+    (sym (none_of _ c.in_default.not-Some) ∙ c.in_ok-run.ensures.run) called.0 called.1 called.2
+    (pushes_all way c.args.self.home y c.from-waiting.result.items c.push_all.new.waiting.items
+    c.call.new.node (g.P.Peers.handed c.args.peers.now) (g.P.Peers.handed c.push_all.new.peers)
+    empty pushed))
+    c.push_all.ensures.pushed c.push_all.ensures.empty
 
 pub returns-clause-err : goal.returns-clause-err
 returns-clause-err g c =
+    let way = speaking g.D.Desk.handles g.D.Desk.settles c.args.self.wire in
+    let y = g.D.Desk.seen c.call.new.node in
     let called = c.in_ok-call.ensures.ok in
     let kept : c.deref.result.now ≡ c.call.new.waiting.items = search rules in
     let lined : c.from-waiting.result.items ≡ c.deref.result.now = search rules in
-    on_err c.settle.result
-    (λ d.
-    tells_part (speaking g.D.Desk.handles g.D.Desk.settles c.args.self.wire) c.args.self.home
-    (g.D.Desk.home_of c.args.node.now)
-    c.args.message (g.D.Desk.seen c.args.node.now) (g.D.Desk.seen c.call.new.node)
-    (g.D.Desk.seen c.settle.new.node) c.new-waiting.result.items c.call.new.waiting.items
-    c.deref.result.now c.from-waiting.result.items c.args.left.now c.in_ok-call.field-0
+    on_err c.push_all.result
+    (λ part.
+    tells_part way c.args.self.home (g.D.Desk.home_of c.args.node.now) c.args.message
+    (g.D.Desk.seen c.args.node.now) y y c.new-waiting.result.items c.call.new.waiting.items
+    c.deref.result.now c.from-waiting.result.items c.in_ok-call.field-0
     c.args.node.now c.call.new.node (g.P.Peers.handed c.args.peers.now) _ c.requires.home
-    c.requires.left c.new-waiting.ensures.items kept lined
-    (sym (none_of _ c.in_default.not-Some) ∙ c.in_ok-run.ensures.run) called.0 called.1 called.2 d)
-    c.settle.ensures.err
+    c.new-waiting.ensures.items kept lined
+    (sym (none_of _ c.in_default.not-Some) ∙ c.in_ok-run.ensures.run) called.0 called.1 called.2
+    (part_pushes way c.args.self.home y c.from-waiting.result.items c.call.new.node
+    (g.P.Peers.handed c.args.peers.now) (g.P.Peers.handed c.push_all.new.peers) part))
+    c.push_all.ensures.err

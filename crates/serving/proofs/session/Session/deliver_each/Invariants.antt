@@ -16,9 +16,9 @@ invariant-loop-entry g l = record {
   most : l.pos + length l.entries.items ≤ 65536;
   so_far : (wire : Version) (handed : Option (List Push))
       → ComesSo l.fn.self.home (learn l.fn.self.home l.from l.to l.fn.run.pos l.fn.run.entries)
-      (at (g.D.Desk.seen l.initial.node) l.initial.waiting.items 16)
+      (at (g.D.Desk.seen l.initial.node) l.initial.waiting.items)
       (learn l.fn.self.home l.from l.to l.pos l.entries.items)
-      (at (g.D.Desk.seen l.node) l.waiting.items 16)
+      (at (g.D.Desk.seen l.node) l.waiting.items)
       (outside_of (speaking g.D.Desk.handles g.D.Desk.settles wire) l.initial.node handed)
       (outside_of (speaking g.D.Desk.handles g.D.Desk.settles wire) l.node handed);
 }

@@ -54,10 +54,10 @@ returns-clause-ok g c =
     (g.D.Desk.home_of c.args.node.now) c.args.entry
     (g.D.Desk.seen c.args.node.now) (g.D.Desk.seen c.call.new.node) (g.D.Desk.seen c.start.new.node)
     c.new-waiting.result.items c.call.new.waiting.items c.start.new.waiting.items
-    c.in_ok-start.ensures.ok.0 c.in_ok-answer.answer c.answer_first-2.result
+    c.in_ok-answer.answer c.answer_first-2.result
     c.args.node.now c.call.new.node (g.P.Peers.handed c.args.peers.now) _
     c.requires.home c.new-waiting.ensures.items c.in_ok-start.ensures.empty taken
-    c.in_ok-answer.ensures.ok c.in_ok-start.ensures.ok.1
+    c.in_ok-answer.ensures.ok c.in_ok-start.ensures.ok
     (c.answer_first-2.ensures.what
     ∙ ap (λ z. answer_first (what.Taken z) c.in_ok-answer.answer (g.D.Desk.seen c.start.new.node))
     c.id-id.ensures.id)

@@ -9,7 +9,7 @@ use Rattle.serving.proofs.session.Session.hear.Goals as goal
 pub returns-clause-ok : goal.returns-clause-ok
 returns-clause-ok g c =
     let took = c.in_ok-take.ensures.ok in
-    hears c.args.self.home c.args.message _ _ took.0 _ took.1 took.2 _ _ took.3
+    hears c.args.self.home c.args.message _ _ _ took.0 took.1 _ _ took.2
 
 pub returns-in_err-take-clause-err : goal.returns-in_err-take-clause-err
 returns-in_err-take-clause-err g c =

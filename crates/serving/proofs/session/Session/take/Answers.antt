@@ -12,15 +12,13 @@ pub returns-in_err-start_if_grown-clause-err : goal.returns-in_err-start_if_grow
 returns-in_err-start_if_grown-clause-err g c =
     let first = c.in_ok-answer.ensures.ok in
     given_err c.from_residual-in_err-start_if_grown.result
-    (take_part c.args.self.home c.args.event _ _ _ _ _ _ first.0 first.1 _ _ _
+    (take_part c.args.self.home c.args.event _ _ _ _ _ first.0 first.1 _ _ _
     (c.len-before.ensures.len ∙ ap length c.log.ensures.entries) first.2
     c.in_err-start_if_grown.ensures.err)
 
 pub returns-clause-ok : goal.returns-clause-ok
 returns-clause-ok g c =
     let first = c.in_ok-answer.ensures.ok in
-    let both =
-    takes c.args.self.home c.args.event _ _ _ _ _ _ _ first.0 first.1 _ _ _
+    takes c.args.self.home c.args.event _ _ _ _ _ first.0 first.1 _ _ _
     (c.len-before.ensures.len ∙ ap length c.log.ensures.entries) first.2
-    c.in_ok-start_if_grown.ensures.ok in
-    (c.start_if_grown.new.left, both.0, both.1, both.2)
+    c.in_ok-start_if_grown.ensures.ok

@@ -18,7 +18,7 @@ returns-clause-ok g c =
     on_ok c.start_if_grown.result
     (λ d again.
     said c.args.self.home (told_first c.args.self.home c.args.message)
-    (Lagging c.args.message) _ _ _ _ _ _ _ _ _
+    (Lagging c.args.message) _ _ _ _ _ _ _
     (told_so c.args.self.home c.args.message _)
     (c.len-before.ensures.len ∙ ap length c.log.ensures.entries)
     c.in_ok-call_and_answer.ensures.ok d)
@@ -29,7 +29,7 @@ returns-clause-err g c =
     on_err c.start_if_grown.result
     (λ d.
     said_part c.args.self.home (told_first c.args.self.home c.args.message)
-    (Lagging c.args.message) _ _ _ _ _ _ _ _
+    (Lagging c.args.message) _ _ _ _ _ _ _
     (told_so c.args.self.home c.args.message _)
     (c.len-before.ensures.len ∙ ap length c.log.ensures.entries)
     c.in_ok-call_and_answer.ensures.ok d)

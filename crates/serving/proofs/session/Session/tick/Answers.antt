@@ -9,7 +9,7 @@ use Rattle.serving.proofs.session.Session.tick.Goals as goal
 pub returns-clause-ok : goal.returns-clause-ok
 returns-clause-ok g c =
     let took = c.in_ok-answer.ensures.ok in
-    ticks c.args.self.home _ _ took.0 _ took.1 took.2 _ _ _ took.3 c.answer_first.ensures.what
+    ticks c.args.self.home _ _ _ took.0 took.1 _ _ _ took.2 c.answer_first.ensures.what
 
 pub returns-in_err-answer-clause-err : goal.returns-in_err-answer-clause-err
 returns-in_err-answer-clause-err g c =

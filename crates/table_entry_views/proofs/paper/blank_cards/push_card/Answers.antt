@@ -2,8 +2,9 @@ use Rattle.std.proofs.Common.{◌++◌, ◌∙◌, ap, codes, flat_map}
 use Rattle.markup.proofs.board_page.Steps.{six_parts, three_parts}
 use Rattle.round_counts.specs.Counts.{numbers_in}
 use Rattle.round_words.specs.Words.{round_words, settings_words}
-use Rattle.table_entry_views.specs.paper.Scorecards.{attempt_row, blank_card, card_start, card_table}
+use Rattle.table_entry_views.specs.paper.Scorecards.{attempt_row, blank_card, card_start}
 use Rattle.table_entry_views.specs.paper.Scorecards.{person}
+use Rattle.table_entry_views.specs.declared.paper.blank_cards.TheConstants.{CARD_TABLE}
 use Rattle.table_entry_views.proofs.paper.blank_cards.push_card.Goals as goal
 
 pub returns : goal.returns
@@ -15,9 +16,9 @@ returns c =
     let who = person c.args.number c.args.name.now in
     let rows = flat_map attempt_row (numbers_in c.args.settings.format) in
     let end = codes "</tbody></table>\n<p class=\"rules\">" in
-    three_parts out (start ++ words ++ who ++ card_table ++ rows ++ end)
+    three_parts out (start ++ words ++ who ++ CARD_TABLE.now ++ rows ++ end)
     (settings_words c.args.id.event c.args.settings) (codes "</p></section>\n") _ _ _
-    (six_parts out start words who card_table rows end _ _ _ _ _ _
+    (six_parts out start words who CARD_TABLE.now rows end _ _ _ _ _ _
     c.in_ok-push_card_start.ensures c.in_ok-push_round_words.ensures c.in_ok-push_person.ensures
     c.in_ok-extend_from_slice.ensures.items
     (c.in_ok-push_attempts.ensures

@@ -1,2 +1,0 @@
--- Models of the code. No public contract cites them.
-pub mod KeptMeets
